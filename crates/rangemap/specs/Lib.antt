@@ -1,0 +1,6 @@
+pub use Rattle.rangemap_core.specs.Ranges
+pub use Rattle.rangemap_core.specs.Clones
+pub use Rattle.rangemap_core.specs.Histories
+pub use Rattle.rangemap_core.specs.Incoming
+pub mod Parted
+pub mod Rows

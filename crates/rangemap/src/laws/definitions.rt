@@ -1,0 +1,45 @@
+//! What the definitions say of small lists, so that a reader can compare them with what is meant.
+ghost use Rattle.std.specs.Prelude.{◌≡◌, ◌∷◌, [], Some as SomeWord, None as NoneWord, nat_eq};
+ghost use Rattle.std.specs.Ordering.{nat_cmp};
+ghost use Rattle.rangemap.specs.Ranges.{AreGaps, IsCanonOf, IsCanonical, covering, erase, half_open, overlapped, override, value_at};
+ghost use Rattle.rangemap.specs.Rows.{one_pair, range, three_pairs};
+
+/// Which lists are canonical: `three_pairs` is (0..3, 1), (3..6, 2), (6..10, 1). A list is none whose ranges touch with equal
+/// values, overlap, stand in another order or are empty.
+pub fn canonical_rows()
+    ensures apart { IsCanonical (half_open nat_cmp) nat_eq three_pairs }
+    ensures touching { ¬ (IsCanonical (half_open nat_cmp) nat_eq ((range 0 5, 1) ∷ (range 5 7, 1) ∷ [])) }
+    ensures overlapping { ¬ (IsCanonical (half_open nat_cmp) nat_eq ((range 0 5, 1) ∷ (range 4 7, 2) ∷ [])) }
+    ensures unordered { ¬ (IsCanonical (half_open nat_cmp) nat_eq ((range 5 7, 1) ∷ (range 0 5, 2) ∷ [])) }
+    ensures empty { ¬ (IsCanonical (half_open nat_cmp) nat_eq ((range 5 5, 1) ∷ [])) }
+    ensures reversed { ¬ (IsCanonical (half_open nat_cmp) nat_eq ((range 7 5, 1) ∷ [])) }
+{}
+
+/// Which ranges touch, which keys a range has, which pair covers a key, and which pairs a query meets: an empty query within
+/// a stored range meets it, and one at its end does not.
+pub fn range_rows()
+    ensures touch { (half_open nat_cmp).Touches (range 0 3) (range 3 6) }
+    ensures gap { ¬ ((half_open nat_cmp).Touches (range 0 3) (range 4 6)) }
+    ensures first_point { covering (half_open nat_cmp) three_pairs 3 ≡ SomeWord (range 3 6, 2) }
+    ensures last_point { covering (half_open nat_cmp) three_pairs 9 ≡ SomeWord (range 6 10, 1) }
+    ensures end { covering (half_open nat_cmp) three_pairs 10 ≡ NoneWord }
+    ensures met { overlapped (half_open nat_cmp) three_pairs (range 1 6) ≡ (range 0 3, 1) ∷ (range 3 6, 2) ∷ [] }
+    ensures met_by_empty { overlapped (half_open nat_cmp) one_pair (range 5 5) ≡ one_pair }
+    ensures met_by_reversed { overlapped (half_open nat_cmp) one_pair (range 7 3) ≡ one_pair }
+    ensures beside { overlapped (half_open nat_cmp) one_pair (range 10 12) ≡ [] }
+{}
+
+/// What overriding and erasing make of (0..10, 1), and the lists of these functions.
+pub fn function_rows()
+    ensures overridden { IsCanonOf (half_open nat_cmp) nat_eq (override (half_open nat_cmp) (value_at (half_open nat_cmp) one_pair) (range 3 6) 2) three_pairs }
+    ensures overridden_back { IsCanonOf (half_open nat_cmp) nat_eq (override (half_open nat_cmp) (value_at (half_open nat_cmp) three_pairs) (range 3 6) 1) one_pair }
+    ensures erased { IsCanonOf (half_open nat_cmp) nat_eq (erase (half_open nat_cmp) (value_at (half_open nat_cmp) one_pair) (range 3 6)) ((range 0 3, 1) ∷ (range 6 10, 1) ∷ []) }
+    ensures not_changed { ¬ (IsCanonOf (half_open nat_cmp) nat_eq (override (half_open nat_cmp) (value_at (half_open nat_cmp) one_pair) (range 3 6) 2) one_pair) }
+{}
+
+/// The gaps in 0..8 beside 1..3 and 5..7, and that there are none in a reversed range.
+pub fn gap_rows()
+    ensures gaps { AreGaps (half_open nat_cmp) (range 1 3 ∷ range 5 7 ∷ []) (range 0 8) (range 0 1 ∷ range 3 5 ∷ range 7 8 ∷ []) }
+    ensures touching { AreGaps (half_open nat_cmp) (range 0 2 ∷ range 2 4 ∷ []) (range 0 4) [] }
+    ensures reversed { AreGaps (half_open nat_cmp) (range 1 3 ∷ range 5 7 ∷ []) (range 8 0) [] }
+{}

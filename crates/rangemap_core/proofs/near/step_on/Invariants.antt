@@ -1,0 +1,12 @@
+use Rattle.std.proofs.Common.{◌≡◌, ◌-◌, ◌≤◌, length, true}
+use Rattle.std.specs.List.{AllWithin}
+use Rattle.rangemap_core.proofs.near.step_on.Given as goal
+
+abbrev pub invariant-on : goal.invariant-on
+invariant-on g l = record {
+  bound : l.at ≤ length l.list;
+  passed : AllWithin (λ x. g.T.Test.passes l.test x ≡ true) l.list 0 l.at;
+}
+
+abbrev pub decreases-on : goal.decreases-on
+decreases-on g l = length l.list - l.at

@@ -1,0 +1,14 @@
+pub mod Ranges
+pub mod Steps
+pub mod Clones
+pub mod Incoming
+pub mod Orders
+pub mod Places
+pub mod PlacedKinds
+pub mod Shape
+pub mod Stretch
+pub mod Comparisons
+pub mod Histories
+pub mod Items
+pub mod Edges
+pub mod EdgeKinds

@@ -1,0 +1,267 @@
+//! Giving the keys of a range a value.
+ghost use Rattle.std.specs.Prelude.{◌≡◌, ◌+◌, ◌-◌, ◌<◌, ◌≤◌, length, true, false, Some as SomeWord, IfOk, OnOk, OnErr};
+ghost use Rattle.rangemap_core.specs.Clones.{KeysCloneFaithfully, ValuesCloneFaithfully};
+ghost use Rattle.rangemap_core.specs.Places.{Spans};
+ghost use Rattle.rangemap_core.specs.Ranges.{IsCanonOf, IsCanonical, IsStorable, override, value_at};
+ghost use Rattle.rangemap_core.specs.Shape.{shape_of};
+ghost use Rattle.rangemap_core.specs.Stretch.{are_apart, taken_or_new, IsStretch, IsLeftSide, IsRightSide, IsPiece, IsTaken};
+
+use super::Entries;
+use crate::kind::{Edge, Kind};
+use crate::near::{Test, partition_point_near};
+use crate::search::starts_up_to;
+use crate::stretch::replace_stretch;
+use std::alloc::{AllocError, Allocator};
+use std::cmp::Ordering;
+use std::marker::PhantomData;
+
+// A piece that an insert leaves of a stored pair, or whether it takes the stored pair into the new one.
+#[derive(Drop)]
+struct Side<R, V> {
+    piece: Option<(R, V)>,
+    is_taken: bool,
+}
+
+impl<Q: Kind<K, R>, K: Ord + Clone, R: Drop, V: Eq + Clone, A: Allocator> Entries<Q, K, R, V, A> {
+    /// Gives the keys of the range the value.
+    ///
+    /// Stored ranges that overlap the new one and have an equal value, or touch it and have one, are joined with it; others
+    /// that overlap it are cut down to what lies outside. `Err` says that a clone or the growth of the list was refused: each is
+    /// made before the first change, so nothing changed then.
+    ///
+    /// Of n pairs it takes two searches, as `covering` makes one, a few looks beside what they find, and at most one move of
+    /// the pairs behind the place. An insert behind all others, which adds one pair, moves none.
+    pub fn insert(&mut self, range: R, value: V) -> Result<(), AllocError>
+        requires canonical { IsCanonical Q.kind V.eq self.old }
+        requires range { IsStorable Q.kind range }
+        requires faithful_keys { KeysCloneFaithfully K.is_clone K.cmp }
+        requires faithful_values { ValuesCloneFaithfully V.is_clone V.eq }
+        ensures ok { OnOk result (IsCanonOf Q.kind V.eq (override Q.kind (value_at Q.kind self.old) range value) self.new) }
+        ensures err { OnErr result (self.new ≡ self.old) }
+        ensures growth { OnOk result (length self.new ≤ length self.old + 2) }
+        ensures growth_where_all_are_equal { OnOk result (((v w : V) → V.eq v w ≡ true) → length self.new ≤ length self.old + 1) }
+    {
+        let (start, end) = self.stretch(&range, &value);
+        let left = self.left_side(start, end, &range, &value)?;
+        let right = self.right_side(start, end, &range, &value)?;
+        let middle = self.middle(start, end, left.is_taken, right.is_taken, range, &value)?;
+        replace_stretch(
+            &mut self.pairs,
+            start,
+            end,
+            left.piece,
+            Some((middle, value)),
+            right.piece,
+        )
+    }
+
+    // The places of the pairs that overlap the new one or are to be joined with it. Each is found by a search among the
+    // starts, and a step or two from there. Of the pairs that start no later than the new one, only the last can reach past its
+    // start, and only the one before that can touch it there. Of those that start no later than its end, only the last can
+    // start at its end, and only the next one can touch it from behind.
+    fn stretch(&self, range: &R, value: &V) -> (usize, usize)
+        requires canonical { IsCanonical Q.kind V.eq self.now }
+        requires range { IsStorable Q.kind range.now }
+        ensures { IsStretch (shape_of Q.kind Q.high V.eq) self.now (range.now, value.now) result.0 result.1 }
+    {
+        let pairs = self.pairs.as_slice();
+        let before: IsBefore<'_, Q, K, R, V> = IsBefore {
+            range,
+            value,
+            kind: PhantomData,
+        };
+        let (near_start, _) = starts_up_to::<Q, K, R, V>(pairs, Q::start(range));
+        let start = partition_point_near(pairs, &before, near_start);
+        let reach: IsReached<'_, Q, K, R, V> = IsReached {
+            range,
+            value,
+            kind: PhantomData,
+        };
+        let (near_end, _) = starts_up_to::<Q, K, R, V>(pairs, Q::end(range));
+        let end = partition_point_near(pairs, &reach, near_end);
+        (start, end)
+    }
+
+    fn left_side(
+        &self,
+        start: usize,
+        end: usize,
+        range: &R,
+        value: &V,
+    ) -> Result<Side<R, V>, AllocError>
+        requires canonical { IsCanonical Q.kind V.eq self.now }
+        requires range { IsStorable Q.kind range.now }
+        requires stretch { IsStretch (shape_of Q.kind Q.high V.eq) self.now (range.now, value.now) start end }
+        requires faithful_keys { KeysCloneFaithfully K.is_clone K.cmp }
+        requires faithful_values { ValuesCloneFaithfully V.is_clone V.eq }
+        ensures side { IfOk result (λ side. IsLeftSide (shape_of Q.kind Q.high V.eq) self.now (range.now, value.now) start end side.piece side.is_taken) }
+        ensures piece { IfOk result (λ side. IsPiece Q.kind V.eq start end side.piece) }
+    {
+        let pairs = &self.pairs;
+        if start == end {
+            return Ok(Side {
+                piece: None,
+                is_taken: false,
+            });
+        }
+        let first = &pairs[start];
+        match Q::compare_keys(Q::start(&first.0), Q::start(range)) {
+            Ordering::Less => {
+                if first.1 == *value {
+                    return Ok(Side {
+                        piece: None,
+                        is_taken: true,
+                    });
+                }
+                let part = Q::part(Edge::Start(&first.0), Edge::Start(range))?;
+                Ok(Side {
+                    piece: Some((part, first.1.clone()?)),
+                    is_taken: false,
+                })
+            }
+            _ => Ok(Side {
+                piece: None,
+                is_taken: false,
+            }),
+        }
+    }
+
+    fn right_side(
+        &self,
+        start: usize,
+        end: usize,
+        range: &R,
+        value: &V,
+    ) -> Result<Side<R, V>, AllocError>
+        requires canonical { IsCanonical Q.kind V.eq self.now }
+        requires range { IsStorable Q.kind range.now }
+        requires stretch { IsStretch (shape_of Q.kind Q.high V.eq) self.now (range.now, value.now) start end }
+        requires faithful_keys { KeysCloneFaithfully K.is_clone K.cmp }
+        requires faithful_values { ValuesCloneFaithfully V.is_clone V.eq }
+        ensures side { IfOk result (λ side. IsRightSide (shape_of Q.kind Q.high V.eq) self.now (range.now, value.now) start end side.piece side.is_taken) }
+        ensures piece { IfOk result (λ side. IsPiece Q.kind V.eq start end side.piece) }
+    {
+        let pairs = &self.pairs;
+        if start == end {
+            return Ok(Side {
+                piece: None,
+                is_taken: false,
+            });
+        }
+        let last = &pairs[end - 1];
+        match Q::compare_keys(Q::end(range), Q::end(&last.0)) {
+            Ordering::Less => {
+                if last.1 == *value {
+                    return Ok(Side {
+                        piece: None,
+                        is_taken: true,
+                    });
+                }
+                let part = Q::part(Edge::End(range), Edge::End(&last.0))?;
+                Ok(Side {
+                    piece: Some((part, last.1.clone()?)),
+                    is_taken: false,
+                })
+            }
+            _ => Ok(Side {
+                piece: None,
+                is_taken: false,
+            }),
+        }
+    }
+
+    // The new range, from the start of the first pair of the stretch or up to the end of the last where these are taken into it.
+    fn middle(
+        &self,
+        start: usize,
+        end: usize,
+        takes_first: bool,
+        takes_last: bool,
+        range: R,
+        value: &V,
+    ) -> Result<R, AllocError>
+        requires canonical { IsCanonical Q.kind V.eq self.now }
+        requires range { IsStorable Q.kind range }
+        requires taken { IsTaken (shape_of Q.kind Q.high V.eq) self.now (range, value.now) start end takes_first takes_last }
+        requires faithful_keys { KeysCloneFaithfully K.is_clone K.cmp }
+        ensures { IfOk result (Spans Q.kind Q.high (SomeWord (Q.kind.start (taken_or_new self.now start takes_first (range, value.now)))) (Q.high (taken_or_new self.now (end - 1) takes_last (range, value.now)))) }
+    {
+        if !takes_first && !takes_last {
+            return Ok(range);
+        }
+        let first = if takes_first {
+            &self.pairs[start].0
+        } else {
+            &range
+        };
+        let last = if takes_last {
+            &self.pairs[end - 1].0
+        } else {
+            &range
+        };
+        Q::part(Edge::Start(first), Edge::End(last))
+    }
+}
+
+// The first pair lies wholly before the second, and they are not to be joined into one.
+fn is_apart<Q: Kind<K, R>, K: Ord + Clone, R, V: Eq>(
+    first: &R,
+    first_value: &V,
+    second: &R,
+    second_value: &V,
+) -> bool
+    requires first { IsStorable Q.kind first.now }
+    requires second { IsStorable Q.kind second.now }
+    ensures { result ≡ are_apart (shape_of Q.kind Q.high V.eq) (first.now, first_value.now) (second.now, second_value.now) }
+{
+    match Q::compare_end_to_start(first, second) {
+        Ordering::Less => true,
+        Ordering::Equal => *first_value != *second_value,
+        Ordering::Greater => false,
+    }
+}
+
+// The pair lies wholly before the new one, and is not to be joined with it.
+#[derive(Drop)]
+struct IsBefore<'a, Q, K, R, V> {
+    range: &'a R,
+    value: &'a V,
+    kind: PhantomData<(Q, K)>,
+}
+
+impl<'a, Q: Kind<K, R>, K: Ord + Clone, R, V: Eq> Test<(R, V)> for IsBefore<'a, Q, K, R, V> {
+    ghost use Rattle.rangemap_core.specs.Ranges.{IsStorable};
+    ghost use Rattle.rangemap_core.specs.Shape.{shape_of};
+    ghost use Rattle.rangemap_core.specs.Stretch.{are_apart};
+
+    ghost passes = { λ t pair. are_apart (shape_of Q.kind Q.high V.eq) pair (t.range.now, t.value.now) };
+
+    ghost applies = { λ t pair. IsStorable Q.kind t.range.now × IsStorable Q.kind pair.0 };
+
+    fn test(&self, pair: &(R, V)) -> bool {
+        is_apart::<Q, K, R, V>(&pair.0, &pair.1, self.range, self.value)
+    }
+}
+
+// The pair does not lie wholly after the new one, or is to be joined with it.
+#[derive(Drop)]
+struct IsReached<'a, Q, K, R, V> {
+    range: &'a R,
+    value: &'a V,
+    kind: PhantomData<(Q, K)>,
+}
+
+impl<'a, Q: Kind<K, R>, K: Ord + Clone, R, V: Eq> Test<(R, V)> for IsReached<'a, Q, K, R, V> {
+    ghost use Rattle.std.specs.Prelude.{not};
+    ghost use Rattle.rangemap_core.specs.Ranges.{IsStorable};
+    ghost use Rattle.rangemap_core.specs.Shape.{shape_of};
+    ghost use Rattle.rangemap_core.specs.Stretch.{are_apart};
+
+    ghost passes = { λ t pair. not (are_apart (shape_of Q.kind Q.high V.eq) (t.range.now, t.value.now) pair) };
+
+    ghost applies = { λ t pair. IsStorable Q.kind t.range.now × IsStorable Q.kind pair.0 };
+
+    fn test(&self, pair: &(R, V)) -> bool {
+        !is_apart::<Q, K, R, V>(self.range, self.value, &pair.0, &pair.1)
+    }
+}

@@ -1,0 +1,117 @@
+//! The parts of a range that no stored range covers.
+ghost use Rattle.std.specs.Prelude.{◌≡◌, ◌≢◌, [], IfOk, IfSome, None as NoneWord, OnErr, length, map};
+ghost use Rattle.std.specs.Iterator.{UpTo, at_most};
+ghost use Rattle.std.specs.Iterator.SizeHint.{IsWithinCount};
+ghost use Rattle.rangemap_core.specs.Clones.{KeysCloneFaithfully};
+ghost use Rattle.rangemap_core.specs.Items.{GivesRange, TakesRange};
+ghost use Rattle.rangemap_core.specs.Ranges.{AreGaps, IsCanonical};
+
+use crate::kind::{Edge, Kind};
+use crate::overlapping::overlapping_part;
+use std::alloc::AllocError;
+use std::iter::Iterator;
+use std::marker::{Model, PhantomData};
+
+/// The gaps that stored ranges leave in a range, in order.
+#[derive(Drop)]
+pub struct Gaps<'a, Q: Kind<K, R>, K: Ord + Clone, R, V> {
+    // Where the next gap may start: the start of the outer range, or the end of a stored one.
+    from: Edge<'a, R>,
+    // The pairs behind it that overlap the outer range.
+    pairs: &'a [(R, V)],
+    outer_range: &'a R,
+    is_done: bool,
+    kind: PhantomData<(Q, K)>,
+}
+
+impl<'a, Q: Kind<K, R>, K: Ord + Clone, R, V> Model for Gaps<'a, Q, K, R, V> {
+    ghost use Rattle.std.specs.Prelude.{List, [], if◌then◌else◌};
+    ghost use Rattle.rangemap_core.specs.Edges.{edge_of, gaps_from};
+
+    ghost Value = { List R };
+
+    ghost view = { λ s. if s.is_done then [] else gaps_from Q.kind Q.high Q.part_of (edge_of s.from) s.outer_range.now s.pairs.now };
+}
+
+impl<'a, Q: Kind<K, R>, K: Ord + Clone, R, V> Gaps<'a, Q, K, R, V> {
+    /// The gaps that a canonical list leaves in the range, which may be empty or reversed.
+    pub fn new(pairs: &'a [(R, V)], outer_range: &'a R) -> Self
+    where
+        V: Eq,
+        requires { IsCanonical Q.kind V.eq pairs.now }
+        ensures { AreGaps Q.kind (map (λ pair. pair.0) pairs.now) outer_range.now result }
+    {
+        Q::known(Q::start(outer_range));
+        Q::known(Q::end(outer_range));
+        Gaps {
+            from: Edge::Start(outer_range),
+            pairs: overlapping_part::<Q, K, R, V>(pairs, outer_range),
+            outer_range,
+            is_done: false,
+            kind: PhantomData,
+        }
+    }
+
+    /// The next gap, made of clones. Where a clone is refused, nothing changes.
+    pub fn try_next(&mut self) -> Result<Option<R>, AllocError>
+        requires { KeysCloneFaithfully K.is_clone K.cmp }
+        ensures ok { IfOk result (λ item. TakesRange Q.kind self.old item self.new) }
+        ensures err { OnErr result (self.new ≡ self.old) }
+        ensures refused { OnErr result (self.old ≢ []) }
+    {
+        if self.is_done {
+            return Ok(None);
+        }
+        let mut from = self.from;
+        let mut pairs = self.pairs;
+        while let Some((pair, rest)) = pairs.split_first() {
+            let to = Edge::Start(&pair.0);
+            let behind = Edge::End(&pair.0);
+            if Q::has_part(from, to) {
+                let gap = Q::part(from, to)?;
+                self.from = behind;
+                self.pairs = rest;
+                return Ok(Some(gap));
+            }
+            from = behind;
+            pairs = rest;
+        }
+        let to = Edge::End(self.outer_range);
+        let gap = if Q::has_part(from, to) {
+            Some(Q::part(from, to)?)
+        } else {
+            None
+        };
+        self.is_done = true;
+        Ok(gap)
+    }
+}
+
+impl<'a, Q: Kind<K, R>, K: Ord + Clone, R, V> Iterator for Gaps<'a, Q, K, R, V> {
+    type Item = Result<R, AllocError>;
+
+    ghost can_next = { λ _. KeysCloneFaithfully K.is_clone K.cmp };
+
+    ghost next_gives = { GivesRange Q.kind };
+
+    ghost remaining = { λ s. at_most (length s) };
+
+    fn next(&mut self) -> Option<Result<R, AllocError>> {
+        match self.try_next() {
+            Ok(None) => None,
+            Ok(Some(gap)) => Some(Ok(gap)),
+            Err(error) => {
+                self.is_done = true;
+                Some(Err(error))
+            }
+        }
+    }
+
+    fn size_hint(&self) -> (usize, Option<usize>)
+        ensures lower { IsWithinCount result.0 (at_most (length self.now)) }
+        ensures upper { IfSome result.1 (UpTo (at_most (length self.now))) }
+        ensures exact { result ≡ (0, NoneWord) }
+    {
+        (0, None)
+    }
+}

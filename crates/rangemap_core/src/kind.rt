@@ -1,0 +1,80 @@
+//! The kinds of range that a map may store.
+ghost use Rattle.std.specs.Prelude.{◌≡◌, true, Option as OptionOf, Some as SomeWord, IfOk};
+ghost use Rattle.rangemap_core.specs.Clones.{KeysCloneFaithfully};
+ghost use Rattle.rangemap_core.specs.Edges.{AnswersByEdges, EdgeOf, edge_of, has_part};
+ghost use Rattle.rangemap_core.specs.Items.{IsSame};
+ghost use Rattle.rangemap_core.specs.Places.{place_cmp, IsPlaced};
+ghost use Rattle.rangemap_core.specs.Ranges.{RangeKind, IsStorable};
+
+use std::alloc::AllocError;
+use std::cmp::Ordering;
+
+/// An edge of a range.
+#[derive(Drop)]
+pub enum Edge<'a, R> {
+    /// Where the range starts.
+    Start(&'a R),
+    /// Where it ends.
+    End(&'a R),
+}
+
+impl<'a, R> Clone for Edge<'a, R> {
+    ghost is_clone = { λ edge copy. copy ≡ edge };
+
+    fn clone(&self) -> Result<Self, AllocError> {
+        Ok(*self)
+    }
+}
+
+impl<'a, R> Copy for Edge<'a, R> {}
+
+/// A kind of range `R` over keys of type `K`.
+pub trait Kind<K: Ord + Clone, R> {
+    /// What contracts know of the kind.
+    ghost kind: { RangeKind K R };
+
+    /// The place up to which a range goes: before a key, or after every key.
+    ghost high: { R → OptionOf K };
+
+    /// The range from one edge up to another.
+    ghost part_of: { EdgeOf R → EdgeOf R → R };
+
+    /// Does nothing, and tells that a value at hand is a key.
+    fn known(key: &K)
+        ensures { kind.is_key key.now };
+
+    fn start(range: &R) -> &K
+        ensures { result.now ≡ kind.start range.now };
+
+    fn end(range: &R) -> &K
+        ensures { result.now ≡ kind.end range.now };
+
+    fn compare_keys(left: &K, right: &K) -> Ordering
+        ensures { result ≡ kind.cmp left.now right.now };
+
+    /// Whether the key is a point of the range.
+    fn holds(range: &R, key: &K) -> bool
+        ensures { result ≡ kind.holds range.now key.now };
+
+    /// How the place where the first range ends lies to that where the second starts: equal where the two touch.
+    fn compare_end_to_start(first: &R, second: &R) -> Ordering
+        requires first { IsStorable kind first.now }
+        requires second { IsStorable kind second.now }
+        ensures { result ≡ place_cmp kind.cmp (high first.now) (SomeWord (kind.start second.now)) };
+
+    /// Whether the part from the first edge up to the second has a key.
+    fn has_part(from: Edge<'_, R>, to: Edge<'_, R>) -> bool
+        ensures { result ≡ has_part kind high (edge_of from.entry) (edge_of to.entry) };
+
+    /// That part, where it has a key.
+    fn part(from: Edge<'_, R>, to: Edge<'_, R>) -> Result<R, AllocError>
+        requires has_part { has_part kind high (edge_of from) (edge_of to) ≡ true }
+        requires faithful_keys { KeysCloneFaithfully K.is_clone K.cmp }
+        ensures { IfOk result (IsSame kind (part_of (edge_of from.entry) (edge_of to.entry))) };
+
+    /// Ranges of the kind lie between places in a total order.
+    ghost placed: { IsPlaced kind high };
+
+    /// They answer by the places of their edges, the empty and the reversed ones too.
+    ghost answers: { AnswersByEdges kind high part_of };
+}

@@ -1,0 +1,88 @@
+//! The search for a key among stored starts, by halving.
+ghost use Rattle.std.specs.Prelude.{◌≡◌, ◌+◌, ◌*◌, ◌^◌, ◌<◌, ◌≤◌, true, false, length, if◌then◌else◌};
+ghost use Rattle.std.specs.List.Sorted.{IsPartitionPoint, IsPartitionedBy};
+ghost use Rattle.rangemap_core.specs.Ranges.{IsCanonical};
+ghost use Rattle.rangemap_core.specs.Shape.{is_up_to, starts_by_key};
+
+use crate::kind::Kind;
+use crate::probe::Probe;
+use std::cmp::Ordering;
+
+/// How many of the pairs start no later than the key, and how many starts were asked for to tell. The last of these
+/// pairs, if there is one, stands one place before the count, and no other pair can have the key.
+///
+/// The pairs are a canonical list. Of n pairs none is asked for where n is 0, and else 1 more than the number of times that n
+/// can be halved.
+pub fn starts_up_to<'a, Q: Kind<K, R>, K: Ord + Clone + 'a, R: 'a, V: Eq + 'a>(
+    pairs: &'a [(R, V)],
+    key: &K,
+) -> (usize, usize)
+    requires { IsCanonical Q.kind V.eq pairs.now }
+    ensures bound { result.0 ≤ length pairs.now }
+    ensures point { IsPartitionPoint (λ pair. starts_by_key Q.kind key.now pair ≡ true) (λ pair. starts_by_key Q.kind key.now pair ≡ false) pairs.now result.0 }
+    ensures none_asked { length pairs.now ≡ 0 → result.1 ≡ 0 }
+    ensures asked { 0 < length pairs.now → 1 ≤ result.1 }
+    ensures few_asked { 0 < length pairs.now → 2 ^ result.1 ≤ 2 * length pairs.now }
+{
+    let mut probe: Probe<'a, Q, K, R, V> = Probe::new(pairs);
+    let count = count_up_to(&mut probe, key);
+    (count, probe.asked())
+}
+
+/// How many starts are not after the key. The probe is fresh, and counts what is asked.
+///
+/// The count is made of powers of two, from the greatest that is no more than the number of starts down to 1: each is added
+/// where the start before the sum is not after the key. That takes one ask for each power.
+pub fn count_up_to<'a, Q: Kind<K, R>, K: Ord + Clone + 'a, R, V>(
+    probe: &mut Probe<'a, Q, K, R, V>,
+    key: &K,
+) -> usize
+    requires rising { IsPartitionedBy (is_up_to Q.kind.cmp key.now) probe.old.0 }
+    requires fresh { probe.old.1 ≡ 0 }
+    ensures starts { probe.new.0 ≡ probe.old.0 }
+    ensures bound { result ≤ length probe.old.0 }
+    ensures point { IsPartitionPoint (λ start. is_up_to Q.kind.cmp key.now start ≡ true) (λ start. is_up_to Q.kind.cmp key.now start ≡ false) probe.old.0 result }
+    ensures none_asked { length probe.old.0 ≡ 0 → probe.new.1 ≡ 0 }
+    ensures asked { 0 < length probe.old.0 → 1 ≤ probe.new.1 }
+    ensures few_asked { 0 < length probe.old.0 → 2 ^ probe.new.1 ≤ 2 * length probe.old.0 }
+{
+    let len = probe.len();
+    if len == 0 {
+        return 0;
+    }
+    let places = len.ilog2();
+    let whole = 1usize << places;
+    let mut base = 0;
+    if is_up_to::<Q, K, R>(probe.start(len - whole), key) {
+        base = len - whole + 1;
+    }
+    let mut left = places;
+    let mut half = whole;
+    'halves: while 0 < left {
+        left -= 1;
+        half /= 2;
+        let middle = probe.start(base + half - 1);
+        base += bit(is_up_to::<Q, K, R>(middle, key), left);
+    }
+    base
+}
+
+// The start is not after the key.
+#[inline(always)]
+fn is_up_to<Q: Kind<K, R>, K: Ord + Clone, R>(start: &K, key: &K) -> bool
+    ensures { result ≡ is_up_to Q.kind.cmp key.now start.now }
+{
+    match Q::compare_keys(key, start) {
+        Ordering::Less => false,
+        _ => true,
+    }
+}
+
+// The power of two at a place, or 0. A shift compiles to no branch, and a branch here would be guessed wrong every other time.
+#[inline(always)]
+fn bit(is_set: bool, place: u32) -> usize
+    requires { place < 64 }
+    ensures { result ≡ (if is_set then 2 ^ place else 0) }
+{
+    usize::from(is_set) << place
+}

@@ -1,0 +1,2 @@
+-- Lemmas of the program's proofs.
+pub mod Ascii

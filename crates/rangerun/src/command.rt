@@ -1,0 +1,116 @@
+//! The commands, and how a line is read as one.
+ghost use Rattle.std.specs.Prelude.{◌≡◌, ◌≢◌, ◌↔◌, ◌≤◌, IsOk, IfOk, IfErr, IsErrOf};
+ghost use Rattle.rangerun.specs.Words.{AreEnds, IsNumber, IsValue, number_of};
+
+use crate::fault::Cause;
+use crate::span::Span;
+use crate::words;
+
+/// What a line asks for.
+#[derive(Clone, Copy, Debug, PartialEq, Eq)]
+pub enum Command<'a> {
+    /// Give the keys of a range a value.
+    Insert(Span, &'a str),
+    /// Take the keys of a range out.
+    Remove(Span),
+    /// Take every key out.
+    Clear,
+    /// Print the item that has a key.
+    Get(u32),
+    /// Print the first item.
+    First,
+    /// Print the last item.
+    Last,
+    /// Print all items.
+    Iter,
+    /// Print the number of items.
+    Len,
+    /// Print the items that a range overlaps.
+    Overlapping(u32, u32),
+    /// Print whether there are any.
+    Overlaps(u32, u32),
+    /// Print the parts of a range that no item has.
+    Gaps(u32, u32),
+}
+
+impl<'a> Command<'a> {
+    /// Reads a line, given without its newline, as a command.
+    ///
+    /// Words are divided by one space each, so an empty word is a word too. Of several faults in a line the one whose
+    /// cause has the least number is told.
+    pub fn parse(line: &'a [u8]) -> Result<Command<'a>, Cause> {
+        let mut words = line.split(|byte| *byte == b' ');
+        // No command has more than four words.
+        let words = [
+            words.next(),
+            words.next(),
+            words.next(),
+            words.next(),
+            words.next(),
+        ];
+        match words {
+            [Some(b"insert"), Some(start), Some(end), Some(value), None] => {
+                let (span, value) = parse_pair(start, end, value)?;
+                Ok(Command::Insert(span, value))
+            }
+            [Some(b"remove"), Some(start), Some(end), None, _] => {
+                Ok(Command::Remove(parse_span(start, end)?))
+            }
+            [Some(b"get"), Some(key), None, _, _] => Ok(Command::Get(words::number(key)?)),
+            [Some(b"clear"), None, _, _, _] => Ok(Command::Clear),
+            [Some(b"first"), None, _, _, _] => Ok(Command::First),
+            [Some(b"last"), None, _, _, _] => Ok(Command::Last),
+            [Some(b"iter"), None, _, _, _] => Ok(Command::Iter),
+            [Some(b"len"), None, _, _, _] => Ok(Command::Len),
+            [Some(b"overlapping"), Some(start), Some(end), None, _] => {
+                let (start, end) = parse_ends(start, end)?;
+                Ok(Command::Overlapping(start, end))
+            }
+            [Some(b"overlaps"), Some(start), Some(end), None, _] => {
+                let (start, end) = parse_ends(start, end)?;
+                Ok(Command::Overlaps(start, end))
+            }
+            [Some(b"gaps"), Some(start), Some(end), None, _] => {
+                let (start, end) = parse_ends(start, end)?;
+                Ok(Command::Gaps(start, end))
+            }
+            _ => Err(Cause::Command),
+        }
+    }
+}
+
+/// The range that two words give the ends of, and the value that a third is.
+fn parse_pair<'a>(start: &[u8], end: &[u8], value: &'a [u8]) -> Result<(Span, &'a str), Cause>
+    ensures ok { IfOk result (λ pair. (pair.0.start ≡ number_of start.now) × (pair.0.end ≡ number_of end.now) × (pair.1.now ≡ value.now)) }
+    ensures succeeds { IsOk result ↔ AreEnds start.now end.now × IsValue value.now }
+    ensures number { IsErrOf result Cause.Number ↔ ¬ (IsNumber start.now × IsNumber end.now) }
+    ensures empty { IsErrOf result Cause.EmptyRange ↔ IsNumber start.now × IsNumber end.now × (number_of end.now ≤ number_of start.now) }
+    ensures value { IsErrOf result Cause.Value ↔ AreEnds start.now end.now × (¬ IsValue value.now) }
+{
+    let span = parse_span(start, end)?;
+    let value = words::value(value)?;
+    Ok((span, value))
+}
+
+/// The range that two words give the ends of.
+fn parse_span(start: &[u8], end: &[u8]) -> Result<Span, Cause>
+    ensures ok { IfOk result (λ span. (span.start ≡ number_of start.now) × (span.end ≡ number_of end.now)) }
+    ensures succeeds { IsOk result ↔ AreEnds start.now end.now }
+    ensures number { IsErrOf result Cause.Number ↔ ¬ (IsNumber start.now × IsNumber end.now) }
+    ensures empty { IsErrOf result Cause.EmptyRange ↔ IsNumber start.now × IsNumber end.now × (number_of end.now ≤ number_of start.now) }
+    ensures value { result ≢ Err Cause.Value }
+{
+    let (start, end) = parse_ends(start, end)?;
+    Span::new(start, end).ok_or(Cause::EmptyRange)
+}
+
+/// The two ends that words give, in whichever order they are.
+fn parse_ends(start: &[u8], end: &[u8]) -> Result<(u32, u32), Cause>
+    ensures ok { IfOk result (λ ends. (ends.0 ≡ number_of start.now) × (ends.1 ≡ number_of end.now)) }
+    ensures succeeds { IsOk result ↔ IsNumber start.now × IsNumber end.now }
+    ensures err { IfErr result (λ cause. cause ≡ Cause.Number) }
+{
+    let start = words::number(start)?;
+    let end = words::number(end)?;
+    Ok((start, end))
+}

@@ -1,0 +1,89 @@
+//! The program from its arguments to its last answer.
+
+#[cfg(test)]
+mod tests;
+
+use crate::answer::{Map, answer};
+use crate::command::Command;
+use crate::fault::{Cause, Fault};
+use crate::lines::fetch;
+use rangemap::RangeMap;
+use std::alloc::Global;
+use std::io::{self, BufRead, BufReader, Read, Write};
+
+/// Carries out the commands of `input` over the container that `args`, the words after the program's name, ask for,
+/// and writes each answer to `output` before it reads the next line.
+///
+/// Stops at the first fault. The answers of the lines before it are written then.
+pub fn run<R: Read + Drop, W: Write + Drop>(
+    alloc: Global,
+    args: &[String],
+    input: R,
+    mut output: W,
+) -> Result<(), Fault> {
+    let [kind] = args else {
+        return Err(Cause::Arguments.at(0));
+    };
+    if kind.as_str() != "map" {
+        return Err(Cause::Arguments.at(0));
+    }
+    let Ok(mut input) = BufReader::new(alloc, input) else {
+        return Err(Cause::Memory.at(0));
+    };
+    let mut session = Session::new(alloc);
+    let mut number = 0u64;
+    for _ in 0..u64::MAX {
+        number = number.saturating_add(1);
+        match session.step(&mut input, &mut output) {
+            Ok(true) => {}
+            Ok(false) => return Ok(()),
+            Err(cause) => return Err(cause.at(number)),
+        }
+    }
+    // More lines than can be counted were read, and the input has not ended.
+    Err(Cause::Stream.at(number))
+}
+
+/// The map, and room for a line and its answer that is used again for each line.
+#[derive(Drop)]
+struct Session {
+    alloc: Global,
+    map: Map,
+    line: Vec<u8>,
+    text: String,
+}
+
+impl Session {
+    /// An empty map, and no line yet.
+    fn new(alloc: Global) -> Session {
+        Session {
+            alloc,
+            map: RangeMap::new(alloc),
+            line: Vec::new(alloc),
+            text: String::new(alloc),
+        }
+    }
+
+    /// Reads a line, carries out its command and writes the answer. False where there is no line left.
+    fn step<R: BufRead, W: Write>(&mut self, input: &mut R, output: &mut W) -> Result<bool, Cause> {
+        if !fetch(input, &mut self.line)? {
+            return Ok(false);
+        }
+        let command = Command::parse(&self.line)?;
+        self.text.clear();
+        answer(self.alloc, &mut self.map, command, &mut self.text)?;
+        if write_out(output, self.text.as_bytes()).is_err() {
+            return Err(Cause::Stream);
+        }
+        Ok(true)
+    }
+}
+
+/// Writes the bytes, and sees that they arrive.
+fn write_out<W: Write>(output: &mut W, bytes: &[u8]) -> io::Result<()> {
+    if bytes.is_empty() {
+        return Ok(());
+    }
+    output.write_all(bytes)?;
+    output.flush()
+}
