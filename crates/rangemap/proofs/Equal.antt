@@ -1,24 +1,23 @@
 -- Two equal maps that were changed in ways that make alike functions are equal again.
-use Rattle.std.proofs.Common.{◌≡◌, Bool, true, false, ◌&&◌, List, Option, Equal, refl}
+use Rattle.std.proofs.Common.{◌≡◌, Bool, true, false, ◌&&◌, List, Option, refl, sym}
 use Rattle.std.specs.Cmp.{IsEquivalence}
+use Rattle.rangemap_core.specs.Items.{IsSame}
 use Rattle.rangemap_core.specs.Places.{IsPlaced}
 use Rattle.rangemap_core.specs.Ranges.{RangeKind, Alike, IsCanonOf, IsCanonical, IsStorable, erase, override, same_pairs, value_at}
 use Rattle.rangemap_core.proofs.Alike.{Alike-itself, Alike-through, Alike-turned, canon_along, erase-alike, erase-override, override-alike, override-override, override-swapped}
 use Rattle.rangemap_core.proofs.Unique.{alike_from_same, canon_unique, same_points}
 
 module _ {K X V : Type 0} (k : RangeKind K X) {high : X → Option K} (p : IsPlaced k high) {eq : V → V → Bool} (e : IsEquivalence eq) where
-  -- a range with the same ends and an equal value makes an alike function
-  pub override_by_clone : (old new : List (X × V)) (r s : X) (v w : V) → IsStorable k r → IsStorable k s → k.cmp (k.start r) (k.start s) ≡ Equal → k.cmp (k.end r) (k.end s) ≡ Equal → eq v w ≡ true
-      → IsCanonOf k eq (override k (value_at k old) r v) new → IsCanonOf k eq (override k (value_at k old) s w) new
-  override_by_clone old new r s v w stored again starts ends values c =
-      canon_along k e (override k (value_at k old) r v) (override k (value_at k old) s w) new
-      (override-alike k e (value_at k old) (value_at k old) r s v w (λ x key. same_points k p r s x stored again key starts ends) values (Alike-itself k e (value_at k old))) c
+  -- a clone of a range, with an equal value, makes an alike function
+  pub override_by_clone : (old new : List (X × V)) (r s : X) (v w : V) → IsStorable k r → IsSame k r s → eq w v ≡ true → IsCanonOf k eq (override k (value_at k old) s w) new → IsCanonOf k eq (override k (value_at k old) r v) new
+  override_by_clone old new r s v w stored same values c =
+      canon_along k e (override k (value_at k old) s w) (override k (value_at k old) r v) new
+      (override-alike k e (value_at k old) (value_at k old) s r w v (λ x key. sym (same_points k p r s x stored same.storable key same.starts same.ends)) values (Alike-itself k e (value_at k old))) c
 
-  pub erase_by_clone : (old new : List (X × V)) (r s : X) → IsStorable k r → IsStorable k s → k.cmp (k.start r) (k.start s) ≡ Equal → k.cmp (k.end r) (k.end s) ≡ Equal
-      → IsCanonOf k eq (erase k (value_at k old) r) new → IsCanonOf k eq (erase k (value_at k old) s) new
-  erase_by_clone old new r s stored again starts ends c =
-      canon_along k e (erase k (value_at k old) r) (erase k (value_at k old) s) new
-      (erase-alike k e (value_at k old) (value_at k old) r s (λ x key. same_points k p r s x stored again key starts ends) (Alike-itself k e (value_at k old))) c
+  pub erase_by_clone : (old new : List (X × V)) (r s : X) → IsStorable k r → IsSame k r s → IsCanonOf k eq (erase k (value_at k old) s) new → IsCanonOf k eq (erase k (value_at k old) r) new
+  erase_by_clone old new r s stored same c =
+      canon_along k e (erase k (value_at k old) s) (erase k (value_at k old) r) new
+      (erase-alike k e (value_at k old) (value_at k old) s r (λ x key. sym (same_points k p r s x stored same.storable key same.starts same.ends)) (Alike-itself k e (value_at k old))) c
 
   -- lists of alike functions
   equal_lists : (f g : K → Option V) (ls ms : List (X × V)) → Alike k eq f g → IsCanonOf k eq f ls → IsCanonOf k eq g ms → same_pairs k eq ls ms ≡ true
@@ -51,7 +50,7 @@ module _ {K X V : Type 0} (k : RangeKind K X) {high : X → Option K} (p : IsPla
         equal_lists (erase k (override k f r v) r) (erase k g r) new more
         (Alike-through k e (erase k (override k f r v) r) (erase k f r) (erase k g r) (erase-override k e f r v) removed)
 
-    pub equal_after_both : (s : X) (w : V) → ((x : K) → (k.holds r x && k.holds s x) ≡ false)
+    pub equal_after_both : (s : X) (w : V) → ((x : K) → k.is_key x → (k.holds r x && k.holds s x) ≡ false)
         → IsCanonOf k eq (override k (override k f r v) s w) new → IsCanonOf k eq (override k (override k g s w) r v) more → same_pairs k eq new more ≡ true
     equal_after_both s w apart =
         equal_lists (override k (override k f r v) s w) (override k (override k g s w) r v) new more

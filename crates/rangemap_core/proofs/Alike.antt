@@ -66,8 +66,8 @@ module _ {K X V : Type 0} (k : RangeKind K X) {eq : V → V → Bool} (e : IsEqu
   pub erase-override : (f : K → Option V) (r : X) (v : V) → Alike k eq (erase k (override k f r v) r) (erase k f r)
   erase-override f r v x key = same_taken e (k.holds r x) None (Some v) (f x)
 
-  pub override-swapped : (f : K → Option V) (r s : X) (v w : V) → ((x : K) → (k.holds r x && k.holds s x) ≡ false) → Alike k eq (override k (override k f r v) s w) (override k (override k f s w) r v)
-  override-swapped f r s v w h x key = same_swapped e (k.holds r x) (k.holds s x) (Some v) (Some w) (f x) (h x)
+  pub override-swapped : (f : K → Option V) (r s : X) (v w : V) → ((x : K) → k.is_key x → (k.holds r x && k.holds s x) ≡ false) → Alike k eq (override k (override k f r v) s w) (override k (override k f s w) r v)
+  override-swapped f r s v w h x key = same_swapped e (k.holds r x) (k.holds s x) (Some v) (Some w) (f x) (h x key)
 
   -- a list of a function is that of a function alike
   pub canon_along : (f g : K → Option V) (list : List (X × V)) → Alike k eq f g → IsCanonOf k eq f list → IsCanonOf k eq g list

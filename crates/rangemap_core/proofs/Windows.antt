@@ -1,15 +1,18 @@
 -- What overlaps a query stands together in a canonical list.
-use Rattle.std.proofs.Common.{◌≡◌, ℕ, zero, suc, ◌+◌, ◌-◌, ◌<◌, ◌≤◌, length, arith, List, [], ◌∷◌, take, drop, get_or, Bool, true, false, cond, not, ◌&&◌, Option, Some, refl, sym, ap, ◌∙◌, subst, Less, is_lt, is_le, length-drop}
+use Rattle.std.specs.Ordering.{is_gt}
+use Rattle.std.proofs.Common.{◌≡◌, ℕ, zero, suc, ◌+◌, ◌-◌, ◌<◌, ◌≤◌, length, arith, List, [], ◌∷◌, take, drop, get_or, Bool, true, false, cond, not, ◌&&◌, Option, Some, refl, sym, ap, ◌∙◌, Ordering, Less, Equal, Greater, is_lt, is_le, length-drop, true≢false}
 use Rattle.std.specs.List.{filter}
-use Rattle.std.specs.List.Sorted.{IsPartitionedBy, IsPartitionPoint}
+use Rattle.std.specs.List.Sorted.{IsPartitionPoint}
 use Rattle.std.specs.Cmp.{IsTotalOrder}
 use Rattle.std.proofs.lemmas.List.{get_or-drop}
 use Rattle.rangemap_core.specs.Ranges.{RangeKind, IsStorable, IsCanonical, overlapped}
 use Rattle.rangemap_core.specs.Places.{place_cmp, IsPlaced}
 use Rattle.rangemap_core.specs.PlacedKinds.{place_total}
-use Rattle.rangemap_core.specs.Orders.{le_Less, lt_lt, lt_le, le_lt, le_not_lt, not_lt}
-use Rattle.rangemap_core.proofs.Bridge.{all_storable}
-use Rattle.rangemap_core.proofs.Searches.{Every-at}
+use Rattle.rangemap_core.specs.Orders.{Less-Equal, turn, lt_lt, lt_le, not_lt}
+use Rattle.rangemap_core.specs.Shape.{starts_by_key}
+use Rattle.rangemap_core.proofs.Bridge.{S, places, to_spaced, all_storable}
+use Rattle.rangemap_core.proofs.PlaceOrder.{le_trans, not_lt_ge}
+use Rattle.rangemap_core.proofs.Searches.{Every-at, apart_at, lows_rise}
 use Rattle.rangemap_core.specs.EdgeKinds.{lt_is}
 use Rattle.rangemap_core.specs.Edges.{AnswersByEdges, EdgeOf, IsAsked, ends_before, starts_before}
 
@@ -27,6 +30,9 @@ and_false false = refl
 
 and_true : {a b : Bool} → a ≡ true → b ≡ true → (a && b) ≡ true
 and_true s t i = s i && t i
+
+Greater-Equal : {r : Ordering} → r ≡ Greater → r ≡ Equal → ⊥
+Greater-Equal g e = true≢false (sym (ap is_gt g) ∙ ap is_gt e)
 
 module _ {X : Type 0} (f : X → Bool) where
   filter-drop : (xs : List X) (n : ℕ) → ((k : ℕ) (d : X) → k < n → k < length xs → f (get_or xs k d) ≡ false) → filter f (drop n xs) ≡ filter f xs
@@ -48,36 +54,52 @@ module _ {K X V : Type 0} {k : RangeKind K X} {high : X → Option K} (p : IsPla
   o : IsTotalOrder (place_cmp k.cmp)
   o = place_total p.total
 
-  -- what stands behind a pair lies behind it
-  later : (a : X × V) (list : List (X × V)) (j : ℕ) (d : X × V) → IsCanonical k eq (a ∷ list) → j < length list
-      → (is_le (place_cmp k.cmp (high a.0) (Some (k.start (get_or list j d).0))) ≡ true) × IsStorable k (get_or list j d).0
-  later a [] j d can l = absurd (omega arith)
-  later a (b ∷ list) zero d can l = (p.before a.0 b.0 can.0 can.2.0 can.1.0, can.2.0)
-  later a (b ∷ list) (suc j) d can l =
-      let rest = later b list j d can.2 (omega arith) in
-      (le_Less (lt_le o (le_lt o (p.before a.0 b.0 can.0 can.2.0 can.1.0) (p.non_empty b.0 can.2.0)) rest.0), rest.1)
+  stored_at : (list : List (X × V)) → IsCanonical k eq list → (i : ℕ) (d : X × V) → i < length list → IsStorable k (get_or list i d).0
+  stored_at list can i d l = Every-at (λ a. IsStorable k a.0) list (all_storable p eq list can) i d l
 
   module _ (q : X) where
-    pub ends_before_first : (list : List (X × V)) → IsCanonical k eq list → IsPartitionedBy (ends_before k high q) list
-    ends_before_first [] can i j d le l h = absurd (omega arith)
-    ends_before_first (a ∷ list) can zero zero d le l h = h
-    ends_before_first (a ∷ list) can zero (suc j) d le l h =
-        let b = later a list j d can (omega arith) in
-        let e = (get_or list j d).0 in
-        ap not (le_not_lt o (Some (k.start q)) (high a.0) (le_Less (lt_le o (le_lt o b.0 (p.non_empty e b.1)) (not_lt o (Some (k.start q)) (high e) (of_not _ h)))))
-    ends_before_first (a ∷ list) can (suc i) zero d le l h = absurd (omega arith)
-    ends_before_first (a ∷ list) can (suc i) (suc j) d le l h = ends_before_first list can.2 i j d (omega arith) (omega arith) h
+    -- of the pairs that start no later than q does, all but the last end before it starts
+    pub ended_but_the_last : (list : List (X × V)) (near : ℕ) → IsCanonical k eq list → near ≤ length list
+        → IsPartitionPoint (λ a. starts_by_key k (k.start q) a ≡ true) (λ a. starts_by_key k (k.start q) a ≡ false) list near
+        → (i : ℕ) (d : X × V) → 0 ≤ i → i < near - 1 → ends_before k high q (get_or list i d) ≡ true
+    ended_but_the_last list near can le point i d z l =
+        let a = (get_or list i d).0 in
+        let b = (get_or list (near - 1) d).0 in
+        let apart : is_gt (place_cmp k.cmp (high a) (Some (k.start b))) ≡ false = (apart_at (S p eq) (places p eq) list (to_spaced p eq list can) i (near - 1) d (omega arith) (omega arith)).before in
+        let started : is_lt (place_cmp k.cmp (Some (k.start q)) (Some (k.start b))) ≡ false = of_not _ (point.0 (near - 1) d (omega arith) (omega arith)) in
+        let up : is_gt (place_cmp k.cmp (high a) (Some (k.start q))) ≡ false = le_trans o (high a) (Some (k.start b)) (Some (k.start q)) apart (not_lt_ge o (Some (k.start q)) (Some (k.start b)) started) in
+        let below : is_lt (place_cmp k.cmp (Some (k.start q)) (high a)) ≡ false = grind (arith, up, o.antisymm (Some (k.start q)) (high a)) in
+        ap not below
 
-    pub starts_before_first : (list : List (X × V)) → IsCanonical k eq list → IsPartitionedBy (starts_before k high q) list
-    starts_before_first [] can i j d le l h = absurd (omega arith)
-    starts_before_first (a ∷ list) can zero zero d le l h = h
-    starts_before_first (a ∷ list) can zero (suc j) d le l h =
-        let b = later a list j d can (omega arith) in
-        let e = (get_or list j d).0 in
-        let up : place_cmp k.cmp (Some (k.start a.0)) (Some (k.start e)) ≡ Less = lt_le o {a = Some (k.start a.0)} {b = high a.0} {c = Some (k.start e)} (p.non_empty a.0 can.0) b.0 in
-        ap is_lt (lt_lt o {a = Some (k.start a.0)} {b = Some (k.start e)} {c = high q} up (lt_is _ h))
-    starts_before_first (a ∷ list) can (suc i) zero d le l h = absurd (omega arith)
-    starts_before_first (a ∷ list) can (suc i) (suc j) d le l h = starts_before_first list can.2 i j d (omega arith) (omega arith) h
+    -- and none of the others does
+    pub not_ended_behind : (list : List (X × V)) (near : ℕ) → IsCanonical k eq list
+        → IsPartitionPoint (λ a. starts_by_key k (k.start q) a ≡ true) (λ a. starts_by_key k (k.start q) a ≡ false) list near
+        → (i : ℕ) (d : X × V) → near ≤ i → i < length list → ends_before k high q (get_or list i d) ≡ false
+    not_ended_behind list near can point i d le l =
+        let e = (get_or list i d).0 in
+        let up : place_cmp k.cmp (Some (k.start q)) (Some (k.start e)) ≡ Less = lt_is _ (of_not_false _ (point.1 i d le l)) in
+        ap (λ r. not (is_lt r)) (lt_lt o {a = Some (k.start q)} {b = Some (k.start e)} {c = high e} up (p.non_empty e (stored_at list can i d l)))
+
+    -- of the pairs that start no later than the key of q's end, all but the last start before q ends
+    pub begun_but_the_last : {part : EdgeOf X → EdgeOf X → X} → AnswersByEdges k high part → IsAsked k q → (list : List (X × V)) (near : ℕ) → IsCanonical k eq list → near ≤ length list
+        → IsPartitionPoint (λ a. starts_by_key k (k.end q) a ≡ true) (λ a. starts_by_key k (k.end q) a ≡ false) list near
+        → (i : ℕ) (d : X × V) → 0 ≤ i → i < near - 1 → starts_before k high q (get_or list i d) ≡ true
+    begun_but_the_last ans asked list near can le point i d z l =
+        let a = (get_or list i d).0 in
+        let b = (get_or list (near - 1) d).0 in
+        let up : k.cmp (k.start a) (k.start b) ≡ Less = lows_rise (S p eq) (places p eq) list (to_spaced p eq list can) i (near - 1) d (omega arith) (omega arith) in
+        let by : is_le (k.cmp (k.start b) (k.end q)) ≡ true = not_lt p.total (k.end q) (k.start b) (of_not _ (point.0 (near - 1) d (omega arith) (omega arith))) in
+        let before : k.cmp (k.start a) (k.end q) ≡ Less = lt_le p.total {a = k.start a} {b = k.start b} {c = k.end q} up by in
+        ans.away_from_end q (k.start a) asked (stored_at list can i d (omega arith)).start_is_key (Less-Equal before) ∙ ap is_lt before
+
+    -- and none of the others does
+    pub not_begun_behind : {part : EdgeOf X → EdgeOf X → X} → AnswersByEdges k high part → IsAsked k q → (list : List (X × V)) (near : ℕ) → IsCanonical k eq list
+        → IsPartitionPoint (λ a. starts_by_key k (k.end q) a ≡ true) (λ a. starts_by_key k (k.end q) a ≡ false) list near
+        → (i : ℕ) (d : X × V) → near ≤ i → i < length list → starts_before k high q (get_or list i d) ≡ false
+    not_begun_behind ans asked list near can point i d le l =
+        let e = (get_or list i d).0 in
+        let behind : k.cmp (k.start e) (k.end q) ≡ Greater = turn p.total {a = k.end q} {b = k.start e} {r = Less} (lt_is _ (of_not_false _ (point.1 i d le l))) in
+        ans.away_from_end q (k.start e) asked (stored_at list can i d l).start_is_key (Greater-Equal behind) ∙ ap is_lt behind
 
     -- two partition points cut out what overlaps
     pub window : {part : EdgeOf X → EdgeOf X → X} → AnswersByEdges k high part → IsAsked k q → (list : List (X × V)) (from to : ℕ) → IsCanonical k eq list
@@ -93,7 +115,7 @@ module _ {K X V : Type 0} {k : RangeKind K X} {high : X → Option K} (p : IsPla
         ∙ filter-drop f list from (λ j d lt l. met j d l ∙ ap (λ t. t && starts_before k high q (get_or list j d)) (of_not _ (first.0 j d (omega arith) lt)))
       where
         met : (j : ℕ) (d : X × V) → j < length list → k.meets q (get_or list j d).0 ≡ (is_lt (place_cmp k.cmp (Some (k.start q)) (high (get_or list j d).0)) && starts_before k high q (get_or list j d))
-        met j d l = ans.meets q (get_or list j d).0 asked (Every-at (λ a. IsStorable k a.0) list (all_storable p eq list can) j d l)
+        met j d l = ans.meets q (get_or list j d).0 asked (stored_at list can j d l)
 
         met_there : (j : ℕ) (d : X × V) → j < length (drop from list)
             → k.meets q (get_or (drop from list) j d).0 ≡ (is_lt (place_cmp k.cmp (Some (k.start q)) (high (get_or list (from + j) d).0)) && starts_before k high q (get_or list (from + j) d))

@@ -1,5 +1,6 @@
 -- Half-open and closed ranges answer by their edges what is asked about them.
-use Rattle.std.proofs.Common.{◌≡◌, true, false, ◌&&◌, Option, Some, None, MatchOption, unwrap_or, ◌∙◌, ap, refl, Ordering, Less, Equal, Greater, is_lt, is_le}
+use Rattle.std.proofs.Common.{◌≡◌, true, false, ◌&&◌, Option, Some, None, MatchOption, unwrap_or, ◌∙◌, ap, refl, sym, Ordering, Less, Equal, Greater, is_lt, is_le}
+use Rattle.std.specs.Prelude.{◌≢◌}
 use Rattle.std.specs.Cmp.{IsTotalOrder}
 use Rattle.std.specs.declared.ops.Range.{Range}
 use Rattle.std.specs.declared.ops.RangeInclusive.{RangeInclusive}
@@ -16,6 +17,12 @@ pub lt_is : (r : Ordering) → is_lt r ≡ true → r ≡ Less
 lt_is Less h = refl
 lt_is Equal h = cc
 lt_is Greater h = cc
+
+-- where two do not tie, being at most is being less
+le_is_lt : (r : Ordering) → r ≢ Equal → is_le r ≡ is_lt r
+le_is_lt Less h = refl
+le_is_lt Equal h = absurd (h refl)
+le_is_lt Greater h = refl
 
 -- ---- half-open ranges
 
@@ -53,6 +60,7 @@ module _ {K : Type 0} {cmp : K → K → Ordering} (o : IsTotalOrder cmp) where
   half_open_answers = record {
     meets = λ q r asked stored. refl;
     holds = λ q x asked key. refl;
+    away_from_end = λ q x asked key h. refl;
     spans = λ from to a b h. half_open_spans from to h;
   }
 
@@ -133,5 +141,6 @@ module _ {K : Type 0} (is_key : K → Type 0) (cmp : K → K → Ordering) (o : 
         ap (λ b. b && is_le (cmp (range_inclusive_start r) (range_inclusive_end q))) (starts_by_end (range_inclusive_start q) (range_inclusive_end r) asked.start_is_key stored.end_is_key)
         ∙ ap (λ b. is_lt (place_cmp cmp (Some (range_inclusive_start q)) (after (range_inclusive_end r))) && b) (starts_by_end (range_inclusive_start r) (range_inclusive_end q) stored.start_is_key asked.end_is_key);
     holds = λ q x asked key. ap (λ b. is_le (cmp (range_inclusive_start q) x) && b) (starts_by_end x (range_inclusive_end q) key asked.end_is_key);
+    away_from_end = λ q x asked key h. sym (starts_by_end x (range_inclusive_end q) key asked.end_is_key) ∙ le_is_lt (cmp x (range_inclusive_end q)) h;
     spans = λ from to a b h. closed_spans from to a b (lt_is _ h);
   }

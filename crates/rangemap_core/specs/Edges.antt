@@ -1,6 +1,7 @@
 -- Edges of ranges, the part between two of them, and the gaps that stored ranges leave. No public contract needs them.
-use Rattle.std.specs.Prelude.{◌≡◌, Bool, true, not, ◌&&◌, cond, List, [], ◌∷◌, Option, Some}
+use Rattle.std.specs.Prelude.{◌≡◌, ◌≢◌, Bool, true, not, ◌&&◌, cond, List, [], ◌∷◌, Option, Some}
 use Rattle.std.specs.Ordering.{is_lt, is_le}
+use Rattle.std.specs.declared.cmp.Ordering.TheVariants.{Equal}
 use Rattle.rangemap_core.specs.declared.kind.Edge.{Edge}
 use Rattle.rangemap_core.specs.declared.kind.Edge.TheVariants.{Start, End}
 use Rattle.rangemap_core.specs.Ranges.{RangeKind, IsStorable}
@@ -49,6 +50,8 @@ module _ {K X : Type 0} (k : RangeKind K X) (high : X → Option K) where
   pub record AnswersByEdges (part : EdgeOf X → EdgeOf X → X) : Type 0 where
     pub meets : (q r : X) → IsAsked k q → IsStorable k r → k.meets q r ≡ (has_part (AtStart q) (AtEnd r) && has_part (AtStart r) (AtEnd q))
     pub holds : (q : X) (x : K) → IsAsked k q → k.is_key x → k.holds q x ≡ (is_le (k.cmp (k.start q) x) && is_lt (place_cmp k.cmp (Some x) (high q)))
+    -- a key that does not tie with the end of q lies before the place where q ends just where it is less than that end
+    pub away_from_end : (q : X) (x : K) → IsAsked k q → k.is_key x → k.cmp x (k.end q) ≢ Equal → is_lt (place_cmp k.cmp (Some x) (high q)) ≡ is_lt (k.cmp x (k.end q))
     pub spans : (from to : EdgeOf X) → IsAskedAt k from → IsAskedAt k to → has_part from to ≡ true → Spans k high (place_of from) (place_of to) (part from to)
 
   module _ (part : EdgeOf X → EdgeOf X → X) where

@@ -3,11 +3,21 @@ use Rattle.std.specs.Prelude.{◌≡◌, ℕ, ◌≤◌, ⊤, ◌⊎◌, Bool, t
 use Rattle.std.specs.List.{AllZip}
 use Rattle.rangemap_core.specs.declared.calls.Call.{Call}
 use Rattle.rangemap_core.specs.declared.calls.Call.TheVariants.{New, Insert, Remove, Clear, Clone, FromIter, Extend}
+use Rattle.rangemap_core.specs.declared.calls.Change.{Change}
+use Rattle.rangemap_core.specs.declared.calls.Change.TheVariants.{New as NewMap, Insert as InsertOne, Remove as RemoveOne, Clear as ClearOne, Clone as CloneOne}
 use Rattle.rangemap_core.specs.Ranges.{RangeKind, IsCanonOf, AreNonEmpty, erase, nothing, override, override_all}
 
 -- there is a function at the place, and what `change` makes of it stands there now
 abbrev pub Changes : {K V : Type 0} → List (K → Option V) → ℕ → ((K → Option V) → K → Option V) → List (K → Option V) → Type 0
 Changes {K} {V} old at change new = (f : K → Option V) × (slice_get old at ≡ Some f) × (new ≡ slice_set old at (change f))
+
+-- the same call, among those that also take pairs
+abbrev pub call_of : {X V A : Type 0} → Change X V → Call X V A
+call_of NewMap = New
+call_of (InsertOne at range value) = Insert at range value
+call_of (RemoveOne at range) = Remove at range
+call_of (ClearOne at) = Clear at
+call_of (CloneOne at) = Clone at
 
 -- f is defined at no point of the range
 abbrev pub IsUndefinedOn : {K X V : Type 0} → RangeKind K X → (K → Option V) → X → Type 0

@@ -1,5 +1,5 @@
 pub mod Ranges
-pub mod Steps
+pub use Rattle.rangemap_steps.specs.Steps
 pub mod Clones
 pub mod Incoming
 pub mod Orders
@@ -9,6 +9,8 @@ pub mod Shape
 pub mod Stretch
 pub mod Comparisons
 pub mod Histories
+pub mod MapHistories
+pub mod Runs
 pub mod Items
 pub mod Edges
 pub mod EdgeKinds

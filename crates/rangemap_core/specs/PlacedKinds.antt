@@ -85,7 +85,7 @@ module _ {K : Type 0} (is_key : K → Type 0) (R : K → K → Ordering) (o : Is
   nexts_tied_by e f g h tied n m Equal q = refl
   nexts_tied_by e f g h tied n m Greater q = absurd (n.none_between h m.to_key (eq_lt o tied m.below) (turn o q))
 
-  ends_as_places : (e f : K) → is_key e → is_key f → (a b : Option K) → After e a → After f b → (r : Ordering) → R e f ≡ r → r ≡ place_cmp R a b
+  pub ends_as_places : (e f : K) → is_key e → is_key f → (a b : Option K) → After e a → After f b → (r : Ordering) → R e f ≡ r → r ≡ place_cmp R a b
   ends_as_places e f e-key f-key None None n m Less q = absurd (n (record { other = f; is_a_key = f-key; greater = q }))
   ends_as_places e f e-key f-key None None n m Equal q = refl
   ends_as_places e f e-key f-key None None n m Greater q = absurd (m (record { other = e; is_a_key = e-key; greater = turn o q }))

@@ -2,6 +2,21 @@
 use std::alloc::Allocator;
 use std::vec::Vec;
 
+/// A call that every map has, on a list of maps over ranges of type `R`. It names a map by its place in the list.
+#[derive(Drop)]
+pub enum Change<R, V> {
+    /// Makes an empty map.
+    New,
+    /// Gives the keys of the range the value, in the map at the place.
+    Insert { at: usize, range: R, value: V },
+    /// Takes the keys of the range out of the map at the place.
+    Remove { at: usize, range: R },
+    /// Empties the map at the place.
+    Clear { at: usize },
+    /// Makes a clone of the map at the place.
+    Clone { at: usize },
+}
+
 /// A call that makes a map or changes one, over ranges of type `R`. It names a map by its place in the list.
 #[derive(Drop)]
 pub enum Call<R, V, A: Allocator> {

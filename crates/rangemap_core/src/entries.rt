@@ -3,10 +3,11 @@
 //! The pairs stand in one vector, in order. Whatever looks for a key or for a place to change goes by `search`, which halves and
 //! sees stored starts alone; whether the range that it finds has the key is told by that range's end. A change makes every
 //! clone and all room that it needs before it touches the list, so that one that is refused leaves all as it was.
-ghost use Rattle.std.specs.Prelude.{◌≡◌, ◌*◌, ◌^◌, ◌<◌, ◌≤◌, [], length, nat_eq};
+ghost use Rattle.std.specs.Prelude.{◌≡◌, ◌*◌, ◌^◌, ◌<◌, ◌≤◌, [], length, map, nat_eq};
 ghost use Rattle.std.specs.Option.{option_copied, option_map};
-ghost use Rattle.rangemap_core.specs.Ranges.{IsCanonical, covering, value_at};
+ghost use Rattle.rangemap_core.specs.Ranges.{AreGaps, IsCanonical, covering, value_at};
 
+use crate::gaps::Gaps;
 use crate::kind::Kind;
 use crate::search::starts_up_to;
 use std::alloc::Allocator;
@@ -111,6 +112,14 @@ impl<Q: Kind<K, R>, K: Ord + Clone, R, V: Eq, A: Allocator> Entries<Q, K, R, V, 
             Some(pair) => Some(&pair.1),
             None => None,
         }
+    }
+
+    /// The parts of the range that no pair covers, in order, for any range. It searches twice, and takes no memory.
+    pub fn gaps<'a>(&'a self, outer_range: &'a R) -> Gaps<'a, Q, K, R, V>
+        requires { IsCanonical Q.kind V.eq self.now }
+        ensures { AreGaps Q.kind (map (λ pair. pair.0) self.now) outer_range.now result }
+    {
+        Gaps::new(self.as_slice(), outer_range)
     }
 }
 

@@ -15,6 +15,8 @@ pub mod map;
 mod near;
 pub mod overlapping;
 mod probe;
+pub mod ranged_map;
+pub mod replay;
 mod search;
 pub mod std_ext;
 mod stretch;

@@ -13,6 +13,7 @@ use std::ops::Range;
 
 mod collect;
 mod history;
+mod ranged;
 
 pub use history::replay;
 
@@ -32,6 +33,9 @@ pub type Overlapping<'a, K, V> = overlapping::Overlapping<'a, Range<K>, V>;
 pub type Gaps<'a, K, V> = gaps::Gaps<'a, HalfOpen, K, Range<K>, V>;
 
 /// A map of disjoint half-open ranges to values, which joins ranges that touch and have equal values.
+///
+/// The pairs stand in one sorted vector. What a call costs is said by n, the number of stored ranges, and k, the number of those
+/// that the call's range meets.
 #[derive(Drop)]
 pub struct RangeMap<K: Ord + Clone, V: Eq + Clone, A: Allocator> {
     entries: Entries<HalfOpen, K, Range<K>, V, A>,
@@ -50,7 +54,7 @@ impl<K: Ord + Clone, V: Eq + Clone, A: Allocator> Model for RangeMap<K, V, A> {
 }
 
 impl<K: Ord + Clone, V: Eq + Clone, A: Allocator> RangeMap<K, V, A> {
-    /// The empty map, whose memory will come from `alloc`. It takes none yet.
+    /// The empty map, whose memory will come from `alloc`. It takes none yet, and the same time always.
     pub fn new(alloc: A) -> Self
         ensures { result ≡ [] }
     {
@@ -59,28 +63,29 @@ impl<K: Ord + Clone, V: Eq + Clone, A: Allocator> RangeMap<K, V, A> {
         }
     }
 
-    /// How many ranges are stored.
+    /// How many ranges are stored. It takes the same time for any map.
     pub fn len(&self) -> usize
         ensures { result ≡ length self.now }
     {
         self.entries.len()
     }
 
-    /// Whether none is stored.
+    /// Whether none is stored. It takes the same time for any map.
     pub fn is_empty(&self) -> bool
         ensures { result ≡ nat_eq (length self.now) 0 }
     {
         self.entries.is_empty()
     }
 
-    /// Takes every key out. The memory is kept for later inserts.
+    /// Takes every key out. The memory is kept for later inserts. It takes time in n.
     pub fn clear(&mut self)
         ensures { self.new ≡ [] }
     {
         self.entries.clear();
     }
 
-    /// The stored pairs, in order, from both ends. It takes no memory.
+    /// The stored pairs, in order, from both ends. It takes no memory, and the same time for any map, as does each pair taken
+    /// from it.
     pub fn iter(&self) -> Iter<'_, K, V>
         ensures all { result ≡ self.now }
         ensures canonical { IsCanonical (half_open K.cmp) V.eq self.now }
@@ -90,7 +95,7 @@ impl<K: Ord + Clone, V: Eq + Clone, A: Allocator> RangeMap<K, V, A> {
 
     /// The value of the stored range that has the key, if there is one.
     ///
-    /// Of n stored ranges it looks at the starts of about log2(n) + 1, and at one pair.
+    /// It looks at about log2(n) + 1 of the stored starts, and at one pair.
     pub fn get(&self, key: &K) -> Option<&V>
         ensures { option_copied result ≡ value_at (half_open K.cmp) self.now key.now }
     {
@@ -114,7 +119,7 @@ impl<K: Ord + Clone, V: Eq + Clone, A: Allocator> RangeMap<K, V, A> {
         self.entries.covering(key).0.is_some()
     }
 
-    /// The first stored range and its value, if there is one.
+    /// The first stored range and its value, if there is one. It takes the same time for any map.
     pub fn first_range_value(&self) -> Option<(&Range<K>, &V)>
         ensures { option_map (λ pair. (pair.0.now, pair.1.now)) result ≡ slice_get self.now 0 }
     {
@@ -124,7 +129,7 @@ impl<K: Ord + Clone, V: Eq + Clone, A: Allocator> RangeMap<K, V, A> {
         }
     }
 
-    /// The last stored range and its value, if there is one.
+    /// The last stored range and its value, if there is one. It takes the same time for any map.
     pub fn last_range_value(&self) -> Option<(&Range<K>, &V)>
         ensures { option_map (λ pair. (pair.0.now, pair.1.now)) result ≡ slice_get self.now (length self.now - 1) }
     {
@@ -137,7 +142,7 @@ impl<K: Ord + Clone, V: Eq + Clone, A: Allocator> RangeMap<K, V, A> {
     /// The pairs that end after the start of `range` and start before its end, in order.
     ///
     /// Nothing is asked of `range`. An empty one strictly inside a stored range meets it, and so does a reversed one whose
-    /// ends lie inside. It costs time in the logarithm of the ranges stored, and takes no memory.
+    /// ends lie inside. It takes time in log(n) and no memory, and each of the k pairs taken from it the same time for any map.
     ///
     /// ```text
     /// let map = RangeMap::from(alloc, [(0..2, 'a'), (2..4, 'b'), (8..9, 'c')])?;
@@ -150,7 +155,7 @@ impl<K: Ord + Clone, V: Eq + Clone, A: Allocator> RangeMap<K, V, A> {
         overlapping::Overlapping::new::<HalfOpen, K>(self.entries.as_slice(), range)
     }
 
-    /// Whether `overlapping` has an item for the range. It costs what `overlapping` does.
+    /// Whether `overlapping` has an item for the range. It takes time in log(n) and no memory.
     pub fn overlaps(&self, range: &Range<K>) -> bool
         ensures { result ≡ nat_lt 0 (length (overlapped (half_open K.cmp) self.now range.now)) }
     {
@@ -159,8 +164,8 @@ impl<K: Ord + Clone, V: Eq + Clone, A: Allocator> RangeMap<K, V, A> {
 
     /// The parts of `outer_range` that no stored range covers, in order. Between two stored ranges that touch there is none.
     ///
-    /// Nothing is asked of `outer_range`. An empty or a reversed one has no gaps. It costs time in the logarithm of the
-    /// ranges stored, and takes no memory; a gap is made of clones when it is asked for, which may be refused.
+    /// Nothing is asked of `outer_range`. An empty or a reversed one has no gaps. It takes time in log(n) and no memory; a gap
+    /// is made of clones when it is asked for, which may be refused. To take all of them takes time in k.
     ///
     /// ```text
     /// let map = RangeMap::from(alloc, [(1..3, 'a'), (5..7, 'b')])?;
@@ -170,7 +175,7 @@ impl<K: Ord + Clone, V: Eq + Clone, A: Allocator> RangeMap<K, V, A> {
     pub fn gaps<'a>(&'a self, outer_range: &'a Range<K>) -> Gaps<'a, K, V>
         ensures { AreGaps (half_open K.cmp) (map (λ pair. pair.0) self.now) outer_range.now result }
     {
-        gaps::Gaps::new(self.entries.as_slice(), outer_range)
+        self.entries.gaps(outer_range)
     }
 
     /// Gives every key of `range` the `value`, whatever it had before.
@@ -184,8 +189,9 @@ impl<K: Ord + Clone, V: Eq + Clone, A: Allocator> RangeMap<K, V, A> {
     /// `Err` says that the growth of the map, or a clone of a key or value, was refused: then the map is as it was, and the
     /// range and the value are dropped.
     ///
-    /// It makes two searches by halving and at most two clones of a value, and moves each stored pair behind the range at
-    /// most once. An insert behind all others moves none.
+    /// It takes a search by halving, and a second one where k is above four: time in log(n). It makes at most two clones of a
+    /// value, takes time in k to drop what goes, and moves each stored pair behind the range at most once, which takes time in
+    /// their number. An insert behind all others moves none.
     ///
     /// ```text
     /// let mut map = RangeMap::new(alloc);
@@ -209,7 +215,7 @@ impl<K: Ord + Clone, V: Eq + Clone, A: Allocator> RangeMap<K, V, A> {
     /// becomes two, so the map grows by at most one range.
     ///
     /// The conditions, and what `Err` says, are those of `insert`. Where no stored range overlaps the given one, it takes no
-    /// memory, succeeds and changes nothing. It costs what `insert` does.
+    /// memory, succeeds and changes nothing. It costs what `insert` does, and time in log(n) alone where it meets nothing.
     ///
     /// ```text
     /// map.insert(0..10, 'a')?;
@@ -237,6 +243,8 @@ impl<K: Ord + Clone, V: Eq + Clone, A: Allocator> PartialEq for RangeMap<K, V, A
 
     ghost laws = { partial_equiv_from_equiv (same_pairs_equiv (half_open K.cmp) K.total V.Eq.laws) };
 
+    /// Whether the maps have equal pairs. It compares the numbers of ranges first, and then takes time in n at most: it stops at
+    /// the first two pairs that differ.
     fn eq(&self, other: &Self) -> bool {
         self.entries == other.entries
     }

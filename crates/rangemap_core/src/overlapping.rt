@@ -7,7 +7,7 @@ ghost use Rattle.rangemap_core.specs.Ranges.{IsCanonical, overlapped};
 
 use crate::iter::Iter;
 use crate::kind::{Edge, Kind};
-use crate::near::{Test, partition_point_near};
+use crate::near::{Test, partition_point_by};
 use crate::search::starts_up_to;
 use std::iter::{DoubleEndedIterator, Iterator};
 use std::marker::{Model, PhantomData};
@@ -92,10 +92,12 @@ pub(crate) fn overlapping_part<'a, Q: Kind<K, R>, K: Ord + Clone, R, V: Eq>(
         query,
         kind: PhantomData,
     };
+    // Of the pairs that start no later than the query, only the last can reach past its start. Of those that start no later
+    // than its end, only the last can start there, and it overlaps only where the end is a point of the query.
     let (near_start, _) = starts_up_to::<Q, K, R, V>(pairs, Q::start(query));
     let (near_end, _) = starts_up_to::<Q, K, R, V>(pairs, Q::end(query));
-    let from = partition_point_near(pairs, &ended, near_start);
-    let to = partition_point_near(pairs, &begun, near_end);
+    let from = partition_point_by(pairs, &ended, near_start);
+    let to = partition_point_by(pairs, &begun, near_end);
     &pairs[from..to.max(from)]
 }
 

@@ -1,6 +1,7 @@
-//! What is asked of ranges beside what std gives.
+//! What is asked of keys and of ranges beside what std gives.
 ghost use Rattle.std.specs.Prelude.{◌≡◌};
 
+pub use rangemap_steps::{StepFns, StepLite};
 use std::cmp::Ordering;
 use std::ops::Range;
 

@@ -1,2 +1,3 @@
 -- Definitions of the program.
+pub mod Commands
 pub mod Words

@@ -1,5 +1,5 @@
 -- What the words of a line may be.
-use Rattle.std.specs.Prelude.{◌≡◌, ◌≢◌, ℕ, ◌<◌, ◌^◌, List, [], true}
+use Rattle.std.specs.Prelude.{◌≡◌, ◌≢◌, ℕ, ◌<◌, ◌^◌, Bool, List, [], true}
 use Rattle.std.specs.Char.{is_ascii_digit, is_ascii_lowercase}
 use Rattle.std.specs.List.{list_all}
 use Rattle.std.specs.Str.Parse.{digits_value}
@@ -12,9 +12,9 @@ number_of word = digits_value 10 word
 abbrev pub IsNumber : List ℕ → Type 0
 IsNumber word = (word ≢ []) × (list_all is_ascii_digit word ≡ true) × (number_of word < 2 ^ 32)
 
--- two numbers that are the ends of a half-open range with a key in it
-abbrev pub AreEnds : List ℕ → List ℕ → Type 0
-AreEnds start end = IsNumber start × IsNumber end × (number_of start < number_of end)
+-- two numbers that are the ends of a range with a key in it, which the test tells of a kind of range
+abbrev pub AreEnds : (ℕ → ℕ → Bool) → List ℕ → List ℕ → Type 0
+AreEnds holds_key start end = IsNumber start × IsNumber end × (holds_key (number_of start) (number_of end) ≡ true)
 
 -- one or more letters a to z
 abbrev pub IsValue : List ℕ → Type 0

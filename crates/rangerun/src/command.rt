@@ -1,18 +1,18 @@
 //! The commands, and how a line is read as one.
-ghost use Rattle.std.specs.Prelude.{◌≡◌, ◌≢◌, ◌↔◌, ◌≤◌, IsOk, IfOk, IfErr, IsErrOf};
+ghost use Rattle.std.specs.Prelude.{◌≡◌, ◌≢◌, ◌↔◌, false, IsOk, IfOk, IfErr, IsErrOf};
 ghost use Rattle.rangerun.specs.Words.{AreEnds, IsNumber, IsValue, number_of};
 
 use crate::fault::Cause;
-use crate::span::Span;
+use crate::range::{KeyRange, Span};
 use crate::words;
 
-/// What a line asks for.
-#[derive(Clone, Copy, Debug, PartialEq, Eq)]
-pub enum Command<'a> {
+/// What a line asks for, of a container of ranges `R`.
+#[derive(Debug, Drop)]
+pub enum Command<'a, R: KeyRange> {
     /// Give the keys of a range a value.
-    Insert(Span, &'a str),
+    Insert(Span<R>, &'a str),
     /// Take the keys of a range out.
-    Remove(Span),
+    Remove(Span<R>),
     /// Take every key out.
     Clear,
     /// Print the item that has a key.
@@ -26,19 +26,19 @@ pub enum Command<'a> {
     /// Print the number of items.
     Len,
     /// Print the items that a range overlaps.
-    Overlapping(u32, u32),
+    Overlapping(R),
     /// Print whether there are any.
-    Overlaps(u32, u32),
+    Overlaps(R),
     /// Print the parts of a range that no item has.
-    Gaps(u32, u32),
+    Gaps(R),
 }
 
-impl<'a> Command<'a> {
+impl<'a, R: KeyRange> Command<'a, R> {
     /// Reads a line, given without its newline, as a command.
     ///
     /// Words are divided by one space each, so an empty word is a word too. Of several faults in a line the one whose
     /// cause has the least number is told.
-    pub fn parse(line: &'a [u8]) -> Result<Command<'a>, Cause> {
+    pub fn parse(line: &'a [u8]) -> Result<Command<'a, R>, Cause> {
         let mut words = line.split(|byte| *byte == b' ');
         // No command has more than four words.
         let words = [
@@ -63,16 +63,13 @@ impl<'a> Command<'a> {
             [Some(b"iter"), None, _, _, _] => Ok(Command::Iter),
             [Some(b"len"), None, _, _, _] => Ok(Command::Len),
             [Some(b"overlapping"), Some(start), Some(end), None, _] => {
-                let (start, end) = parse_ends(start, end)?;
-                Ok(Command::Overlapping(start, end))
+                Ok(Command::Overlapping(parse_query(start, end)?))
             }
             [Some(b"overlaps"), Some(start), Some(end), None, _] => {
-                let (start, end) = parse_ends(start, end)?;
-                Ok(Command::Overlaps(start, end))
+                Ok(Command::Overlaps(parse_query(start, end)?))
             }
             [Some(b"gaps"), Some(start), Some(end), None, _] => {
-                let (start, end) = parse_ends(start, end)?;
-                Ok(Command::Gaps(start, end))
+                Ok(Command::Gaps(parse_query(start, end)?))
             }
             _ => Err(Cause::Command),
         }
@@ -80,31 +77,45 @@ impl<'a> Command<'a> {
 }
 
 /// The range that two words give the ends of, and the value that a third is.
-fn parse_pair<'a>(start: &[u8], end: &[u8], value: &'a [u8]) -> Result<(Span, &'a str), Cause>
+fn parse_pair<'a, R: KeyRange>(
+    start: &[u8],
+    end: &[u8],
+    value: &'a [u8],
+) -> Result<(Span<R>, &'a str), Cause>
     ensures ok { IfOk result (λ pair. (pair.0.start ≡ number_of start.now) × (pair.0.end ≡ number_of end.now) × (pair.1.now ≡ value.now)) }
-    ensures succeeds { IsOk result ↔ AreEnds start.now end.now × IsValue value.now }
+    ensures succeeds { IsOk result ↔ AreEnds R.holds_key start.now end.now × IsValue value.now }
     ensures number { IsErrOf result Cause.Number ↔ ¬ (IsNumber start.now × IsNumber end.now) }
-    ensures empty { IsErrOf result Cause.EmptyRange ↔ IsNumber start.now × IsNumber end.now × (number_of end.now ≤ number_of start.now) }
-    ensures value { IsErrOf result Cause.Value ↔ AreEnds start.now end.now × (¬ IsValue value.now) }
+    ensures empty { IsErrOf result Cause.EmptyRange ↔ IsNumber start.now × IsNumber end.now × (R.holds_key (number_of start.now) (number_of end.now) ≡ false) }
+    ensures value { IsErrOf result Cause.Value ↔ AreEnds R.holds_key start.now end.now × (¬ IsValue value.now) }
 {
     let span = parse_span(start, end)?;
     let value = words::value(value)?;
     Ok((span, value))
 }
 
-/// The range that two words give the ends of.
-fn parse_span(start: &[u8], end: &[u8]) -> Result<Span, Cause>
+/// The range, with a key in it, that two words give the ends of.
+fn parse_span<R: KeyRange>(start: &[u8], end: &[u8]) -> Result<Span<R>, Cause>
     ensures ok { IfOk result (λ span. (span.start ≡ number_of start.now) × (span.end ≡ number_of end.now)) }
-    ensures succeeds { IsOk result ↔ AreEnds start.now end.now }
+    ensures succeeds { IsOk result ↔ AreEnds R.holds_key start.now end.now }
     ensures number { IsErrOf result Cause.Number ↔ ¬ (IsNumber start.now × IsNumber end.now) }
-    ensures empty { IsErrOf result Cause.EmptyRange ↔ IsNumber start.now × IsNumber end.now × (number_of end.now ≤ number_of start.now) }
+    ensures empty { IsErrOf result Cause.EmptyRange ↔ IsNumber start.now × IsNumber end.now × (R.holds_key (number_of start.now) (number_of end.now) ≡ false) }
     ensures value { result ≢ Err Cause.Value }
 {
     let (start, end) = parse_ends(start, end)?;
     Span::new(start, end).ok_or(Cause::EmptyRange)
 }
 
-/// The two ends that words give, in whichever order they are.
+/// The range that two words give the ends of, in whichever order they are.
+fn parse_query<R: KeyRange>(start: &[u8], end: &[u8]) -> Result<R, Cause>
+    ensures ok { IfOk result (λ range. (R.start_of range ≡ number_of start.now) × (R.end_of range ≡ number_of end.now)) }
+    ensures succeeds { IsOk result ↔ IsNumber start.now × IsNumber end.now }
+    ensures err { IfErr result (λ cause. cause ≡ Cause.Number) }
+{
+    let (start, end) = parse_ends(start, end)?;
+    Ok(R::between(start, end))
+}
+
+/// The two numbers that words are, in whichever order they are.
 fn parse_ends(start: &[u8], end: &[u8]) -> Result<(u32, u32), Cause>
     ensures ok { IfOk result (λ ends. (ends.0 ≡ number_of start.now) × (ends.1 ≡ number_of end.now)) }
     ensures succeeds { IsOk result ↔ IsNumber start.now × IsNumber end.now }

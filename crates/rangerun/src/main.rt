@@ -6,10 +6,12 @@
 
 mod answer;
 mod command;
+mod container;
 mod fault;
 mod lines;
+mod listing;
+mod range;
 mod session;
-mod span;
 mod words;
 
 use fault::{Cause, Fault};

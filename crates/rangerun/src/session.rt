@@ -3,11 +3,11 @@
 #[cfg(test)]
 mod tests;
 
-use crate::answer::{Map, answer};
+use crate::answer::answer;
 use crate::command::Command;
+use crate::container::{ClosedMap, Container, HalfOpenMap};
 use crate::fault::{Cause, Fault};
 use crate::lines::fetch;
-use rangemap::RangeMap;
 use std::alloc::Global;
 use std::io::{self, BufRead, BufReader, Read, Write};
 
@@ -19,18 +19,28 @@ pub fn run<R: Read + Drop, W: Write + Drop>(
     alloc: Global,
     args: &[String],
     input: R,
-    mut output: W,
+    output: W,
 ) -> Result<(), Fault> {
     let [kind] = args else {
         return Err(Cause::Arguments.at(0));
     };
-    if kind.as_str() != "map" {
-        return Err(Cause::Arguments.at(0));
+    match kind.as_str() {
+        "map" => run_over::<HalfOpenMap, R, W>(alloc, input, output),
+        "imap" => run_over::<ClosedMap, R, W>(alloc, input, output),
+        _ => Err(Cause::Arguments.at(0)),
     }
+}
+
+/// Carries out the commands of `input` over an empty container, as `run` does.
+fn run_over<C: Container, R: Read + Drop, W: Write + Drop>(
+    alloc: Global,
+    input: R,
+    mut output: W,
+) -> Result<(), Fault> {
     let Ok(mut input) = BufReader::new(alloc, input) else {
         return Err(Cause::Memory.at(0));
     };
-    let mut session = Session::new(alloc);
+    let mut session: Session<C> = Session::new(alloc);
     let mut number = 0u64;
     for _ in 0..u64::MAX {
         number = number.saturating_add(1);
@@ -44,21 +54,21 @@ pub fn run<R: Read + Drop, W: Write + Drop>(
     Err(Cause::Stream.at(number))
 }
 
-/// The map, and room for a line and its answer that is used again for each line.
+/// The container, and room for a line and its answer that is used again for each line.
 #[derive(Drop)]
-struct Session {
+struct Session<C> {
     alloc: Global,
-    map: Map,
+    container: C,
     line: Vec<u8>,
     text: String,
 }
 
-impl Session {
-    /// An empty map, and no line yet.
-    fn new(alloc: Global) -> Session {
+impl<C: Container> Session<C> {
+    /// An empty container, and no line yet.
+    fn new(alloc: Global) -> Session<C> {
         Session {
             alloc,
-            map: RangeMap::new(alloc),
+            container: C::new(alloc),
             line: Vec::new(alloc),
             text: String::new(alloc),
         }
@@ -71,7 +81,7 @@ impl Session {
         }
         let command = Command::parse(&self.line)?;
         self.text.clear();
-        answer(self.alloc, &mut self.map, command, &mut self.text)?;
+        answer(self.alloc, &mut self.container, command, &mut self.text)?;
         if write_out(output, self.text.as_bytes()).is_err() {
             return Err(Cause::Stream);
         }

@@ -1,6 +1,6 @@
 //! Rows about maps that are made of pairs and of other maps, and that hand their pairs over.
 
-use crate::rows::assert_pairs;
+use crate::rows::InRows;
 use rangemap::RangeMap;
 use std::test::Fail;
 
@@ -16,14 +16,13 @@ fn equality_forgets_the_calls(rt: HostRuntime) -> Result<(), Fail> {
 #[test]
 fn pairs_are_inserted_in_order(rt: HostRuntime) -> Result<(), Fail> {
     let map = RangeMap::from(rt.alloc(), [(0u32..10, 'a'), (3..6, 'b')])?;
-    assert_pairs(&rt, &map, &[(0..3, 'a'), (3..6, 'b'), (6..10, 'a')])?;
+    map.assert_pairs(&rt, &[(0..3, 'a'), (3..6, 'b'), (6..10, 'a')])?;
     let copy = map.clone()?;
     assert!(rt; copy == map);
     let mut map = map;
     map.extend((1u32..3).map(|i| (10 * i..10 * i + 5, 'c')))?;
-    assert_pairs(
+    map.assert_pairs(
         &rt,
-        &map,
         &[
             (0..3, 'a'),
             (3..6, 'b'),
@@ -33,14 +32,14 @@ fn pairs_are_inserted_in_order(rt: HostRuntime) -> Result<(), Fail> {
         ],
     )?;
     let all = RangeMap::from_iter(rt.alloc(), (0u32..3).map(|i| (0..i + 1, 'd')))?;
-    assert_pairs(&rt, &all, &[(0..3, 'd')])
+    all.assert_pairs(&rt, &[(0..3, 'd')])
 }
 
 #[test]
 fn an_array_and_a_chain_are_taken(rt: HostRuntime) -> Result<(), Fail> {
     let mut map = RangeMap::new(rt.alloc());
     map.extend([(0u32..5, 'a'), (5..9, 'b')])?;
-    assert_pairs(&rt, &map, &[(0..5, 'a'), (5..9, 'b')])?;
+    map.assert_pairs(&rt, &[(0..5, 'a'), (5..9, 'b')])?;
     map.extend((1..100u32).map(|i| (10 * i..10 * i + 5, 'c')))?;
     assert_eq!(rt; map.len(), 101);
     Ok(())

@@ -1,22 +1,27 @@
 //! Rows about `insert`, and about what the map then answers.
 
 use crate::rows::Call::{self, Insert};
-use crate::rows::{assert_pairs, make};
+use crate::rows::{InRows, make};
 use rangemap::RangeMap;
+use std::alloc::Global;
 use std::ops::Range;
 use std::test::Fail;
 
 #[test]
 fn what_is_covered_is_replaced(rt: HostRuntime) -> Result<(), Fail> {
-    let mut map = RangeMap::new(rt.alloc());
-    make(&mut map, &[Insert(0..10, false), Insert(3..6, true)])?;
-    assert_pairs(&rt, &map, &[(0..3, false), (3..6, true), (6..10, false)])?;
-    make(&mut map, &[Insert(3..6, false)])?;
-    assert_pairs(&rt, &map, &[(0..10, false)])
+    let mut map: RangeMap<u32, bool, Global> = RangeMap::new(rt.alloc());
+    make(
+        &mut map,
+        rt.alloc(),
+        &[Insert(0..10, false), Insert(3..6, true)],
+    )?;
+    map.assert_pairs(&rt, &[(0..3, false), (3..6, true), (6..10, false)])?;
+    make(&mut map, rt.alloc(), &[Insert(3..6, false)])?;
+    map.assert_pairs(&rt, &[(0..10, false)])
 }
 
 /// The calls and the pairs that they leave.
-type Row<'a> = (&'a [Call<char>], &'a [(Range<u32>, char)]);
+type Row<'a> = (&'a [Call<Range<u32>, char>], &'a [(Range<u32>, char)]);
 
 #[test]
 fn pieces_are_kept_and_joined(rt: HostRuntime) -> Result<(), Fail> {
@@ -49,9 +54,9 @@ fn pieces_are_kept_and_joined(rt: HostRuntime) -> Result<(), Fail> {
         ),
     ];
     for (calls, pairs) in rows {
-        let mut map = RangeMap::new(rt.alloc());
-        make(&mut map, calls)?;
-        assert_pairs(&rt, &map, pairs)?;
+        let mut map: RangeMap<u32, char, Global> = RangeMap::new(rt.alloc());
+        make(&mut map, rt.alloc(), calls)?;
+        map.assert_pairs(&rt, pairs)?;
     }
     Ok(())
 }

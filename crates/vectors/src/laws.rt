@@ -1,72 +1,205 @@
 //! The laws, run on maps of rows: with memory, each reaches its outcome.
+//!
+//! What is done for a law is the same for maps over either kind of range. The rows of half-open ranges stand here too.
+ghost use Rattle.std.specs.Prelude.{◌≡◌, ◌&&◌, false};
+ghost use Rattle.rangemap.specs.Clones.{KeysCloneFaithfully, ValuesCloneFaithfully};
 
 use crate::rows::Call::{self, Insert};
-use crate::rows::{assert_pairs, make};
+use crate::rows::{InRows, make};
 use rangemap::{RangeMap, laws};
 use std::alloc::{AllocGlobal, Global};
 use std::process::Abort;
 use std::test::Fail;
 
-type Map = RangeMap<u32, char, Global>;
-
 /// Two equal maps of the calls.
-fn pair_of<R: AllocGlobal>(rt: &R, calls: &[Call<char>]) -> Result<(Map, Map), Fail> {
-    let mut left = RangeMap::new(rt.alloc());
-    make(&mut left, calls)?;
-    let mut right = RangeMap::new(rt.alloc());
-    make(&mut right, calls)?;
+fn pair_of<M: InRows<Alloc = Global>, R: AllocGlobal>(
+    rt: &R,
+    calls: &[Call<M::RowRange, M::RowValue>],
+) -> Result<(M, M), Fail>
+    requires faithful_keys { KeysCloneFaithfully M.Key.is_clone M.Key.cmp }
+    requires faithful_values { ValuesCloneFaithfully M.Value.is_clone M.Value.eq }
+{
+    let mut left = M::new(rt.alloc());
+    make(&mut left, rt.alloc(), calls)?;
+    let mut right = M::new(rt.alloc());
+    make(&mut right, rt.alloc(), calls)?;
     Ok((left, right))
 }
 
-#[test]
-fn equal_maps_are_alike(rt: HostRuntime) -> Result<(), Fail> {
-    let (left, mut right) = pair_of(&rt, &[Insert(0..10, 'a'), Insert(3..6, 'b')])?;
+/// Maps of the same calls are alike, and are no more after one more insert into one of them.
+pub fn check_alike<M: InRows<Alloc = Global>, R: AllocGlobal + Abort>(
+    rt: &R,
+    calls: &[Call<M::RowRange, M::RowValue>],
+    range: M::Range,
+    value: M::Value,
+) -> Result<(), Fail>
+    requires non_empty { M.Kind.kind.IsNonEmpty range }
+    requires faithful_keys { KeysCloneFaithfully M.Key.is_clone M.Key.cmp }
+    requires faithful_values { ValuesCloneFaithfully M.Value.is_clone M.Value.eq }
+{
+    let (left, mut right) = pair_of::<M, R>(rt, calls)?;
     assert!(rt; laws::equal_exactly_when_alike(&left, &right));
-    right.insert(3..5, 'a')?;
+    right.insert(range, value)?;
     assert!(rt; !laws::equal_exactly_when_alike(&left, &right));
     Ok(())
 }
 
+/// An insert leaves the pairs, where the calls were made before.
+pub fn check_insert<M: InRows<Alloc = Global>, R: AllocGlobal + Abort>(
+    rt: &R,
+    calls: &[Call<M::RowRange, M::RowValue>],
+    range: M::Range,
+    value: M::Value,
+    pairs: &[(M::RowRange, M::RowValue)],
+) -> Result<(), Fail>
+    requires non_empty { M.Kind.kind.IsNonEmpty range }
+    requires faithful_keys { KeysCloneFaithfully M.Key.is_clone M.Key.cmp }
+    requires faithful_values { ValuesCloneFaithfully M.Value.is_clone M.Value.eq }
+{
+    let mut map = M::new(rt.alloc());
+    make(&mut map, rt.alloc(), calls)?;
+    laws::insert_changes_its_range_alone(&mut map, range, value)?;
+    map.assert_pairs(rt, pairs)
+}
+
+/// A remove leaves the pairs, where the calls were made before.
+pub fn check_remove<M: InRows<Alloc = Global>, R: AllocGlobal + Abort>(
+    rt: &R,
+    calls: &[Call<M::RowRange, M::RowValue>],
+    range: M::Range,
+    pairs: &[(M::RowRange, M::RowValue)],
+) -> Result<(), Fail>
+    requires non_empty { M.Kind.kind.IsNonEmpty range }
+    requires faithful_keys { KeysCloneFaithfully M.Key.is_clone M.Key.cmp }
+    requires faithful_values { ValuesCloneFaithfully M.Value.is_clone M.Value.eq }
+{
+    let mut map = M::new(rt.alloc());
+    make(&mut map, rt.alloc(), calls)?;
+    laws::remove_changes_its_range_alone(&mut map, range)?;
+    map.assert_pairs(rt, pairs)
+}
+
+/// An insert leaves the pairs, made once or twice.
+pub fn check_twice<M: InRows<Alloc = Global>, R: AllocGlobal + Abort>(
+    rt: &R,
+    calls: &[Call<M::RowRange, M::RowValue>],
+    range: &M::Range,
+    value: &M::Value,
+    pairs: &[(M::RowRange, M::RowValue)],
+) -> Result<(), Fail>
+    requires non_empty { M.Kind.kind.IsNonEmpty range.now }
+    requires faithful_keys { KeysCloneFaithfully M.Key.is_clone M.Key.cmp }
+    requires faithful_values { ValuesCloneFaithfully M.Value.is_clone M.Value.eq }
+{
+    let (mut once, mut twice) = pair_of::<M, R>(rt, calls)?;
+    assert!(rt; laws::equal_exactly_when_alike(&once, &twice));
+    laws::insert_twice_equals_once(&mut once, &mut twice, range, value)?;
+    once.assert_pairs(rt, pairs)?;
+    twice.assert_pairs(rt, pairs)
+}
+
+/// Two inserts with no common key leave the pairs, in either order.
+pub fn check_commute<M: InRows<Alloc = Global>, R: AllocGlobal + Abort>(
+    rt: &R,
+    calls: &[Call<M::RowRange, M::RowValue>],
+    first: (&M::Range, &M::Value),
+    second: (&M::Range, &M::Value),
+    pairs: &[(M::RowRange, M::RowValue)],
+) -> Result<(), Fail>
+    requires first_non_empty { M.Kind.kind.IsNonEmpty first.0.now }
+    requires second_non_empty { M.Kind.kind.IsNonEmpty second.0.now }
+    requires no_common_point { (x : M.Key) → M.Kind.kind.is_key x → (M.Kind.kind.holds first.0.now x && M.Kind.kind.holds second.0.now x) ≡ false }
+    requires faithful_keys { KeysCloneFaithfully M.Key.is_clone M.Key.cmp }
+    requires faithful_values { ValuesCloneFaithfully M.Value.is_clone M.Value.eq }
+{
+    let (mut forth, mut back) = pair_of::<M, R>(rt, calls)?;
+    assert!(rt; laws::equal_exactly_when_alike(&forth, &back));
+    laws::inserts_commute(&mut forth, &mut back, first, second)?;
+    forth.assert_pairs(rt, pairs)?;
+    back.assert_pairs(rt, pairs)
+}
+
+/// A remove leaves the pairs, whether or not its range was inserted before it.
+pub fn check_taken_back<M: InRows<Alloc = Global>, R: AllocGlobal + Abort>(
+    rt: &R,
+    calls: &[Call<M::RowRange, M::RowValue>],
+    range: &M::Range,
+    value: &M::Value,
+    pairs: &[(M::RowRange, M::RowValue)],
+) -> Result<(), Fail>
+    requires non_empty { M.Kind.kind.IsNonEmpty range.now }
+    requires faithful_keys { KeysCloneFaithfully M.Key.is_clone M.Key.cmp }
+    requires faithful_values { ValuesCloneFaithfully M.Value.is_clone M.Value.eq }
+{
+    let (mut changed, mut removed) = pair_of::<M, R>(rt, calls)?;
+    assert!(rt; laws::equal_exactly_when_alike(&changed, &removed));
+    laws::remove_after_insert_equals_remove(&mut changed, &mut removed, range, value)?;
+    changed.assert_pairs(rt, pairs)?;
+    removed.assert_pairs(rt, pairs)
+}
+
+/// The gaps of the range are those of the row.
+pub fn check_gaps<M: InRows<Alloc = Global>, R: AllocGlobal + Abort>(
+    rt: &R,
+    calls: &[Call<M::RowRange, M::RowValue>],
+    outer_range: &M::Range,
+    expected: &[M::RowRange],
+) -> Result<(), Fail>
+    requires faithful_keys { KeysCloneFaithfully M.Key.is_clone M.Key.cmp }
+    requires faithful_values { ValuesCloneFaithfully M.Value.is_clone M.Value.eq }
+{
+    let mut map = M::new(rt.alloc());
+    make(&mut map, rt.alloc(), calls)?;
+    let gaps = laws::gaps_and_covered_keys_make_up_a_range(rt.alloc(), &map, outer_range)?;
+    assert_eq!(rt; gaps.len(), expected.len());
+    for (gap, row) in gaps.iter().zip(expected) {
+        M::assert_range(rt, gap, row)?;
+    }
+    Ok(())
+}
+
+type Map = RangeMap<u32, char, Global>;
+
+#[test]
+fn equal_maps_are_alike(rt: HostRuntime) -> Result<(), Fail> {
+    check_alike::<Map, _>(&rt, &[Insert(0..10, 'a'), Insert(3..6, 'b')], 3..5, 'a')
+}
+
 #[test]
 fn a_change_changes_its_range_alone(rt: HostRuntime) -> Result<(), Fail> {
-    let (mut map, _) = pair_of(&rt, &[Insert(0..10, 'a')])?;
-    laws::insert_changes_its_range_alone(&mut map, 3..6, 'b')?;
-    assert_pairs(&rt, &map, &[(0..3, 'a'), (3..6, 'b'), (6..10, 'a')])?;
-    laws::remove_changes_its_range_alone(&mut map, 2..7)?;
-    assert_pairs(&rt, &map, &[(0..2, 'a'), (7..10, 'a')])
+    let inserted = [(0..3, 'a'), (3..6, 'b'), (6..10, 'a')];
+    check_insert::<Map, _>(&rt, &[Insert(0..10, 'a')], 3..6, 'b', &inserted)?;
+    let calls = [Insert(0..10, 'a'), Insert(3..6, 'b')];
+    check_remove::<Map, _>(&rt, &calls, 2..7, &[(0..2, 'a'), (7..10, 'a')])
 }
 
 #[test]
 fn the_same_insert_twice_equals_once(rt: HostRuntime) -> Result<(), Fail> {
-    let (mut once, mut twice) = pair_of(&rt, &[Insert(0..10, 'a')])?;
-    assert!(rt; once == twice);
-    laws::insert_twice_equals_once(&mut once, &mut twice, &(3..6), &'b')?;
-    assert_pairs(&rt, &once, &[(0..3, 'a'), (3..6, 'b'), (6..10, 'a')])?;
-    assert_pairs(&rt, &twice, &[(0..3, 'a'), (3..6, 'b'), (6..10, 'a')])
+    let pairs = [(0..3, 'a'), (3..6, 'b'), (6..10, 'a')];
+    check_twice::<Map, _>(&rt, &[Insert(0..10, 'a')], &(3..6), &'b', &pairs)
 }
 
 #[test]
 fn inserts_with_no_common_key_commute(rt: HostRuntime) -> Result<(), Fail> {
-    let (mut forth, mut back) = pair_of(&rt, &[Insert(0..10, 'a')])?;
-    assert!(rt; forth == back);
-    laws::inserts_commute(&mut forth, &mut back, (&(2..4), &'b'), (&(4..12), &'b'))?;
-    assert_pairs(&rt, &forth, &[(0..2, 'a'), (2..12, 'b')])?;
-    assert_pairs(&rt, &back, &[(0..2, 'a'), (2..12, 'b')])
+    let pairs = [(0..2, 'a'), (2..12, 'b')];
+    let (first, second) = (2..4, 4..12);
+    check_commute::<Map, _>(
+        &rt,
+        &[Insert(0..10, 'a')],
+        (&first, &'b'),
+        (&second, &'b'),
+        &pairs,
+    )
 }
 
 #[test]
 fn a_remove_takes_back_an_insert(rt: HostRuntime) -> Result<(), Fail> {
-    let (mut changed, mut removed) = pair_of(&rt, &[Insert(0..10, 'a')])?;
-    assert!(rt; changed == removed);
-    laws::remove_after_insert_equals_remove(&mut changed, &mut removed, &(3..6), &'b')?;
-    assert_pairs(&rt, &changed, &[(0..3, 'a'), (6..10, 'a')])?;
-    assert_pairs(&rt, &removed, &[(0..3, 'a'), (6..10, 'a')])
+    let pairs = [(0..3, 'a'), (6..10, 'a')];
+    check_taken_back::<Map, _>(&rt, &[Insert(0..10, 'a')], &(3..6), &'b', &pairs)
 }
 
 #[test]
 fn gaps_and_covered_keys_make_up_a_range(rt: HostRuntime) -> Result<(), Fail> {
-    let (map, _) = pair_of(&rt, &[Insert(1..3, 'a'), Insert(5..7, 'b')])?;
-    let gaps = laws::gaps_and_covered_keys_make_up_a_range(rt.alloc(), &map, &(0..8))?;
-    assert_eq!(rt; gaps.as_slice(), [0..1, 3..5, 7..8].as_slice());
-    Ok(())
+    let calls = [Insert(1..3, 'a'), Insert(5..7, 'b')];
+    check_gaps::<Map, _>(&rt, &calls, &(0..8), &[0..1, 3..5, 7..8])
 }

@@ -5,6 +5,8 @@
 #![tactic(auto)]
 
 #[cfg(test)]
+mod closed;
+#[cfg(test)]
 mod collections;
 #[cfg(test)]
 mod inserts;
@@ -22,3 +24,5 @@ mod removals;
 mod replays;
 #[cfg(test)]
 mod rows;
+#[cfg(test)]
+mod trials;

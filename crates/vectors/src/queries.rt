@@ -10,7 +10,11 @@ use std::test::Fail;
 type Map = RangeMap<u32, char, Global>;
 
 /// The calls, a query, and the pairs that it overlaps.
-type Overlapped<'a> = (&'a [Call<char>], Range<u32>, &'a [(Range<u32>, char)]);
+type Overlapped<'a> = (
+    &'a [Call<Range<u32>, char>],
+    Range<u32>,
+    &'a [(Range<u32>, char)],
+);
 
 #[test]
 fn what_a_query_overlaps_is_found(rt: HostRuntime) -> Result<(), Fail> {
@@ -29,7 +33,7 @@ fn what_a_query_overlaps_is_found(rt: HostRuntime) -> Result<(), Fail> {
     ];
     for (calls, query, pairs) in &rows {
         let mut map: Map = RangeMap::new(rt.alloc());
-        make(&mut map, calls)?;
+        make(&mut map, rt.alloc(), calls)?;
         let mut found = Vec::new(rt.alloc());
         for (range, value) in map.overlapping(query) {
             found.push((range.start..range.end, *value))?;
@@ -45,6 +49,7 @@ fn overlapping_pairs_come_from_both_ends(rt: HostRuntime) -> Result<(), Fail> {
     let mut map: Map = RangeMap::new(rt.alloc());
     make(
         &mut map,
+        rt.alloc(),
         &[
             Insert(0..2, 'a'),
             Insert(2..4, 'b'),
@@ -65,7 +70,7 @@ fn overlapping_pairs_come_from_both_ends(rt: HostRuntime) -> Result<(), Fail> {
 }
 
 /// The calls, an outer range, and the gaps in it.
-type Gaps<'a> = (&'a [Call<char>], Range<u32>, &'a [Range<u32>]);
+type Gaps<'a> = (&'a [Call<Range<u32>, char>], Range<u32>, &'a [Range<u32>]);
 
 #[test]
 fn what_nothing_covers_is_free(rt: HostRuntime) -> Result<(), Fail> {
@@ -83,7 +88,7 @@ fn what_nothing_covers_is_free(rt: HostRuntime) -> Result<(), Fail> {
     ];
     for (calls, outer_range, gaps) in &rows {
         let mut map: Map = RangeMap::new(rt.alloc());
-        make(&mut map, calls)?;
+        make(&mut map, rt.alloc(), calls)?;
         let mut found = Vec::new(rt.alloc());
         for gap in map.gaps(outer_range) {
             found.push(gap?)?;

@@ -1,13 +1,14 @@
 //! Rows about `remove` and `clear`.
 
 use crate::rows::Call::{self, Clear, Insert, Remove};
-use crate::rows::{assert_pairs, make};
+use crate::rows::{InRows, make};
 use rangemap::RangeMap;
+use std::alloc::Global;
 use std::ops::Range;
 use std::test::Fail;
 
 /// The calls and the pairs that they leave.
-type Row<'a> = (&'a [Call<char>], &'a [(Range<u32>, char)]);
+type Row<'a> = (&'a [Call<Range<u32>, char>], &'a [(Range<u32>, char)]);
 
 #[test]
 fn what_is_removed_is_cut_out(rt: HostRuntime) -> Result<(), Fail> {
@@ -32,9 +33,9 @@ fn what_is_removed_is_cut_out(rt: HostRuntime) -> Result<(), Fail> {
         (&[Insert(0..10, 'a'), Insert(10..20, 'b'), Clear], &[]),
     ];
     for (calls, pairs) in rows {
-        let mut map = RangeMap::new(rt.alloc());
-        make(&mut map, calls)?;
-        assert_pairs(&rt, &map, pairs)?;
+        let mut map: RangeMap<u32, char, Global> = RangeMap::new(rt.alloc());
+        make(&mut map, rt.alloc(), calls)?;
+        map.assert_pairs(&rt, pairs)?;
     }
     Ok(())
 }

@@ -1,8 +1,24 @@
 //! Rows made by `replay`, where every call is accepted, and calls that name no map.
 
-use crate::rows::assert_pairs;
+use crate::rows::InRows;
 use rangemap::map::{Call, replay};
+use std::process::Abort;
 use std::test::Fail;
+
+/// Compares which calls of a replay were accepted, and the maps that it left, with those of a row. A map is of either kind.
+pub fn assert_replayed<M: InRows, R: AllocGlobal + Abort>(
+    rt: &R,
+    answers: (&[bool], &[bool]),
+    maps: &[M],
+    pairs: &[&[(M::RowRange, M::RowValue)]],
+) -> Result<(), Fail> {
+    assert_eq!(rt; answers.0, answers.1);
+    assert_eq!(rt; maps.len(), pairs.len());
+    for (map, pairs) in maps.iter().zip(pairs) {
+        map.assert_pairs(rt, *pairs)?;
+    }
+    Ok(())
+}
 
 #[test]
 fn insert_inside_and_back(rt: HostRuntime) -> Result<(), Fail> {
@@ -21,20 +37,23 @@ fn insert_inside_and_back(rt: HostRuntime) -> Result<(), Fail> {
         },
     ];
     let answers = replay(rt.alloc(), &mut maps, Vec::from_array(rt.alloc(), calls)?)?;
-    assert_eq!(rt; answers.as_slice(), [true; 3].as_slice());
-    let map = maps.get(0).ok_or("one map was made")?;
-    assert_pairs(&rt, map, &[(0..3, false), (3..6, true), (6..10, false)])?;
+    assert_replayed(
+        &rt,
+        (answers.as_slice(), &[true; 3]),
+        maps.as_slice(),
+        &[&[(0..3, false), (3..6, true), (6..10, false)]],
+    )?;
     let calls = [Call::Insert {
         at: 0,
         range: 3u32..6,
         value: false,
     }];
     let answers = replay(rt.alloc(), &mut maps, Vec::from_array(rt.alloc(), calls)?)?;
-    assert_eq!(rt; answers.as_slice(), [true].as_slice());
-    assert_pairs(
+    assert_replayed(
         &rt,
-        maps.get(0).ok_or("it is there still")?,
-        &[(0..10, false)],
+        (answers.as_slice(), &[true]),
+        maps.as_slice(),
+        &[&[(0..10, false)]],
     )
 }
 
@@ -60,11 +79,11 @@ fn two_that_touch(rt: HostRuntime) -> Result<(), Fail> {
         },
     ];
     let answers = replay(rt.alloc(), &mut maps, Vec::from_array(rt.alloc(), calls)?)?;
-    assert_eq!(rt; answers.as_slice(), [true; 4].as_slice());
-    assert_pairs(
+    assert_replayed(
         &rt,
-        maps.get(0).ok_or("one map was made")?,
-        &[(0..7, 'a'), (7..9, 'b')],
+        (answers.as_slice(), &[true; 4]),
+        maps.as_slice(),
+        &[&[(0..7, 'a'), (7..9, 'b')]],
     )
 }
 
@@ -82,11 +101,11 @@ fn remove_inside(rt: HostRuntime) -> Result<(), Fail> {
         Call::Remove { at: 0, range: 4..5 },
     ];
     let answers = replay(rt.alloc(), &mut maps, Vec::from_array(rt.alloc(), calls)?)?;
-    assert_eq!(rt; answers.as_slice(), [true; 4].as_slice());
-    assert_pairs(
+    assert_replayed(
         &rt,
-        maps.get(0).ok_or("one map was made")?,
-        &[(0..3, 'a'), (6..10, 'a')],
+        (answers.as_slice(), &[true; 4]),
+        maps.as_slice(),
+        &[&[(0..3, 'a'), (6..10, 'a')]],
     )
 }
 
@@ -113,19 +132,13 @@ fn maps_of_maps_and_of_pairs(rt: HostRuntime) -> Result<(), Fail> {
         Call::Remove { at: 2, range: 0..1 },
     ];
     let answers = replay(rt.alloc(), &mut maps, Vec::from_array(rt.alloc(), calls)?)?;
-    assert_eq!(rt;
-        answers.as_slice(),
-        [true, true, true, true, false, false, false].as_slice()
-    );
-    assert_eq!(rt; maps.len(), 2);
-    assert_pairs(
+    assert_replayed(
         &rt,
-        maps.get(0).ok_or("two maps were made")?,
-        &[(20..30, 'c')],
-    )?;
-    assert_pairs(
-        &rt,
-        maps.get(1).ok_or("two maps were made")?,
-        &[(0..3, 'a'), (3..6, 'b'), (6..10, 'a')],
+        (
+            answers.as_slice(),
+            &[true, true, true, true, false, false, false],
+        ),
+        maps.as_slice(),
+        &[&[(20..30, 'c')], &[(0..3, 'a'), (3..6, 'b'), (6..10, 'a')]],
     )
 }

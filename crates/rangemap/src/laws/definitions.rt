@@ -1,8 +1,8 @@
 //! What the definitions say of small lists, so that a reader can compare them with what is meant.
-ghost use Rattle.std.specs.Prelude.{◌≡◌, ◌∷◌, [], Some as SomeWord, None as NoneWord, nat_eq};
+ghost use Rattle.std.specs.Prelude.{◌≡◌, ◌∷◌, [], ℕ, Some as SomeWord, None as NoneWord, nat_eq};
 ghost use Rattle.std.specs.Ordering.{nat_cmp};
-ghost use Rattle.rangemap.specs.Ranges.{AreGaps, IsCanonOf, IsCanonical, covering, erase, half_open, overlapped, override, value_at};
-ghost use Rattle.rangemap.specs.Rows.{one_pair, range, three_pairs};
+ghost use Rattle.rangemap.specs.Ranges.{AreGaps, IsCanonOf, IsCanonical, closed, covering, erase, half_open, overlapped, override, value_at};
+ghost use Rattle.rangemap.specs.Rows.{bytes, inclusive, iterated, one_pair, range, three_pairs};
 
 /// Which lists are canonical: `three_pairs` is (0..3, 1), (3..6, 2), (6..10, 1). A list is none whose ranges touch with equal
 /// values, overlap, stand in another order or are empty.
@@ -42,4 +42,28 @@ pub fn gap_rows()
     ensures gaps { AreGaps (half_open nat_cmp) (range 1 3 ∷ range 5 7 ∷ []) (range 0 8) (range 0 1 ∷ range 3 5 ∷ range 7 8 ∷ []) }
     ensures touching { AreGaps (half_open nat_cmp) (range 0 2 ∷ range 2 4 ∷ []) (range 0 4) [] }
     ensures reversed { AreGaps (half_open nat_cmp) (range 1 3 ∷ range 5 7 ∷ []) (range 8 0) [] }
+{}
+
+/// Which closed ranges touch and are empty, over bytes: two touch where no key lies between, and one that was iterated to its
+/// end is empty. Which lists of them are canonical.
+pub fn closed_rows()
+    ensures touch { bytes.Touches (inclusive 0 4) (inclusive 5 9) }
+    ensures gap { ¬ (bytes.Touches (inclusive 0 4) (inclusive 6 9)) }
+    ensures one_key { bytes.IsNonEmpty (inclusive 7 7) }
+    ensures reversed { ¬ (bytes.IsNonEmpty (inclusive 8 7)) }
+    ensures exhausted { ¬ (bytes.IsNonEmpty (iterated 0 4)) }
+    ensures touching { ¬ (IsCanonical bytes nat_eq ((inclusive 0 4, 1) ∷ (inclusive 5 9, 1) ∷ [])) }
+    ensures apart { IsCanonical bytes nat_eq ((inclusive 0 4, 1) ∷ (inclusive 6 9, 1) ∷ []) }
+    ensures past_the_keys { ¬ (IsCanonical bytes nat_eq ((inclusive 0 256, 1) ∷ [])) }
+{}
+
+/// Which pairs of closed ranges a query meets, a reversed one too, and the gaps that they leave: up to the last key, and of a
+/// single key.
+pub fn closed_query_rows()
+    ensures last_point { covering {V = ℕ} bytes ((inclusive 0 9, 1) ∷ []) 9 ≡ SomeWord (inclusive 0 9, 1) }
+    ensures met_by_reversed { overlapped {V = ℕ} bytes ((inclusive 3 8, 1) ∷ []) (inclusive 6 4) ≡ (inclusive 3 8, 1) ∷ [] }
+    ensures beside { overlapped {V = ℕ} bytes ((inclusive 5 8, 1) ∷ []) (inclusive 6 4) ≡ [] }
+    ensures gaps { AreGaps bytes (inclusive 0 9 ∷ inclusive 250 255 ∷ []) (inclusive 0 255) (inclusive 10 249 ∷ []) }
+    ensures gap_of_one_key { AreGaps bytes (inclusive 0 9 ∷ []) (inclusive 10 10) (inclusive 10 10 ∷ []) }
+    ensures no_gap { AreGaps bytes (inclusive 0 9 ∷ inclusive 10 255 ∷ []) (inclusive 0 255) [] }
 {}

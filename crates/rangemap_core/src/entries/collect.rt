@@ -3,7 +3,7 @@ ghost use Rattle.std.specs.Prelude.{◌≡◌, List, IfOk, true};
 ghost use Rattle.std.specs.Iterator.{Drains, ExtendsWithItems, IsFiniteIterable};
 ghost use Rattle.rangemap_core.specs.Clones.{KeysCloneFaithfully, ValuesCloneFaithfully};
 ghost use Rattle.rangemap_core.specs.Incoming.{GivesNonEmpty};
-ghost use Rattle.rangemap_core.specs.Ranges.{IsCanonOf, IsCanonical, IsStorable, Overrides, nothing, override_all, same_pair, same_pairs, value_at};
+ghost use Rattle.rangemap_core.specs.Ranges.{AreNonEmpty, IsCanonOf, IsCanonical, IsStorable, Overrides, nothing, override_all, same_pair, same_pairs, value_at};
 
 use super::Entries;
 use crate::into_iter::IntoIter;
@@ -77,6 +77,20 @@ impl<Q: Kind<K, R>, K: Ord + Clone, R: Drop, V: Eq + Clone, A: Allocator> Entrie
         let mut all = Entries::new(alloc);
         all.extend(iter)?;
         Ok(all)
+    }
+
+    /// The pairs of an array, inserted in their order, in memory of `alloc`. `Err` says that an insert was refused, or the
+    /// memory through which the array is read, or a clone of `alloc`.
+    pub fn from_array<const N: usize>(alloc: A, pairs: [(R, V); N]) -> Result<Self, AllocError>
+    where
+        A: Clone,
+        requires non_empty { AreNonEmpty Q.kind pairs }
+        requires faithful_keys { KeysCloneFaithfully K.is_clone K.cmp }
+        requires faithful_values { ValuesCloneFaithfully V.is_clone V.eq }
+        ensures { IfOk result (λ all. IsCanonOf Q.kind V.eq (override_all Q.kind nothing pairs) all) }
+    {
+        let pairs = Vec::from_array(alloc.clone()?, pairs)?;
+        Entries::from_iter(alloc, pairs)
     }
 }
 

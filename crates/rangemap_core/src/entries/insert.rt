@@ -9,7 +9,7 @@ ghost use Rattle.rangemap_core.specs.Stretch.{are_apart, taken_or_new, IsStretch
 use super::Entries;
 use crate::kind::{Edge, Kind};
 use crate::near::{Test, partition_point_near};
-use crate::search::starts_up_to;
+use crate::search::{near_end, starts_up_to};
 use crate::stretch::replace_stretch;
 use std::alloc::{AllocError, Allocator};
 use std::cmp::Ordering;
@@ -29,8 +29,9 @@ impl<Q: Kind<K, R>, K: Ord + Clone, R: Drop, V: Eq + Clone, A: Allocator> Entrie
     /// that overlap it are cut down to what lies outside. `Err` says that a clone or the growth of the list was refused: each is
     /// made before the first change, so nothing changed then.
     ///
-    /// Of n pairs it takes two searches, as `covering` makes one, a few looks beside what they find, and at most one move of
-    /// the pairs behind the place. An insert behind all others, which adds one pair, moves none.
+    /// Of n pairs it takes a search, as `covering` makes one, and a second one where it meets more than four pairs, a few looks
+    /// beside what they find, and at most one move of the pairs behind the place. An insert behind all others, which adds one
+    /// pair, moves none.
     pub fn insert(&mut self, range: R, value: V) -> Result<(), AllocError>
         requires canonical { IsCanonical Q.kind V.eq self.old }
         requires range { IsStorable Q.kind range }
@@ -55,10 +56,11 @@ impl<Q: Kind<K, R>, K: Ord + Clone, R: Drop, V: Eq + Clone, A: Allocator> Entrie
         )
     }
 
-    // The places of the pairs that overlap the new one or are to be joined with it. Each is found by a search among the
-    // starts, and a step or two from there. Of the pairs that start no later than the new one, only the last can reach past its
-    // start, and only the one before that can touch it there. Of those that start no later than its end, only the last can
-    // start at its end, and only the next one can touch it from behind.
+    // The places of the pairs that overlap the new one or are to be joined with it. The start is found by a search among the
+    // starts, and a step or two from there: of the pairs that start no later than the new one, only the last can reach past its
+    // start, and only the one before that can touch it there. The end is looked for from the start, and by a search only where
+    // that is far: of those that start no later than its end, only the last can start at its end, and only the next one can
+    // touch it from behind.
     fn stretch(&self, range: &R, value: &V) -> (usize, usize)
         requires canonical { IsCanonical Q.kind V.eq self.now }
         requires range { IsStorable Q.kind range.now }
@@ -77,8 +79,8 @@ impl<Q: Kind<K, R>, K: Ord + Clone, R: Drop, V: Eq + Clone, A: Allocator> Entrie
             value,
             kind: PhantomData,
         };
-        let (near_end, _) = starts_up_to::<Q, K, R, V>(pairs, Q::end(range));
-        let end = partition_point_near(pairs, &reach, near_end);
+        let near = near_end::<Q, K, R, V, _>(pairs, &reach, start, Q::end(range));
+        let end = partition_point_near(pairs, &reach, near);
         (start, end)
     }
 

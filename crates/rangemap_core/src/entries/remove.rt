@@ -9,7 +9,7 @@ ghost use Rattle.rangemap_core.specs.Stretch.{Every, IsOverlap, IsLeftRest, IsRi
 use super::Entries;
 use crate::kind::{Edge, Kind};
 use crate::near::{Test, partition_point_near};
-use crate::search::starts_up_to;
+use crate::search::{near_end, starts_up_to};
 use crate::stretch::replace_stretch;
 use std::alloc::{AllocError, Allocator};
 use std::cmp::Ordering;
@@ -40,9 +40,10 @@ impl<Q: Kind<K, R>, K: Ord + Clone, R: Drop, V: Eq + Clone, A: Allocator> Entrie
         replace_stretch(&mut self.pairs, start, end, left, None, right)
     }
 
-    // The places of the pairs that share a key with the range. Each is found by a search among the starts, and at most one step
-    // back: of the pairs that start no later than the range, only the last can reach past its start, and of those that start no
-    // later than its end, only the last can start at its end.
+    // The places of the pairs that share a key with the range. The start is found by a search among the starts, and at most one
+    // step back: of the pairs that start no later than the range, only the last can reach past its start. The end is looked for
+    // from the start, and by a search only where that is far: of those that start no later than its end, only the last can start
+    // at its end.
     fn overlap(&self, range: &R) -> (usize, usize)
         requires canonical { IsCanonical Q.kind V.eq self.now }
         requires range { IsStorable Q.kind range.now }
@@ -59,8 +60,8 @@ impl<Q: Kind<K, R>, K: Ord + Clone, R: Drop, V: Eq + Clone, A: Allocator> Entrie
             range,
             kind: PhantomData,
         };
-        let (near_end, _) = starts_up_to::<Q, K, R, V>(pairs, Q::end(range));
-        let end = partition_point_near(pairs, &within, near_end);
+        let near = near_end::<Q, K, R, V, _>(pairs, &within, start, Q::end(range));
+        let end = partition_point_near(pairs, &within, near);
         (start, end)
     }
 

@@ -1,12 +1,13 @@
 //! The run of any calls that make or change maps: what the pairs of a map come from.
-ghost use Rattle.std.specs.Prelude.{◌≡◌, ◌+◌, ◌<◌, ◌≤◌, [], ◌∷◌, ◌++◌, IfOk, OnErr, vec_len, vec_capacity};
+ghost use Rattle.std.specs.Prelude.{◌≡◌, IfOk, OnErr};
 ghost use Rattle.std.specs.List.{AllByRecursion};
 ghost use Rattle.rangemap_core.specs.Clones.{KeysCloneFaithfully, ValuesCloneFaithfully};
-ghost use Rattle.rangemap_core.specs.Histories.{HasNonEmptyRanges, Makes, MakesAll};
-ghost use Rattle.rangemap_core.specs.Ranges.{AreNonEmpty, half_open};
+ghost use Rattle.rangemap_core.specs.Histories.{HasNonEmptyRanges, MakesAll};
+ghost use Rattle.rangemap_core.specs.Ranges.{half_open};
 
 use super::RangeMap;
 use crate::calls::Call;
+use crate::replay;
 use std::alloc::{AllocError, Allocator};
 use std::ops::Range;
 
@@ -42,179 +43,5 @@ pub fn replay<K: Ord + Clone, V: Eq + Clone, A: Allocator + Clone>(
     ensures ok { IfOk result (λ answers. MakesAll (half_open K.cmp) V.eq maps.old.items calls.items answers.items maps.new.items) }
     ensures err { OnErr result (maps.new.items ≡ maps.old.items) }
 {
-    let count = calls.len();
-    maps.reserve(count)?;
-    let mut answers = Vec::with_capacity(alloc.clone()?, count)?;
-    let mut allocators = Vec::with_capacity(alloc.clone()?, count)?;
-    for _ in 0..count {
-        allocators.push(alloc.clone()?)?;
-    }
-    make_all(allocators, maps, calls, &mut answers);
-    Ok(answers)
-}
-
-// Makes the calls, for which there is room, with an allocator for each.
-fn make_all<K: Ord + Clone, V: Eq + Clone, A: Allocator + Clone>(
-    mut allocators: Vec<A, A>,
-    maps: &mut Vec<RangeMap<K, V, A>, A>,
-    calls: Vec<Call<Range<K>, V, A>, A>,
-    answers: &mut Vec<bool, A>,
-)
-    requires allocators { vec_len allocators ≡ vec_len calls }
-    requires room { vec_len maps.old + vec_len calls ≤ vec_capacity maps.old }
-    requires room_for_answers { vec_len calls ≤ vec_capacity answers.old }
-    requires no_answers { answers.old.items ≡ [] }
-    requires non_empty { AllByRecursion (HasNonEmptyRanges (half_open K.cmp)) calls.items }
-    requires faithful_keys { KeysCloneFaithfully K.is_clone K.cmp }
-    requires faithful_values { ValuesCloneFaithfully V.is_clone V.eq }
-    ensures { MakesAll (half_open K.cmp) V.eq maps.old.items calls.items answers.new.items maps.new.items }
-{
-    for call in calls {
-        let accepted = match allocators.pop() {
-            Some(alloc) => make(alloc, maps, call),
-            None => unreachable!(),
-        };
-        answers.push_reserved(accepted);
-    }
-}
-
-// Makes one call, and answers whether it was accepted.
-fn make<K: Ord + Clone, V: Eq + Clone, A: Allocator + Clone>(
-    alloc: A,
-    maps: &mut Vec<RangeMap<K, V, A>, A>,
-    call: Call<Range<K>, V, A>,
-) -> bool
-    requires room { vec_len maps.old < vec_capacity maps.old }
-    requires non_empty { HasNonEmptyRanges (half_open K.cmp) call }
-    requires faithful_keys { KeysCloneFaithfully K.is_clone K.cmp }
-    requires faithful_values { ValuesCloneFaithfully V.is_clone V.eq }
-    ensures made { Makes (half_open K.cmp) V.eq maps.old.items call result maps.new.items }
-    ensures len { vec_len maps.new ≤ vec_len maps.old + 1 }
-    ensures capacity { vec_capacity maps.old ≤ vec_capacity maps.new }
-{
-    match call {
-        Call::New => {
-            maps.push_reserved(RangeMap::new(alloc));
-            true
-        }
-        Call::Insert { at, range, value } => insert_at(maps, at, range, value),
-        Call::Remove { at, range } => remove_at(maps, at, range),
-        Call::Clear { at } => clear_at(maps, at),
-        Call::Clone { at } => add_clone(maps, at),
-        Call::FromIter { pairs } => add_from_iter(alloc, maps, pairs),
-        Call::Extend { at, pairs } => extend_at(maps, at, pairs),
-    }
-}
-
-fn insert_at<K: Ord + Clone, V: Eq + Clone, A: Allocator>(
-    maps: &mut Vec<RangeMap<K, V, A>, A>,
-    at: usize,
-    range: Range<K>,
-    value: V,
-) -> bool
-    requires non_empty { (half_open K.cmp).IsNonEmpty range }
-    requires faithful_keys { KeysCloneFaithfully K.is_clone K.cmp }
-    requires faithful_values { ValuesCloneFaithfully V.is_clone V.eq }
-    ensures made { Makes {A = A} (half_open K.cmp) V.eq maps.old.items (Call.Insert at range value) result maps.new.items }
-    ensures len { vec_len maps.new ≤ vec_len maps.old + 1 }
-    ensures capacity { vec_capacity maps.old ≤ vec_capacity maps.new }
-{
-    match maps.get_mut(at) {
-        Some(map) => map.insert(range, value).is_ok(),
-        None => false,
-    }
-}
-
-fn remove_at<K: Ord + Clone, V: Eq + Clone, A: Allocator>(
-    maps: &mut Vec<RangeMap<K, V, A>, A>,
-    at: usize,
-    range: Range<K>,
-) -> bool
-    requires non_empty { (half_open K.cmp).IsNonEmpty range }
-    requires faithful_keys { KeysCloneFaithfully K.is_clone K.cmp }
-    requires faithful_values { ValuesCloneFaithfully V.is_clone V.eq }
-    ensures made { Makes {A = A} (half_open K.cmp) V.eq maps.old.items (Call.Remove at range) result maps.new.items }
-    ensures len { vec_len maps.new ≤ vec_len maps.old + 1 }
-    ensures capacity { vec_capacity maps.old ≤ vec_capacity maps.new }
-{
-    match maps.get_mut(at) {
-        Some(map) => map.remove(range).is_ok(),
-        None => false,
-    }
-}
-
-fn clear_at<K: Ord + Clone, V: Eq + Clone, A: Allocator>(
-    maps: &mut Vec<RangeMap<K, V, A>, A>,
-    at: usize,
-) -> bool
-    ensures made { Makes {A = A} (half_open K.cmp) V.eq maps.old.items (Call.Clear at) result maps.new.items }
-    ensures len { vec_len maps.new ≤ vec_len maps.old + 1 }
-    ensures capacity { vec_capacity maps.old ≤ vec_capacity maps.new }
-{
-    match maps.get_mut(at) {
-        Some(map) => {
-            map.clear();
-            true
-        }
-        None => false,
-    }
-}
-
-fn extend_at<K: Ord + Clone, V: Eq + Clone, A: Allocator>(
-    maps: &mut Vec<RangeMap<K, V, A>, A>,
-    at: usize,
-    pairs: Vec<(Range<K>, V), A>,
-) -> bool
-    requires non_empty { AreNonEmpty (half_open K.cmp) pairs.items }
-    requires faithful_keys { KeysCloneFaithfully K.is_clone K.cmp }
-    requires faithful_values { ValuesCloneFaithfully V.is_clone V.eq }
-    ensures made { Makes (half_open K.cmp) V.eq maps.old.items (Call.Extend at pairs) result maps.new.items }
-    ensures len { vec_len maps.new ≤ vec_len maps.old + 1 }
-    ensures capacity { vec_capacity maps.old ≤ vec_capacity maps.new }
-{
-    match maps.get_mut(at) {
-        Some(map) => map.extend(pairs).is_ok(),
-        None => false,
-    }
-}
-
-fn add_clone<K: Ord + Clone, V: Eq + Clone, A: Allocator + Clone>(
-    maps: &mut Vec<RangeMap<K, V, A>, A>,
-    at: usize,
-) -> bool
-    requires room { vec_len maps.old < vec_capacity maps.old }
-    requires faithful_keys { KeysCloneFaithfully K.is_clone K.cmp }
-    requires faithful_values { ValuesCloneFaithfully V.is_clone V.eq }
-    ensures made { Makes {A = A} (half_open K.cmp) V.eq maps.old.items (Call.Clone at) result maps.new.items }
-    ensures len { vec_len maps.new ≤ vec_len maps.old + 1 }
-    ensures capacity { vec_capacity maps.old ≤ vec_capacity maps.new }
-{
-    let Some(map) = maps.get(at) else {
-        return false;
-    };
-    let Ok(copy) = map.clone() else {
-        return false;
-    };
-    maps.push_reserved(copy);
-    true
-}
-
-fn add_from_iter<K: Ord + Clone, V: Eq + Clone, A: Allocator>(
-    alloc: A,
-    maps: &mut Vec<RangeMap<K, V, A>, A>,
-    pairs: Vec<(Range<K>, V), A>,
-) -> bool
-    requires room { vec_len maps.old < vec_capacity maps.old }
-    requires non_empty { AreNonEmpty (half_open K.cmp) pairs.items }
-    requires faithful_keys { KeysCloneFaithfully K.is_clone K.cmp }
-    requires faithful_values { ValuesCloneFaithfully V.is_clone V.eq }
-    ensures made { Makes (half_open K.cmp) V.eq maps.old.items (Call.FromIter pairs) result maps.new.items }
-    ensures len { vec_len maps.new ≤ vec_len maps.old + 1 }
-    ensures capacity { vec_capacity maps.old ≤ vec_capacity maps.new }
-{
-    let Ok(map) = RangeMap::from_iter(alloc, pairs) else {
-        return false;
-    };
-    maps.push_reserved(map);
-    true
+    replay::replay(alloc, maps, calls)
 }

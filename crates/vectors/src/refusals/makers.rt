@@ -6,13 +6,16 @@ ghost use Rattle.rangemap.specs.Clones.{KeysCloneFaithfully, ValuesCloneFaithful
 ghost use Rattle.rangemap.specs.Histories.{HasNonEmptyRanges};
 ghost use Rattle.rangemap.specs.Ranges.{AreNonEmpty, half_open};
 
-use super::{Heap, MANY, Text, Texts, assert_texts, make_texts};
-use crate::rows::filled;
+use super::{Text, Texts};
+use crate::rows::{InRows, filled};
+use crate::trials::maps::{is_made, is_made_of_three, try_clone};
+use crate::trials::{Answer, Heap, MANY, Trial, count_refusals, replays};
 use rangemap::RangeMap;
 use rangemap::map::{Call, replay};
 use refusing::Refusing;
 use std::alloc::{AllocError, Allocator};
 use std::ops::Range;
+use std::process::Abort;
 use std::test::Fail;
 
 /// What is given to the calls here.
@@ -51,20 +54,16 @@ fn insert_each<'a>(map: &mut Texts<'a>, pairs: Pairs<'a>) -> Result<(), Fail> {
     Ok(())
 }
 
-/// How many requests the insert of the row's first pair makes.
-fn requests_of_the_first<R: AllocGlobal>(rt: &R) -> Result<u64, Fail> {
-    let mut requests = 0;
-    for left in 0..MANY {
-        let heap = Refusing::new(rt.alloc(), MANY);
-        let mut map: Texts<'_> = RangeMap::new(&heap);
-        let value = String::from_str(&heap, "a")?;
+/// The insert of the row's first pair.
+struct FirstInsert;
+
+impl Trial for FirstInsert {
+    fn is_accepted<R: AllocGlobal + Abort>(&self, _rt: &R, heap: &Heap, left: u64) -> Answer {
+        let mut map: Texts<'_> = RangeMap::new(heap);
+        let value = String::from_str(heap, "a")?;
         heap.refuse_after(left);
-        if map.insert(0..10, value).is_ok() {
-            requests = left;
-            break;
-        }
+        Ok(map.insert(0..10, value).is_ok())
     }
-    Ok(requests)
 }
 
 #[test]
@@ -72,75 +71,74 @@ fn a_refused_extend_stops_before_the_refused_pair(rt: HostRuntime) -> Result<(),
     let heap = Refusing::new(rt.alloc(), MANY);
     let mut map: Texts<'_> = RangeMap::new(&heap);
     let pairs = row(&heap)?;
-    heap.refuse_after(requests_of_the_first(&rt)?);
+    heap.refuse_after(count_refusals(&rt, &FirstInsert)?);
     assert_eq!(rt; extend(&mut map, pairs), Err(AllocError));
     heap.refuse_after(MANY);
-    assert_texts(&rt, &map, &[(0..10, "a")])
+    map.assert_pairs(&rt, &[(0..10, "a")])
 }
 
-#[test]
-fn an_extend_keeps_what_the_inserts_keep(rt: HostRuntime) -> Result<(), Fail> {
-    let mut refusals = 0u64;
-    for left in 0..MANY {
-        let heap = Refusing::new(rt.alloc(), MANY);
-        let mut inserted: Texts<'_> = RangeMap::new(&heap);
-        let mut extended: Texts<'_> = RangeMap::new(&heap);
-        let pairs = row(&heap)?;
+/// An extend by the row, beside the inserts of its pairs.
+struct Extending;
+
+impl Trial for Extending {
+    fn is_accepted<R: AllocGlobal + Abort>(&self, rt: &R, heap: &Heap, left: u64) -> Answer {
+        let mut inserted: Texts<'_> = RangeMap::new(heap);
+        let mut extended: Texts<'_> = RangeMap::new(heap);
+        let pairs = row(heap)?;
         heap.refuse_after(left);
         insert_each(&mut inserted, pairs)?;
         heap.refuse_after(MANY);
-        let pairs = row(&heap)?;
+        let pairs = row(heap)?;
         heap.refuse_after(left);
         let answer = extend(&mut extended, pairs);
         heap.refuse_after(MANY);
         assert!(rt; extended == inserted, "refused after {left} requests");
-        if answer.is_ok() {
-            break;
-        }
-        refusals = left.saturating_add(1);
+        Ok(answer.is_ok())
     }
+}
+
+#[test]
+fn an_extend_keeps_what_the_inserts_keep(rt: HostRuntime) -> Result<(), Fail> {
+    let refusals = count_refusals(&rt, &Extending)?;
     assert!(rt; refusals >= 3, "refused {refusals} times");
     Ok(())
 }
 
+/// A clone of a map of three pairs.
+struct Clones;
+
+impl Trial for Clones {
+    fn is_accepted<R: AllocGlobal + Abort>(&self, rt: &R, heap: &Heap, left: u64) -> Answer {
+        let stored = [(0..3, "a"), (3..6, "b"), (6..10, "a")];
+        try_clone::<R, Texts<'_>>(rt, heap, &stored, left)
+    }
+}
+
 #[test]
 fn a_refused_clone_changes_nothing(rt: HostRuntime) -> Result<(), Fail> {
-    let stored = [(0..3, "a"), (3..6, "b"), (6..10, "a")];
-    let mut refusals = 0u64;
-    for left in 0..MANY {
-        let heap = Refusing::new(rt.alloc(), MANY);
-        let map = make_texts(&heap, &stored)?;
-        heap.refuse_after(left);
-        let answer = map.clone();
-        heap.refuse_after(MANY);
-        assert_texts(&rt, &map, &stored)?;
-        if let Ok(copy) = answer {
-            assert_texts(&rt, &copy, &stored)?;
-            break;
-        }
-        refusals = left.saturating_add(1);
-    }
+    let refusals = count_refusals(&rt, &Clones)?;
     // the list, and three texts
     assert!(rt; refusals >= 4, "refused {refusals} times");
     Ok(())
 }
 
+/// A map made of two pairs.
+struct From;
+
+impl Trial for From {
+    fn is_accepted<R: AllocGlobal + Abort>(&self, rt: &R, heap: &Heap, left: u64) -> Answer {
+        let first = String::from_str(heap, "a")?;
+        let second = String::from_str(heap, "b")?;
+        heap.refuse_after(left);
+        let answer = RangeMap::from(heap, [(0u32..10, first), (3..6, second)]);
+        heap.refuse_after(MANY);
+        is_made(rt, &answer, &[(0..3, "a"), (3..6, "b"), (6..10, "a")])
+    }
+}
+
 #[test]
 fn a_map_of_pairs_may_be_refused(rt: HostRuntime) -> Result<(), Fail> {
-    let mut refusals = 0u64;
-    for left in 0..MANY {
-        let heap = Refusing::new(rt.alloc(), MANY);
-        let first = String::from_str(&heap, "a")?;
-        let second = String::from_str(&heap, "b")?;
-        heap.refuse_after(left);
-        let answer = RangeMap::from(&heap, [(0u32..10, first), (3..6, second)]);
-        heap.refuse_after(MANY);
-        if let Ok(map) = answer {
-            assert_texts(&rt, &map, &[(0..3, "a"), (3..6, "b"), (6..10, "a")])?;
-            break;
-        }
-        refusals = left.saturating_add(1);
-    }
+    let refusals = count_refusals(&rt, &From)?;
     // two lists, and two clones of a text
     assert!(rt; refusals >= 4, "refused {refusals} times");
     Ok(())
@@ -169,43 +167,41 @@ fn calls<'a>(heap: &'a Heap) -> Result<Vec<Call<u32, Text<'a>, &'a Heap>, &'a He
     Ok(Vec::from_array(heap, calls)?)
 }
 
+/// A replay of these calls.
+struct Replay;
+
+impl Trial for Replay {
+    fn is_accepted<R: AllocGlobal + Abort>(&self, rt: &R, heap: &Heap, left: u64) -> Answer {
+        let mut maps: Vec<Texts<'_>, &Heap> = Vec::new(heap);
+        let calls = calls(heap)?;
+        heap.refuse_after(left);
+        let answer = replay(heap, &mut maps, calls);
+        heap.refuse_after(MANY);
+        replays::is_accepted(rt, &answer, maps.as_slice(), left)
+    }
+}
+
 #[test]
 fn a_replay_without_room_changes_nothing(rt: HostRuntime) -> Result<(), Fail> {
-    let mut refusals = 0u64;
-    for left in 0..MANY {
-        let heap = Refusing::new(rt.alloc(), MANY);
-        let mut maps: Vec<Texts<'_>, &Heap> = Vec::new(&heap);
-        let calls = calls(&heap)?;
-        heap.refuse_after(left);
-        let answer = replay(&heap, &mut maps, calls);
-        heap.refuse_after(MANY);
-        let Ok(answers) = answer else {
-            refusals = left.saturating_add(1);
-            assert!(rt; maps.is_empty());
-            continue;
-        };
-        if answers.iter().all(|accepted| *accepted) {
-            break;
-        }
-    }
-    // three lists
+    let refusals = count_refusals(&rt, &Replay)?;
     assert!(rt; refusals >= 3, "refused {refusals} times");
     Ok(())
 }
 
+/// A map made of an iterator.
+struct FromIter;
+
+impl Trial for FromIter {
+    fn is_accepted<R: AllocGlobal + Abort>(&self, rt: &R, heap: &Heap, left: u64) -> Answer {
+        heap.refuse_after(left);
+        let answer = RangeMap::from_iter(heap, (0..3u32).map(|i| (10 * i..10 * i + 5, i)));
+        is_made_of_three(rt, answer.map(|map| (map.len(), map.get(&14).copied())))
+    }
+}
+
 #[test]
 fn a_map_of_an_iterator_may_be_refused(rt: HostRuntime) -> Result<(), Fail> {
-    let mut refusals = 0u64;
-    for left in 0..MANY {
-        let heap = Refusing::new(rt.alloc(), left);
-        let answer = RangeMap::from_iter(&heap, (0..3u32).map(|i| (10 * i..10 * i + 5, i)));
-        if let Ok(map) = answer {
-            assert_eq!(rt; map.len(), 3);
-            assert_eq!(rt; map.get(&14), Some(&1));
-            break;
-        }
-        refusals = left.saturating_add(1);
-    }
+    let refusals = count_refusals(&rt, &FromIter)?;
     assert!(rt; refusals >= 1, "refused {refusals} times");
     Ok(())
 }

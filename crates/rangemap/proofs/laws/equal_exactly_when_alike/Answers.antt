@@ -1,17 +1,19 @@
-use Rattle.rangemap_core.specs.Ranges.{half_open}
-use Rattle.rangemap_core.specs.PlacedKinds.{half_open_placed}
+use Rattle.std.proofs.Common.{◌∙◌}
 use Rattle.rangemap_core.proofs.Unique.{alike_from_same, equal_pairs}
 use Rattle.rangemap.proofs.laws.equal_exactly_when_alike.Goals as goal
 
+pub returns-clause-equal : goal.returns-clause-equal
+returns-clause-equal g c = c.eq.ensures ∙ g.met.M.RangedMap.equal c.args.left.now c.args.right.now
+
 pub returns-clause-alike : goal.returns-clause-alike
 returns-clause-alike g c =
-    let p = half_open_placed g.met.K.Ord.total in
-    let e = g.met.V.Eq.laws in
-    let k = half_open g.K.Ord.cmp in
-    let eq = g.V.PartialEq.eq in
-    let left = c.args.left.now in
-    let right = c.args.right.now in
-    rw c.eq.ensures (
-      alike_from_same k p eq e left right c.iter-left.ensures.canonical c.iter-right.ensures.canonical,
-      equal_pairs k p eq e left right c.iter-left.ensures.canonical c.iter-right.ensures.canonical,
+    let p = g.met.M.Kind.Kind.placed in
+    let e = g.met.M.Value.Eq.laws in
+    let k = g.M.Kind.Kind.kind in
+    let eq = g.M.Value.PartialEq.eq in
+    let left = g.M.RangedMap.pairs c.args.left.now in
+    let right = g.M.RangedMap.pairs c.args.right.now in
+    rw (returns-clause-equal g c) (
+      alike_from_same k p eq e left right c.known.ensures c.known-2.ensures,
+      equal_pairs k p eq e left right c.known.ensures c.known-2.ensures,
     )

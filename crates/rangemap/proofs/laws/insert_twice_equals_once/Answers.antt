@@ -1,20 +1,19 @@
 use Rattle.std.proofs.lemmas.Result.{on_ok_weaker}
-use Rattle.rangemap_core.specs.Ranges.{half_open, override, value_at}
-use Rattle.rangemap_core.specs.PlacedKinds.{half_open_placed}
+use Rattle.rangemap_core.specs.Ranges.{override, value_at}
 use Rattle.rangemap_core.proofs.Canon.{override_of}
 use Rattle.rangemap.proofs.Equal.{equal_after_twice}
 use Rattle.rangemap.proofs.laws.insert_twice_equals_once.Goals as goal
 
 pub returns-clause-equal : goal.returns-clause-equal
 returns-clause-equal g c =
-    let k = half_open g.K.Ord.cmp in
-    let e = g.met.V.Eq.laws in
+    let k = g.M.Kind.Kind.kind in
+    let e = g.met.M.Value.Eq.laws in
     let r = c.args.range.now in
     let v = c.args.value.now in
-    let mid = c.insert_clone-2.new.map in
-    let new = c.insert_clone-3.new.map in
+    let mid = (g.M.RangedMap.pairs c.insert_clone-2.new.map) in
+    let new = (g.M.RangedMap.pairs c.insert_clone-3.new.map) in
     on_ok_weaker c.insert_clone-3.result
-    (λ last. equal_after_twice k (half_open_placed g.met.K.Ord.total) e c.args.once.now c.args.twice.now c.insert_clone.ensures.before c.insert_clone-2.ensures.before c.requires.equal c.insert_clone.new.map new r v
+    (λ last. equal_after_twice k g.met.M.Kind.Kind.placed e (g.M.RangedMap.pairs c.args.once.now) (g.M.RangedMap.pairs c.args.twice.now) c.insert_clone.ensures.before c.insert_clone-2.ensures.before c.requires.equal (g.M.RangedMap.pairs c.insert_clone.new.map) new r v
     c.in_ok-insert_clone.ensures.ok
-    (override_of k e (override k (value_at k c.args.twice.now) r v) r mid new c.in_ok-insert_clone-2.ensures.ok v last))
+    (override_of k e (override k (value_at k (g.M.RangedMap.pairs c.args.twice.now)) r v) r mid new c.in_ok-insert_clone-2.ensures.ok v last))
     c.insert_clone-3.ensures.ok

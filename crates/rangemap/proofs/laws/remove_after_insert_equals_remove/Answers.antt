@@ -1,18 +1,17 @@
 use Rattle.std.proofs.lemmas.Result.{on_ok_weaker}
-use Rattle.rangemap_core.specs.Ranges.{half_open, override, value_at}
-use Rattle.rangemap_core.specs.PlacedKinds.{half_open_placed}
+use Rattle.rangemap_core.specs.Ranges.{override, value_at}
 use Rattle.rangemap_core.proofs.Canon.{erase_of}
 use Rattle.rangemap.proofs.Equal.{equal_after_remove}
 use Rattle.rangemap.proofs.laws.remove_after_insert_equals_remove.Goals as goal
 
 pub returns-clause-equal : goal.returns-clause-equal
 returns-clause-equal g c =
-    let k = half_open g.K.Ord.cmp in
-    let e = g.met.V.Eq.laws in
+    let k = g.M.Kind.Kind.kind in
+    let e = g.met.M.Value.Eq.laws in
     let r = c.args.range.now in
     let v = c.args.value.now in
     on_ok_weaker c.remove_clone-2.result
-    (λ last. equal_after_remove k (half_open_placed g.met.K.Ord.total) e c.args.changed.now c.args.removed.now c.insert_clone.ensures.before c.remove_clone-2.ensures.before c.requires.equal c.remove_clone.new.map c.remove_clone-2.new.map r v
-    (erase_of k e (override k (value_at k c.args.changed.now) r v) r c.insert_clone.new.map c.remove_clone.new.map c.in_ok-insert_clone.ensures.ok c.in_ok-remove_clone.ensures.ok)
+    (λ last. equal_after_remove k g.met.M.Kind.Kind.placed e (g.M.RangedMap.pairs c.args.changed.now) (g.M.RangedMap.pairs c.args.removed.now) c.insert_clone.ensures.before c.remove_clone-2.ensures.before c.requires.equal (g.M.RangedMap.pairs c.remove_clone.new.map) (g.M.RangedMap.pairs c.remove_clone-2.new.map) r v
+    (erase_of k e (override k (value_at k (g.M.RangedMap.pairs c.args.changed.now)) r v) r (g.M.RangedMap.pairs c.insert_clone.new.map) (g.M.RangedMap.pairs c.remove_clone.new.map) c.in_ok-insert_clone.ensures.ok c.in_ok-remove_clone.ensures.ok)
     last)
     c.remove_clone-2.ensures.ok

@@ -6,6 +6,25 @@ use Rattle.rangemap_core.proofs.Pieces.{answered_spans, asked, has_middle, new_i
 use Rattle.rangemap_core.proofs.entries.Entries.middle.Goals as goal
 use Rattle.rangemap_core.proofs.entries.Entries.middle.Goals.{then-takes_first, else-takes_first, then-takes_last, else-takes_last}
 
+pub part-requires-clause-has_part : goal.part-requires-clause-has_part
+part-requires-clause-has_part g c =
+    let p = g.met.Q.Kind.placed in
+    let eq = g.V.PartialEq.eq in
+    let xs = c.args.self.now in
+    let pair : g.row.R.Denot × g.row.V.Denot = (c.args.range, c.args.value.now) in
+    let taken = c.requires.taken in
+    let first : taken_or_new xs c.args.start c.args.takes_first pair ≡ c.if-takes_first.first.now =
+    elim (c.if-takes_first.branch) [
+      | then-takes_first w ↦ taken_is xs c.args.start pair c.args.takes_first w.index.result.now c.if-takes_first.first.now w.if-takes_first.true (rw (← c.self.view_is) w.index.ensures) (omega (arith, taken.first_in_stretch w.if-takes_first.true, taken.in_bounds)) (ap (λ b. b.now) w.first-is)
+      | else-takes_first w ↦ new_is xs c.args.start pair c.args.takes_first c.if-takes_first.first.now w.if-takes_first.false (ap (λ b. b.now) w.first-is)
+    ] in
+    let last : taken_or_new xs (c.args.end - 1) c.args.takes_last pair ≡ c.if-takes_last.last.now =
+    elim (c.if-takes_last.branch) [
+      | then-takes_last w ↦ taken_is xs (c.args.end - 1) pair c.args.takes_last w.index-then-takes_last.result.now c.if-takes_last.last.now w.if-takes_last.true (rw (← c.self.view_is) w.index-then-takes_last.ensures) (omega (arith, taken.last_in_stretch w.if-takes_last.true, taken.in_bounds)) (ap (λ b. b.now) w.last-is)
+      | else-takes_last w ↦ new_is xs (c.args.end - 1) pair c.args.takes_last c.if-takes_last.last.now w.if-takes_last.false (ap (λ b. b.now) w.last-is)
+    ] in
+    rw (← first, ← last) (has_middle p eq xs pair c.args.start c.args.end c.args.takes_first c.args.takes_last taken c.requires.range)
+
 pub returns : goal.returns
 returns g c =
     let k = g.Q.Kind.kind in

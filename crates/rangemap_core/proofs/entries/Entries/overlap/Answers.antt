@@ -23,6 +23,14 @@ partition_point_near-start-requires-clause-applies g c =
     let e = g.met.V.Eq.laws in
     rw (c.as_slice-pairs.ensures.value, c.self.view_is) (λ i d l. (c.requires.range, Every-at (λ (a : g.row.R.Denot × g.row.V.Denot). IsStorable g.Q.Kind.kind a.0) c.args.self.now (all_storable p eq _ c.requires.canonical) i d l))
 
+pub near_end-near-requires-clause-applies : goal.near_end-near-requires-clause-applies
+near_end-near-requires-clause-applies g c =
+    let k = g.Q.Kind.kind in
+    let p = g.met.Q.Kind.placed in
+    let eq = g.V.PartialEq.eq in
+    let e = g.met.V.Eq.laws in
+    rw (c.as_slice-pairs.ensures.value, c.self.view_is) (λ i d l. (c.requires.range, Every-at (λ (a : g.row.R.Denot × g.row.V.Denot). IsStorable g.Q.Kind.kind a.0) c.args.self.now (all_storable p eq _ c.requires.canonical) i d l))
+
 pub partition_point_near-end-requires-clause-parted : goal.partition_point_near-end-requires-clause-parted
 partition_point_near-end-requires-clause-parted g c =
     let k = g.Q.Kind.kind in

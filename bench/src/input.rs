@@ -1,0 +1,105 @@
+//! The inputs, which both sides get.
+
+/// The keys from `start` up to, and without, `end`, and their value.
+#[repr(C)]
+#[derive(Clone, Copy)]
+pub struct Entry {
+    pub start: u64,
+    pub end: u64,
+    pub value: u32,
+    pub pad: u32,
+}
+
+/// The keys from `start` up to, and without, `end`.
+#[repr(C)]
+#[derive(Clone, Copy)]
+pub struct Query {
+    pub start: u64,
+    pub end: u64,
+}
+
+/// How far the starts of ranges in order are apart.
+const SPACING: u64 = 100;
+
+/// `count` ranges in order, which don't touch and cover about half of the keys.
+pub fn in_order(count: usize) -> Vec<Entry> {
+    let mut random = Random(count as u64);
+    let entry = |at: u64| {
+        let start = at * SPACING;
+        let end = start + 1 + random.below(SPACING - 1);
+        Entry {
+            start,
+            end,
+            value: random.next() as u32,
+            pad: 0,
+        }
+    };
+    (0..count as u64).map(entry).collect()
+}
+
+/// The same ranges in a random order.
+pub fn shuffled(count: usize) -> Vec<Entry> {
+    let mut entries = in_order(count);
+    let mut random = Random(count as u64 ^ 77);
+    for at in (1..entries.len()).rev() {
+        entries.swap(at, random.below(at as u64 + 1) as usize);
+    }
+    entries
+}
+
+/// `2 * count` ranges with few values, in a random order over so few keys that about `count` stand in the end.
+pub fn overlapping(count: usize) -> Vec<Entry> {
+    let mut random = Random(count as u64 ^ 4242);
+    let length = 1000;
+    let keys = (count as u64 * length / 2).max(2 * length);
+    let entry = |_| {
+        let start = random.below(keys);
+        let end = start + 1 + random.below(2 * length);
+        Entry {
+            start,
+            end,
+            value: random.below(8) as u32,
+            pad: 0,
+        }
+    };
+    (0..2 * count).map(entry).collect()
+}
+
+/// Queries at random places, of up to `longest` keys, over the keys of `count` ranges in order.
+pub fn queries(count: usize, number: usize, longest: u64) -> Vec<Query> {
+    let mut random = Random(count as u64 ^ longest ^ 99);
+    let query = |_| {
+        let start = random.below(SPACING * count as u64);
+        Query {
+            start,
+            end: start + 1 + random.below(longest),
+        }
+    };
+    (0..number).map(query).collect()
+}
+
+/// Queries that each meet about ten of `count` ranges in order.
+pub fn wide_queries(count: usize, number: usize) -> Vec<Query> {
+    let wide = |query: Query| Query {
+        start: query.start,
+        end: query.start + 10 * SPACING,
+    };
+    queries(count, number, 1).into_iter().map(wide).collect()
+}
+
+// SplitMix64.
+struct Random(u64);
+
+impl Random {
+    fn next(&mut self) -> u64 {
+        self.0 = self.0.wrapping_add(0x9E37_79B9_7F4A_7C15);
+        let mut mixed = self.0;
+        mixed = (mixed ^ (mixed >> 30)).wrapping_mul(0xBF58_476D_1CE4_E5B9);
+        mixed = (mixed ^ (mixed >> 27)).wrapping_mul(0x94D0_49BB_1331_11EB);
+        mixed ^ (mixed >> 31)
+    }
+
+    fn below(&mut self, limit: u64) -> u64 {
+        ((u128::from(self.next()) * u128::from(limit)) >> 64) as u64
+    }
+}

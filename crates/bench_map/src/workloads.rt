@@ -1,0 +1,181 @@
+//! The workloads, over any map.
+
+use crate::digest::followed_by;
+use crate::input::{Entry, Query};
+use crate::store::Store;
+use std::alloc::{AllocError, Global};
+
+/// The map of the entries, inserted in their order. Entries without keys are passed over.
+fn filled<S: Store>(alloc: Global, entries: &[Entry]) -> Result<S, AllocError> {
+    let mut map = S::empty(alloc);
+    for entry in entries {
+        if entry.start < entry.end {
+            map.insert(entry.start, entry.end, entry.value)?;
+        }
+    }
+    Ok(map)
+}
+
+/// The digest of all pairs, in each round.
+pub fn contents<S: Store>(
+    alloc: Global,
+    entries: &[Entry],
+    rounds: u32,
+) -> Result<u64, AllocError> {
+    let map: S = filled(alloc, entries)?;
+    let mut digest = 0u64;
+    for _ in 0..rounds {
+        digest = followed_by(digest, map.digest());
+    }
+    Ok(digest)
+}
+
+/// In each round a new map, and its number of pairs.
+pub fn inserts<S: Store>(alloc: Global, entries: &[Entry], rounds: u32) -> Result<u64, AllocError> {
+    let mut digest = 0u64;
+    for _ in 0..rounds {
+        let map: S = filled(alloc, entries)?;
+        digest = followed_by(digest, map.len() as u64);
+    }
+    Ok(digest)
+}
+
+/// In each round the sum of the values at the starts of the queries.
+pub fn lookups<S: Store>(
+    alloc: Global,
+    entries: &[Entry],
+    queries: &[Query],
+    rounds: u32,
+) -> Result<u64, AllocError> {
+    let map: S = filled(alloc, entries)?;
+    let mut digest = 0u64;
+    for _ in 0..rounds {
+        digest = followed_by(digest, values_sum(&map, queries));
+    }
+    Ok(digest)
+}
+
+fn values_sum<S: Store>(map: &S, queries: &[Query]) -> u64 {
+    let mut sum = 0u64;
+    for query in queries {
+        if let Some(value) = map.value_at(query.start) {
+            sum = sum.wrapping_add(u64::from(value));
+        }
+    }
+    sum
+}
+
+/// In each round a mix of all pairs.
+pub fn iterations<S: Store>(
+    alloc: Global,
+    entries: &[Entry],
+    rounds: u32,
+) -> Result<u64, AllocError> {
+    let map: S = filled(alloc, entries)?;
+    let mut digest = 0u64;
+    for _ in 0..rounds {
+        digest = followed_by(digest, map.mix());
+    }
+    Ok(digest)
+}
+
+/// In each round a clone from which the queries are removed, and the digest of what stays.
+pub fn removals<S: Store>(
+    alloc: Global,
+    entries: &[Entry],
+    queries: &[Query],
+    rounds: u32,
+) -> Result<u64, AllocError> {
+    let map: S = filled(alloc, entries)?;
+    let mut digest = 0u64;
+    for _ in 0..rounds {
+        let rest = without(&map, queries)?;
+        digest = followed_by(digest, rest.digest());
+    }
+    Ok(digest)
+}
+
+// A clone from which the queries are removed.
+fn without<S: Store>(map: &S, queries: &[Query]) -> Result<S, AllocError> {
+    let mut rest = map.copy()?;
+    for query in queries {
+        if query.start < query.end {
+            rest.remove(query.start, query.end)?;
+        }
+    }
+    Ok(rest)
+}
+
+/// In each round the sum of the mixes of the pairs that each query overlaps.
+pub fn overlaps<S: Store>(
+    alloc: Global,
+    entries: &[Entry],
+    queries: &[Query],
+    rounds: u32,
+) -> Result<u64, AllocError> {
+    let map: S = filled(alloc, entries)?;
+    let mut digest = 0u64;
+    for _ in 0..rounds {
+        digest = followed_by(digest, overlaps_sum(&map, queries));
+    }
+    Ok(digest)
+}
+
+fn overlaps_sum<S: Store>(map: &S, queries: &[Query]) -> u64 {
+    let mut sum = 0u64;
+    for query in queries {
+        sum = sum.wrapping_add(map.mix_of_overlapping(query.start, query.end));
+    }
+    sum
+}
+
+/// In each round the sum of the mixes of the gaps in each query.
+pub fn gaps<S: Store>(
+    alloc: Global,
+    entries: &[Entry],
+    queries: &[Query],
+    rounds: u32,
+) -> Result<u64, AllocError> {
+    let map: S = filled(alloc, entries)?;
+    let mut digest = 0u64;
+    for _ in 0..rounds {
+        digest = followed_by(digest, gaps_sum(&map, queries)?);
+    }
+    Ok(digest)
+}
+
+fn gaps_sum<S: Store>(map: &S, queries: &[Query]) -> Result<u64, AllocError> {
+    let mut sum = 0u64;
+    for query in queries {
+        sum = sum.wrapping_add(map.mix_of_gaps(query.start, query.end)?);
+    }
+    Ok(sum)
+}
+
+/// In each round a clone, and its number of pairs.
+pub fn clones<S: Store>(alloc: Global, entries: &[Entry], rounds: u32) -> Result<u64, AllocError> {
+    let map: S = filled(alloc, entries)?;
+    let mut digest = 0u64;
+    for _ in 0..rounds {
+        let copy = map.copy()?;
+        digest = followed_by(digest, copy.len() as u64);
+    }
+    Ok(digest)
+}
+
+/// In each round whether the map equals one of two clones, in turns.
+pub fn comparisons<S: Store>(
+    alloc: Global,
+    entries: &[Entry],
+    rounds: u32,
+) -> Result<u64, AllocError> {
+    let map: S = filled(alloc, entries)?;
+    let first = map.copy()?;
+    let second = map.copy()?;
+    let mut digest = 0u64;
+    for round in 0..rounds {
+        let other = if round % 2 == 0 { &first } else { &second };
+        digest = followed_by(digest, u64::from(map.equals(other)));
+    }
+    Ok(digest)
+}

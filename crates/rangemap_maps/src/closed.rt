@@ -1,0 +1,150 @@
+//! Closed ranges as a kind.
+//!
+//! A step is asked of a key only where a greater or smaller key was seen, which is a condition of the step: so nothing here
+//! steps past the last key of a type.
+ghost use Rattle.std.specs.Prelude.{◌≡◌, IfOk, Some as SomeWord};
+ghost use Rattle.std.specs.declared.cmp.Ordering.TheVariants.{Equal as EqualWord};
+ghost use Rattle.rangemap_core.specs.Clones.{KeysCloneFaithfully};
+ghost use Rattle.rangemap_core.specs.Edges.{IsAskedAt, edge_of};
+ghost use Rattle.rangemap_core.specs.EdgeKinds.{closed_first, closed_last};
+ghost use Rattle.rangemap_core.specs.Places.{place_cmp};
+ghost use Rattle.rangemap_core.specs.Ranges.{closed};
+ghost use Rattle.rangemap_maps.specs.Steppable.{HasFirst, HasLast};
+
+use rangemap_core::kind::{Edge, Kind};
+use rangemap_core::std_ext::StepFns;
+use std::alloc::AllocError;
+use std::cmp::Ordering;
+use std::marker::PhantomData;
+use std::ops::RangeInclusive;
+
+/// The ranges `a..=b`, over keys whose steps are `StepFnsT`.
+pub struct Closed<StepFnsT>(PhantomData<StepFnsT>);
+
+impl<K: Ord + Clone, StepFnsT: StepFns<K>> Kind<K, RangeInclusive<K>> for Closed<StepFnsT> {
+    ghost use Rattle.rangemap_core.specs.Ranges.{closed};
+    ghost use Rattle.rangemap_core.specs.Clones.{KeysCloneFaithfully};
+    ghost use Rattle.rangemap_core.specs.Edges.{edge_of, has_part};
+    ghost use Rattle.rangemap_core.specs.EdgeKinds.{closed_answers, closed_part};
+    ghost use Rattle.rangemap_core.specs.Items.{IsSame};
+    ghost use Rattle.rangemap_core.specs.PlacedKinds.{closed_high, closed_placed};
+    ghost use Rattle.std.specs.Prelude.{◌≡◌, true, IfOk};
+
+    ghost kind = { closed StepFnsT.is_key K.cmp };
+
+    ghost high = { closed_high StepFnsT.after };
+
+    ghost part_of = { closed_part StepFnsT.after StepFnsT.before };
+
+    ghost placed = { closed_placed StepFnsT.is_key K.cmp K.total StepFnsT.after StepFnsT.follows };
+
+    ghost answers = { closed_answers StepFnsT.is_key K.cmp K.total StepFnsT.after StepFnsT.before StepFnsT.follows StepFnsT.precedes };
+
+    fn known(key: &K) {
+        StepFnsT::known(key)
+    }
+
+    fn start(range: &RangeInclusive<K>) -> &K {
+        range.start()
+    }
+
+    fn end(range: &RangeInclusive<K>) -> &K {
+        range.end()
+    }
+
+    fn compare_keys(left: &K, right: &K) -> Ordering {
+        left.cmp(right)
+    }
+
+    fn holds(range: &RangeInclusive<K>, key: &K) -> bool {
+        range.start().cmp(key).is_le() && key.cmp(range.end()).is_le()
+    }
+
+    fn compare_end_to_start(first: &RangeInclusive<K>, second: &RangeInclusive<K>) -> Ordering {
+        compare_after::<K, StepFnsT>(first.end(), second.start())
+    }
+
+    fn has_part(from: Edge<'_, RangeInclusive<K>>, to: Edge<'_, RangeInclusive<K>>) -> bool
+        ensures { result ≡ has_part (closed StepFnsT.is_key K.cmp) (closed_high StepFnsT.after) (edge_of from.entry) (edge_of to.entry) }
+    {
+        known_at::<K, StepFnsT>(from);
+        known_at::<K, StepFnsT>(to);
+        match (from, to) {
+            (Edge::Start(from), Edge::Start(to)) => from.start().cmp(to.start()).is_lt(),
+            (Edge::Start(from), Edge::End(to)) => from.start().cmp(to.end()).is_le(),
+            (Edge::End(from), Edge::Start(to)) => {
+                compare_after::<K, StepFnsT>(from.end(), to.start()).is_lt()
+            }
+            (Edge::End(from), Edge::End(to)) => from.end().cmp(to.end()).is_lt(),
+        }
+    }
+
+    fn part(
+        from: Edge<'_, RangeInclusive<K>>,
+        to: Edge<'_, RangeInclusive<K>>,
+    ) -> Result<RangeInclusive<K>, AllocError>
+        requires has_part { has_part (closed StepFnsT.is_key K.cmp) (closed_high StepFnsT.after) (edge_of from) (edge_of to) ≡ true }
+        requires faithful_keys { KeysCloneFaithfully K.is_clone K.cmp }
+        ensures { IfOk result (IsSame (closed StepFnsT.is_key K.cmp) (closed_part StepFnsT.after StepFnsT.before (edge_of from.entry) (edge_of to.entry))) }
+    {
+        known_at::<K, StepFnsT>(from);
+        known_at::<K, StepFnsT>(to);
+        let start = first_key::<K, StepFnsT>(from)?;
+        let end = last_key::<K, StepFnsT>(to)?;
+        StepFnsT::known(&start);
+        StepFnsT::known(&end);
+        Ok(RangeInclusive::new(start, end))
+    }
+}
+
+// How the place after the one key lies to that before the other: equal where no key lies between.
+fn compare_after<K: Ord + Clone, StepFnsT: StepFns<K>>(end: &K, start: &K) -> Ordering
+    ensures { result ≡ place_cmp K.cmp (StepFnsT.after end.now) (SomeWord start.now) }
+{
+    StepFnsT::known(end);
+    StepFnsT::known(start);
+    match end.cmp(start) {
+        Ordering::Less => StepFnsT::add_one(end).cmp(start),
+        _ => Ordering::Greater,
+    }
+}
+
+// Does nothing, and tells that the ends of the edge's range are keys.
+fn known_at<K: Ord, StepFnsT: StepFns<K>>(edge: Edge<'_, RangeInclusive<K>>)
+    ensures { IsAskedAt (closed StepFnsT.is_key K.cmp) (edge_of edge.entry) }
+{
+    match edge {
+        Edge::Start(range) | Edge::End(range) => {
+            StepFnsT::known(range.start());
+            StepFnsT::known(range.end());
+        }
+    }
+}
+
+// The first key behind the edge.
+fn first_key<K: Ord + Clone, StepFnsT: StepFns<K>>(
+    from: Edge<'_, RangeInclusive<K>>,
+) -> Result<K, AllocError>
+    requires has_first { HasFirst StepFnsT.is_key K.cmp (edge_of from) }
+    requires faithful_keys { KeysCloneFaithfully K.is_clone K.cmp }
+    ensures { IfOk result (λ key. K.cmp (closed_first StepFnsT.after (edge_of from.entry)) key ≡ EqualWord) }
+{
+    match from {
+        Edge::Start(range) => range.start().clone(),
+        Edge::End(range) => Ok(StepFnsT::add_one(range.end())),
+    }
+}
+
+// The last key before the edge.
+fn last_key<K: Ord + Clone, StepFnsT: StepFns<K>>(
+    to: Edge<'_, RangeInclusive<K>>,
+) -> Result<K, AllocError>
+    requires has_last { HasLast StepFnsT.is_key K.cmp (edge_of to) }
+    requires faithful_keys { KeysCloneFaithfully K.is_clone K.cmp }
+    ensures { IfOk result (λ key. K.cmp (closed_last StepFnsT.before (edge_of to.entry)) key ≡ EqualWord) }
+{
+    match to {
+        Edge::Start(range) => Ok(StepFnsT::sub_one(range.start())),
+        Edge::End(range) => range.end().clone(),
+    }
+}
