@@ -1,6 +1,6 @@
 //! What is timed, and the ratios that are wanted.
 
-use crate::input::{in_order, overlapping, queries, shuffled, wide_queries, Query};
+use crate::input::{in_order, overlapping, queries, shuffled, wide_queries, Entry, Query};
 use crate::measure::Case;
 use crate::side::{Run, Side};
 
@@ -77,30 +77,15 @@ fn at_first(target: f64, size: usize) -> Option<f64> {
 }
 
 fn appends(size: usize) -> Case {
-    Case {
-        run: |side| side.inserts,
-        entries: in_order(size),
-        queries: vec![],
-        operations: size,
-    }
+    unasked(|side| side.inserts, in_order(size))
 }
 
 fn disjoint_inserts(size: usize) -> Case {
-    Case {
-        run: |side| side.inserts,
-        entries: shuffled(size),
-        queries: vec![],
-        operations: size,
-    }
+    unasked(|side| side.inserts, shuffled(size))
 }
 
 fn overlapping_inserts(size: usize) -> Case {
-    Case {
-        run: |side| side.inserts,
-        entries: overlapping(size),
-        queries: vec![],
-        operations: 2 * size,
-    }
+    unasked(|side| side.inserts, overlapping(size))
 }
 
 fn lookups(size: usize) -> Case {
@@ -108,12 +93,7 @@ fn lookups(size: usize) -> Case {
 }
 
 fn iterations(size: usize) -> Case {
-    Case {
-        run: |side| side.iterations,
-        entries: in_order(size),
-        queries: vec![],
-        operations: size,
-    }
+    unasked(|side| side.iterations, in_order(size))
 }
 
 fn removals(size: usize) -> Case {
@@ -129,21 +109,11 @@ fn gaps(size: usize) -> Case {
 }
 
 fn clones(size: usize) -> Case {
-    Case {
-        run: |side| side.clones,
-        entries: in_order(size),
-        queries: vec![],
-        operations: size,
-    }
+    unasked(|side| side.clones, in_order(size))
 }
 
 fn comparisons(size: usize) -> Case {
-    Case {
-        run: |side| side.comparisons,
-        entries: in_order(size),
-        queries: vec![],
-        operations: size,
-    }
+    unasked(|side| side.comparisons, in_order(size))
 }
 
 fn asked(size: usize, run: fn(&Side) -> Run, queries: Vec<Query>) -> Case {
@@ -152,5 +122,14 @@ fn asked(size: usize, run: fn(&Side) -> Run, queries: Vec<Query>) -> Case {
         entries: in_order(size),
         operations: queries.len(),
         queries,
+    }
+}
+
+fn unasked(run: fn(&Side) -> Run, entries: Vec<Entry>) -> Case {
+    Case {
+        run,
+        operations: entries.len(),
+        entries,
+        queries: vec![],
     }
 }

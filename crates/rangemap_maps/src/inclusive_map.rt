@@ -42,6 +42,9 @@ pub type Overlapping<'a, K, V> = overlapping::Overlapping<'a, RangeInclusive<K>,
 pub type Gaps<'a, K, V, StepFnsT> = gaps::Gaps<'a, Closed<StepFnsT>, K, RangeInclusive<K>, V>;
 
 /// A map of disjoint closed ranges to values, which joins ranges that touch and have equal values.
+///
+/// The pairs stand in one sorted vector. What a call costs is said by n, the number of stored ranges, and k, the number of those
+/// that the call's range meets. A step of a key takes the same time always.
 #[derive(Drop)]
 pub struct RangeInclusiveMap<K: Ord + Clone, V: Eq + Clone, StepFnsT: StepFns<K>, A: Allocator> {
     entries: Entries<Closed<StepFnsT>, K, RangeInclusive<K>, V, A>,
@@ -61,7 +64,8 @@ impl<K: Ord + Clone, V: Eq + Clone, StepFnsT: StepFns<K>, A: Allocator> Model
 }
 
 impl<K: StepLite + Clone, V: Eq + Clone, A: Allocator> RangeInclusiveMap<K, V, K, A> {
-    /// The empty map over the key type's own steps, whose memory will come from `alloc`. It takes none yet.
+    /// The empty map over the key type's own steps, whose memory will come from `alloc`. It takes none yet, and
+    /// the same time always.
     pub fn new(alloc: A) -> Self
         ensures { result ≡ [] }
     {
@@ -75,7 +79,8 @@ impl<K: Ord + Clone, V: Eq + Clone, StepFnsT: StepFns<K>, A: Allocator> RangeInc
     StepFnsT,
     A,
 > {
-    /// The empty map over the steps of `StepFnsT`, whose memory will come from `alloc`. It takes none yet.
+    /// The empty map over the steps of `StepFnsT`, whose memory will come from `alloc`. It takes none yet, and
+    /// the same time always.
     pub fn new_with_step_fns(alloc: A) -> Self
         ensures { result ≡ [] }
     {
@@ -91,21 +96,22 @@ impl<K: Ord + Clone, V: Eq + Clone, StepFnsT: StepFns<K>, A: Allocator> RangeInc
         self.entries.len()
     }
 
-    /// Whether none is stored.
+    /// Whether none is stored. It takes the same time for any map.
     pub fn is_empty(&self) -> bool
         ensures { result ≡ nat_eq (length self.now) 0 }
     {
         self.entries.is_empty()
     }
 
-    /// Takes every key out. The memory is kept for later inserts. It costs time in the number of ranges stored.
+    /// Takes every key out. The memory is kept for later inserts. It takes time in n.
     pub fn clear(&mut self)
         ensures { self.new ≡ [] }
     {
         self.entries.clear();
     }
 
-    /// The stored pairs, in order, from both ends. It takes no memory.
+    /// The stored pairs, in order, from both ends. It takes no memory, and the same time for any map, as does each pair taken
+    /// from it.
     pub fn iter(&self) -> Iter<'_, K, V>
         ensures all { result ≡ self.now }
         ensures canonical { IsCanonical (closed StepFnsT.is_key K.cmp) V.eq self.now }
@@ -115,7 +121,7 @@ impl<K: Ord + Clone, V: Eq + Clone, StepFnsT: StepFns<K>, A: Allocator> RangeInc
 
     /// The value of the stored range that has the key, if there is one.
     ///
-    /// Of n stored ranges it looks at the starts of about log2(n) + 1, and at one pair.
+    /// It looks at about log2(n) + 1 of the stored starts, and at one pair.
     pub fn get(&self, key: &K) -> Option<&V>
         ensures { option_copied result ≡ value_at (closed StepFnsT.is_key K.cmp) self.now key.now }
     {
@@ -139,7 +145,7 @@ impl<K: Ord + Clone, V: Eq + Clone, StepFnsT: StepFns<K>, A: Allocator> RangeInc
         self.entries.covering(key).0.is_some()
     }
 
-    /// The first stored range and its value, if there is one.
+    /// The first stored range and its value, if there is one. It takes the same time for any map.
     pub fn first_range_value(&self) -> Option<(&RangeInclusive<K>, &V)>
         ensures { option_map (λ pair. (pair.0.now, pair.1.now)) result ≡ slice_get self.now 0 }
     {
@@ -149,7 +155,7 @@ impl<K: Ord + Clone, V: Eq + Clone, StepFnsT: StepFns<K>, A: Allocator> RangeInc
         }
     }
 
-    /// The last stored range and its value, if there is one.
+    /// The last stored range and its value, if there is one. It takes the same time for any map.
     pub fn last_range_value(&self) -> Option<(&RangeInclusive<K>, &V)>
         ensures { option_map (λ pair. (pair.0.now, pair.1.now)) result ≡ slice_get self.now (length self.now - 1) }
     {
@@ -162,7 +168,8 @@ impl<K: Ord + Clone, V: Eq + Clone, StepFnsT: StepFns<K>, A: Allocator> RangeInc
     /// The pairs that end no sooner than `range` starts and start no later than it ends, in order.
     ///
     /// Nothing is asked of `range`, of which the two ends alone are read. A reversed one whose ends lie inside one stored
-    /// range meets that range. It costs time in the logarithm of the ranges stored, and takes no memory.
+    /// range meets that range. It takes time in log(n) and no memory, and each of the k pairs taken from it the same time for
+    /// any map.
     ///
     /// ```text
     /// let map = RangeInclusiveMap::from(alloc, [(0..=2u32, 'a'), (3..=4, 'b'), (8..=9, 'c')])?;
@@ -175,7 +182,7 @@ impl<K: Ord + Clone, V: Eq + Clone, StepFnsT: StepFns<K>, A: Allocator> RangeInc
         overlapping::Overlapping::new::<Closed<StepFnsT>, K>(self.entries.as_slice(), range)
     }
 
-    /// Whether `overlapping` has an item for the range. It costs what `overlapping` does.
+    /// Whether `overlapping` has an item for the range. It takes time in log(n) and no memory.
     pub fn overlaps(&self, range: &RangeInclusive<K>) -> bool
         ensures { result ≡ nat_lt 0 (length (overlapped (closed StepFnsT.is_key K.cmp) self.now range.now)) }
     {
@@ -188,8 +195,8 @@ impl<K: Ord + Clone, V: Eq + Clone, StepFnsT: StepFns<K>, A: Allocator> RangeInc
     /// The parts of `outer_range` that no stored range covers, in order. Between two stored ranges that touch there is none.
     ///
     /// Nothing is asked of `outer_range`, of which the two ends alone are read. A reversed one has no gaps; one of a single
-    /// key that isn't covered has itself. It costs time in the logarithm of the ranges stored, and takes no memory; a gap is
-    /// made of clones and steps when it is asked for, and the clones may be refused.
+    /// key that isn't covered has itself. It takes time in log(n) and no memory; a gap is made of clones and steps when it is
+    /// asked for, and the clones may be refused. To take all of them takes time in k.
     ///
     /// ```text
     /// let map = RangeInclusiveMap::from(alloc, [(0..=9u8, 'a'), (250..=255, 'b')])?;
@@ -214,10 +221,10 @@ impl<K: Ord + Clone, V: Eq + Clone, StepFnsT: StepFns<K>, A: Allocator> RangeInc
     /// `Err` says that the growth of the map, or a clone of a key or value, was refused: then the map is as it was, and the
     /// range and the value are dropped.
     ///
-    /// Of n stored ranges, k of which it meets, it takes a search by halving, and a second one where k is above four, so time in
-    /// log(n), and time in k for what it takes out. It makes at most two clones of a value, and moves each stored pair behind
-    /// the range at most once, which takes time in their number. An insert behind all others moves none. A key is stepped on
-    /// only where a greater one is at hand, and back only where a smaller one is.
+    /// It takes a search by halving, and a second one where k is above four: time in log(n). It makes at most two clones of a
+    /// value, takes time in k to drop what goes, and moves each stored pair behind the range at most once, which takes time in
+    /// their number. An insert behind all others moves none. A key is stepped on only where a greater one is at hand, and back
+    /// only where a smaller one is.
     ///
     /// ```text
     /// let mut map = RangeInclusiveMap::new(alloc);
@@ -244,7 +251,7 @@ impl<K: Ord + Clone, V: Eq + Clone, StepFnsT: StepFns<K>, A: Allocator> RangeInc
     /// becomes two, so the map grows by at most one range.
     ///
     /// The conditions, and what `Err` says, are those of `insert`. Where no stored range overlaps the given one, it takes no
-    /// memory, succeeds and changes nothing. It costs what `insert` does.
+    /// memory, succeeds and changes nothing. It costs what `insert` does, and time in log(n) alone where it meets nothing.
     ///
     /// ```text
     /// map.insert(0..=9u32, 'a')?;
@@ -276,6 +283,8 @@ impl<K: Ord + Clone, V: Eq + Clone, StepFnsT: StepFns<K>, A: Allocator> PartialE
 
     ghost laws = { partial_equiv_from_equiv (same_pairs_equiv (closed StepFnsT.is_key K.cmp) K.total V.Eq.laws) };
 
+    /// Whether the maps have equal pairs. It compares the numbers of ranges first, and then takes time in n at most: it stops at
+    /// the first two pairs that differ.
     fn eq(&self, other: &Self) -> bool {
         self.entries == other.entries
     }

@@ -23,7 +23,7 @@ impl<K: Ord + Clone, V: Eq + Clone, StepFnsT: StepFns<K>, A: Allocator> RangeInc
     /// The caller sees to it that a clone of a key or value equals its original, which holds for std's types.
     ///
     /// `Err` says that the memory of the list, or a clone of the allocator, of a key or of a value, was refused. For each
-    /// stored range it clones two keys and a value, and it asks for the memory of the list once.
+    /// stored range it clones two keys and a value, and it asks for the memory of the list once: time in n.
     pub fn clone(&self) -> Result<Self, AllocError>
     where
         A: Clone,
@@ -47,6 +47,9 @@ impl<K: StepLite + Clone, V: Eq + Clone, A: Allocator> RangeInclusiveMap<K, V, K
     ///
     /// `Err` says that an insert was refused, as there. The items before that one are inserted and stay; it and those after
     /// it are dropped.
+    ///
+    /// Each item costs what `insert` does. Items that come in order, behind all that is stored, take time in log(n) each and move
+    /// nothing. Where many come in another order, sort them first.
     pub fn extend<I: IntoIterator<Item = (RangeInclusive<K>, V)>>(
         &mut self,
         iter: I,
@@ -62,8 +65,8 @@ impl<K: StepLite + Clone, V: Eq + Clone, A: Allocator> RangeInclusiveMap<K, V, K
 
     /// The map of the items of `iter`, inserted in the order in which they come, in memory of `alloc`.
     ///
-    /// The conditions, and the answer that the check may ask for, are those of `extend`. `Err` says that an insert was
-    /// refused; nothing is made then.
+    /// The conditions, the answer that the check may ask for, and what an item costs are those of `extend`. `Err` says that an
+    /// insert was refused; nothing is made then.
     pub fn from_iter<I: IntoIterator<Item = (RangeInclusive<K>, V)>>(
         alloc: A,
         iter: I,
@@ -82,7 +85,7 @@ impl<K: StepLite + Clone, V: Eq + Clone, A: Allocator> RangeInclusiveMap<K, V, K
     /// The map of the pairs of an array, inserted in their order, in memory of `alloc`.
     ///
     /// The conditions are those of `insert`, for each pair. `Err` says that an insert was refused, or the memory through
-    /// which the array is read, or a clone of `alloc`; nothing is made then.
+    /// which the array is read, or a clone of `alloc`; nothing is made then. A pair costs what `insert` does.
     ///
     /// ```text
     /// let map = RangeInclusiveMap::from(alloc, [(0..=100u32, "abc"), (100..=200, "def")])?;
@@ -116,7 +119,8 @@ impl<K: StepLite + Clone, V: Eq + Clone, A: Allocator> IntoIterator
 
     ghost into_iter_gives = { λ map it. (it ≡ map) × IsCanonical (closed K.StepLite.is_key K.cmp) V.eq map };
 
-    /// The stored pairs, in order, from both ends. It takes no memory.
+    /// The stored pairs, in order, from both ends. It takes no memory, and the same time for any map, as does each pair taken
+    /// from it. Those that are not taken are dropped with it, in time by their number.
     fn into_iter(self) -> IntoIter<K, V, A> {
         self.entries.into_iter()
     }
