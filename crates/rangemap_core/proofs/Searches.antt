@@ -33,6 +33,9 @@ Every-drop Q (x ∷ xs) (suc n) h = Every-drop Q xs n (λ k d m l. h (suc k) d (
 pub around : {X : Type 0} (xs : List X) (m : ℕ) (d : X) → m < length xs → xs ≡ take m xs ++ get_or xs m d ∷ drop (suc m) xs
 around xs m d l = sym (take-append-drop m xs) ∙ ap (λ ys. take m xs ++ ys) (drop-cons xs m d l)
 
+pub same_or_below : (i j : ℕ) → i ≤ j → (i ≡ j) ⊎ (i < j)
+same_or_below i j l = elim (cases_lt i j) [ inl m ↦ inr m | inr m ↦ inl (omega arith) ]
+
 -- what is found among the starts is found among the pairs
 module _ {K X V : Type 0} (k : RangeKind K X) (x : K) where
   start_at : (pairs : List (X × V)) (i : ℕ) (d : X × V) (e : K) → i < length pairs → get_or (starts_of k pairs) i e ≡ k.start (get_or pairs i d).0
@@ -70,9 +73,6 @@ module _ {G P V : Type 0} (s : Shape G P V) (o : IsTotalOrder s.order) where
   -- a start that comes later in the list is greater
   pub lows_rise : (xs : List (G × V)) → IsSpaced s xs → (i j : ℕ) (d : G × V) → i < j → j < length xs → s.order (s.low (get_or xs i d).0) (s.low (get_or xs j d).0) ≡ Less
   lows_rise xs c i j d l m = lt_le_trans o _ _ _ (full_at xs c i d (omega arith)) (apart_at xs c i j d l m).before
-
-  same_or_below : (i j : ℕ) → i ≤ j → (i ≡ j) ⊎ (i < j)
-  same_or_below i j l = elim (cases_lt i j) [ inl m ↦ inr m | inr m ↦ inl (omega arith) ]
 
   not_lt : (p q : P) → is_lt (s.order p q) ≡ false → is_gt (s.order q p) ≡ false
   not_lt p q h = grind (arith, o.antisymm q p)

@@ -14,7 +14,8 @@ use Rattle.rangemap_core.proofs.Bridge.{S, places, to_spaced, all_storable}
 use Rattle.rangemap_core.proofs.PlaceOrder.{le_trans, not_lt_ge}
 use Rattle.rangemap_core.proofs.Searches.{Every-at, apart_at, lows_rise}
 use Rattle.rangemap_core.specs.EdgeKinds.{lt_is}
-use Rattle.rangemap_core.specs.Edges.{AnswersByEdges, EdgeOf, IsAsked, ends_before, starts_before}
+use Rattle.rangemap_core.specs.Edges.{AnswersByEdges, EdgeOf, IsAsked}
+use Rattle.rangemap_core.specs.Stretch.{ends_by, starts_within, IsOverlap}
 
 of_not : (b : Bool) → not b ≡ true → b ≡ false
 of_not true h = cc
@@ -61,7 +62,7 @@ module _ {K X V : Type 0} {k : RangeKind K X} {high : X → Option K} (p : IsPla
     -- of the pairs that start no later than q does, all but the last end before it starts
     pub ended_but_the_last : (list : List (X × V)) (near : ℕ) → IsCanonical k eq list → near ≤ length list
         → IsPartitionPoint (λ a. starts_by_key k (k.start q) a ≡ true) (λ a. starts_by_key k (k.start q) a ≡ false) list near
-        → (i : ℕ) (d : X × V) → 0 ≤ i → i < near - 1 → ends_before k high q (get_or list i d) ≡ true
+        → (i : ℕ) (d : X × V) → 0 ≤ i → i < near - 1 → ends_by (S p eq) q (get_or list i d) ≡ true
     ended_but_the_last list near can le point i d z l =
         let a = (get_or list i d).0 in
         let b = (get_or list (near - 1) d).0 in
@@ -74,7 +75,7 @@ module _ {K X V : Type 0} {k : RangeKind K X} {high : X → Option K} (p : IsPla
     -- and none of the others does
     pub not_ended_behind : (list : List (X × V)) (near : ℕ) → IsCanonical k eq list
         → IsPartitionPoint (λ a. starts_by_key k (k.start q) a ≡ true) (λ a. starts_by_key k (k.start q) a ≡ false) list near
-        → (i : ℕ) (d : X × V) → near ≤ i → i < length list → ends_before k high q (get_or list i d) ≡ false
+        → (i : ℕ) (d : X × V) → near ≤ i → i < length list → ends_by (S p eq) q (get_or list i d) ≡ false
     not_ended_behind list near can point i d le l =
         let e = (get_or list i d).0 in
         let up : place_cmp k.cmp (Some (k.start q)) (Some (k.start e)) ≡ Less = lt_is _ (of_not_false _ (point.1 i d le l)) in
@@ -83,7 +84,7 @@ module _ {K X V : Type 0} {k : RangeKind K X} {high : X → Option K} (p : IsPla
     -- of the pairs that start no later than the key of q's end, all but the last start before q ends
     pub begun_but_the_last : {part : EdgeOf X → EdgeOf X → X} → AnswersByEdges k high part → IsAsked k q → (list : List (X × V)) (near : ℕ) → IsCanonical k eq list → near ≤ length list
         → IsPartitionPoint (λ a. starts_by_key k (k.end q) a ≡ true) (λ a. starts_by_key k (k.end q) a ≡ false) list near
-        → (i : ℕ) (d : X × V) → 0 ≤ i → i < near - 1 → starts_before k high q (get_or list i d) ≡ true
+        → (i : ℕ) (d : X × V) → 0 ≤ i → i < near - 1 → starts_within (S p eq) q (get_or list i d) ≡ true
     begun_but_the_last ans asked list near can le point i d z l =
         let a = (get_or list i d).0 in
         let b = (get_or list (near - 1) d).0 in
@@ -95,28 +96,26 @@ module _ {K X V : Type 0} {k : RangeKind K X} {high : X → Option K} (p : IsPla
     -- and none of the others does
     pub not_begun_behind : {part : EdgeOf X → EdgeOf X → X} → AnswersByEdges k high part → IsAsked k q → (list : List (X × V)) (near : ℕ) → IsCanonical k eq list
         → IsPartitionPoint (λ a. starts_by_key k (k.end q) a ≡ true) (λ a. starts_by_key k (k.end q) a ≡ false) list near
-        → (i : ℕ) (d : X × V) → near ≤ i → i < length list → starts_before k high q (get_or list i d) ≡ false
+        → (i : ℕ) (d : X × V) → near ≤ i → i < length list → starts_within (S p eq) q (get_or list i d) ≡ false
     not_begun_behind ans asked list near can point i d le l =
         let e = (get_or list i d).0 in
         let behind : k.cmp (k.start e) (k.end q) ≡ Greater = turn p.total {a = k.end q} {b = k.start e} {r = Less} (lt_is _ (of_not_false _ (point.1 i d le l))) in
         ans.away_from_end q (k.start e) asked (stored_at list can i d l).start_is_key (Greater-Equal behind) ∙ ap is_lt behind
 
-    -- two partition points cut out what overlaps
+    -- the stretch is what overlaps
     pub window : {part : EdgeOf X → EdgeOf X → X} → AnswersByEdges k high part → IsAsked k q → (list : List (X × V)) (from to : ℕ) → IsCanonical k eq list
-        → IsPartitionPoint (λ a. ends_before k high q a ≡ true) (λ a. ends_before k high q a ≡ false) list from
-        → IsPartitionPoint (λ a. starts_before k high q a ≡ true) (λ a. starts_before k high q a ≡ false) list to → to ≤ length list
-        → take (to - from) (drop from list) ≡ overlapped k list q
-    window ans asked list from to can first second le =
+        → IsOverlap (S p eq) list q from to → take (to - from) (drop from list) ≡ overlapped k list q
+    window ans asked list from to can ov =
         let f = λ (a : X × V). k.meets q a.0 in
         let bound = length-drop from list in
         sym (filter-take f (drop from list) (to - from)
-        (λ j d lt l. met_there j d l ∙ and_true (of_not_false _ (first.1 (from + j) d (omega arith) (omega (arith, bound)))) (second.0 (from + j) d (omega arith) (omega arith)))
-        (λ j d ge l. met_there j d l ∙ ap (λ t. is_lt (place_cmp k.cmp (Some (k.start q)) (high (get_or list (from + j) d).0)) && t) (second.1 (from + j) d (omega arith) (omega (arith, bound))) ∙ and_false _))
-        ∙ filter-drop f list from (λ j d lt l. met j d l ∙ ap (λ t. t && starts_before k high q (get_or list j d)) (of_not _ (first.0 j d (omega arith) lt)))
+        (λ j d lt l. met_there j d l ∙ and_true (of_not_false _ (ov.ended.1 (from + j) d (omega arith) (omega (arith, bound)))) (ov.begun (from + j) d (omega arith) (omega arith)))
+        (λ j d ge l. met_there j d l ∙ ap (λ t. is_lt (place_cmp k.cmp (Some (k.start q)) (high (get_or list (from + j) d).0)) && t) (ov.later (from + j) d (omega (arith, ov.start_le_end)) (omega (arith, bound))) ∙ and_false _))
+        ∙ filter-drop f list from (λ j d lt l. met j d l ∙ ap (λ t. t && starts_within (S p eq) q (get_or list j d)) (of_not _ (ov.ended.0 j d (omega arith) lt)))
       where
-        met : (j : ℕ) (d : X × V) → j < length list → k.meets q (get_or list j d).0 ≡ (is_lt (place_cmp k.cmp (Some (k.start q)) (high (get_or list j d).0)) && starts_before k high q (get_or list j d))
+        met : (j : ℕ) (d : X × V) → j < length list → k.meets q (get_or list j d).0 ≡ (is_lt (place_cmp k.cmp (Some (k.start q)) (high (get_or list j d).0)) && starts_within (S p eq) q (get_or list j d))
         met j d l = ans.meets q (get_or list j d).0 asked (stored_at list can j d l)
 
         met_there : (j : ℕ) (d : X × V) → j < length (drop from list)
-            → k.meets q (get_or (drop from list) j d).0 ≡ (is_lt (place_cmp k.cmp (Some (k.start q)) (high (get_or list (from + j) d).0)) && starts_before k high q (get_or list (from + j) d))
+            → k.meets q (get_or (drop from list) j d).0 ≡ (is_lt (place_cmp k.cmp (Some (k.start q)) (high (get_or list (from + j) d).0)) && starts_within (S p eq) q (get_or list (from + j) d))
         met_there j d l = ap (λ a. k.meets q a.0) (get_or-drop from list j d) ∙ met (from + j) d (omega (arith, length-drop from list))

@@ -1,5 +1,5 @@
 -- Edges of ranges, the part between two of them, and the gaps that stored ranges leave. No public contract needs them.
-use Rattle.std.specs.Prelude.{◌≡◌, ◌≢◌, Bool, true, not, ◌&&◌, cond, List, [], ◌∷◌, Option, Some}
+use Rattle.std.specs.Prelude.{◌≡◌, ◌≢◌, Bool, true, ◌&&◌, cond, List, [], ◌∷◌, Option, Some}
 use Rattle.std.specs.Ordering.{is_lt, is_le}
 use Rattle.std.specs.declared.cmp.Ordering.TheVariants.{Equal}
 use Rattle.rangemap_core.specs.declared.kind.Edge.{Edge}
@@ -37,14 +37,6 @@ module _ {K X : Type 0} (k : RangeKind K X) (high : X → Option K) where
   -- whether the part from one edge up to another has a key
   abbrev pub has_part : EdgeOf X → EdgeOf X → Bool
   has_part from to = is_lt (place_cmp k.cmp (place_of from) (place_of to))
-
-  -- the pair's range ends before q starts
-  abbrev pub ends_before : {V : Type 0} → X → X × V → Bool
-  ends_before q pair = not (has_part (AtStart q) (AtEnd pair.0))
-
-  -- the pair's range starts before q ends
-  abbrev pub starts_before : {V : Type 0} → X → X × V → Bool
-  starts_before q pair = has_part (AtStart pair.0) (AtEnd q)
 
   -- what holds of a kind of range that is asked about, where `part` gives the range from one edge up to another
   pub record AnswersByEdges (part : EdgeOf X → EdgeOf X → X) : Type 0 where

@@ -16,25 +16,6 @@ pub trait Test<X> {
         ensures { result ≡ passes self.now x.now };
 }
 
-/// How many values of the list pass, where those that pass come first.
-///
-/// It goes back from `near` while the value before fails, and where there was none to go back over it goes on while the
-/// value there passes. So it looks at two values more than the place is away from `near`, and at fewer at the ends of the
-/// list. `near` may be any place: a bad one costs more looks, and gives the same answer.
-pub fn partition_point_near<X, T: Test<X>>(list: &[X], test: &T, near: usize) -> usize
-    requires parted { IsPartitionedBy (T.passes test.now) list.now }
-    requires applies { All (T.applies test.now) list.now }
-    requires in_bounds { near ≤ length list.now }
-    ensures bound { result ≤ length list.now }
-    ensures point { IsPartitionPoint (λ x. T.passes test.now x ≡ true) (λ x. T.passes test.now x ≡ false) list.now result }
-{
-    let at = step_back(list, test, near);
-    if at < near {
-        return at;
-    }
-    step_on(list, test, near)
-}
-
 /// How many values of the list pass, where that is `near` or one less.
 ///
 /// It takes one look, and compiles to no branch on it: where a query begins one is as likely as the other, so a branch would be
@@ -53,33 +34,15 @@ pub fn partition_point_by<X, T: Test<X>>(list: &[X], test: &T, near: usize) -> u
     near - usize::from(!test.test(&list[near - 1]))
 }
 
-// Goes back while the value before the place fails.
-fn step_back<X, T: Test<X>>(list: &[X], test: &T, near: usize) -> usize
-    requires parted { IsPartitionedBy (T.passes test.now) list.now }
-    requires applies { All (T.applies test.now) list.now }
-    requires in_bounds { near ≤ length list.now }
-    ensures bound { result ≤ near }
-    ensures passed { AllWithin (λ x. T.passes test.now x ≡ true) list.now 0 result }
-    ensures failed { result < near → AllWithin (λ x. T.passes test.now x ≡ false) list.now result (length list.now) }
-{
-    let mut at = near;
-    'back: while 0 < at {
-        if test.test(&list[at - 1]) {
-            return at;
-        }
-        at -= 1;
-    }
-    at
-}
-
-// Goes on while the value at the place passes, as all before it do.
-fn step_on<X, T: Test<X>>(list: &[X], test: &T, from: usize) -> usize
+/// How far on from a place the values pass.
+pub fn step_on<X, T: Test<X>>(list: &[X], test: &T, from: usize) -> usize
     requires parted { IsPartitionedBy (T.passes test.now) list.now }
     requires applies { All (T.applies test.now) list.now }
     requires in_bounds { from ≤ length list.now }
-    requires passed { AllWithin (λ x. T.passes test.now x ≡ true) list.now 0 from }
+    ensures from { from ≤ result }
     ensures bound { result ≤ length list.now }
-    ensures point { IsPartitionPoint (λ x. T.passes test.now x ≡ true) (λ x. T.passes test.now x ≡ false) list.now result }
+    ensures passed { AllWithin (λ x. T.passes test.now x ≡ true) list.now from result }
+    ensures failed { AllWithin (λ x. T.passes test.now x ≡ false) list.now result (length list.now) }
 {
     let mut at = from;
     'on: while at < list.len() {

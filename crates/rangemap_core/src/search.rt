@@ -1,12 +1,10 @@
 //! The search for a key among stored starts, by halving.
 ghost use Rattle.std.specs.Prelude.{◌≡◌, ◌+◌, ◌*◌, ◌^◌, ◌<◌, ◌≤◌, true, false, length, if◌then◌else◌};
-ghost use Rattle.std.specs.List.{All};
 ghost use Rattle.std.specs.List.Sorted.{IsPartitionPoint, IsPartitionedBy};
 ghost use Rattle.rangemap_core.specs.Ranges.{IsCanonical};
 ghost use Rattle.rangemap_core.specs.Shape.{is_up_to, starts_by_key};
 
 use crate::kind::Kind;
-use crate::near::Test;
 use crate::probe::Probe;
 use std::cmp::Ordering;
 
@@ -29,32 +27,6 @@ pub fn starts_up_to<'a, Q: Kind<K, R>, K: Ord + Clone + 'a, R: 'a, V: Eq + 'a>(
     let mut probe: Probe<'a, Q, K, R, V> = Probe::new(pairs);
     let count = count_up_to(&mut probe, key);
     (count, probe.asked())
-}
-
-// How many pairs a stretch may have for its end to be looked for from its start.
-const SHORT: usize = 4;
-
-/// A place from which to look for the end of a stretch: of the pairs from `start` on, the first ones pass the test, and they
-/// start no later than the key `end`.
-///
-/// Where at most four pass, which most inserts meet, that is `start` itself, and it takes one look. Only a longer stretch is
-/// worth a search, from whose answer the end is a step or two away.
-pub fn near_end<Q: Kind<K, R>, K: Ord + Clone, R, V: Eq, T: Test<(R, V)>>(
-    pairs: &[(R, V)],
-    test: &T,
-    start: usize,
-    end: &K,
-) -> usize
-    requires canonical { IsCanonical Q.kind V.eq pairs.now }
-    requires applies { All (T.applies test.now) pairs.now }
-    requires in_bounds { start ≤ length pairs.now }
-    ensures { result ≤ length pairs.now }
-{
-    if SHORT < pairs.len() - start && test.test(&pairs[start + SHORT]) {
-        starts_up_to::<Q, K, R, V>(pairs, end).0
-    } else {
-        start
-    }
 }
 
 /// How many starts are not after the key. The probe is fresh, and counts what is asked.

@@ -4,16 +4,16 @@ ghost use Rattle.rangemap_core.specs.Clones.{KeysCloneFaithfully, ValuesCloneFai
 ghost use Rattle.rangemap_core.specs.Places.{Spans};
 ghost use Rattle.rangemap_core.specs.Ranges.{IsCanonOf, IsCanonical, IsStorable, override, value_at};
 ghost use Rattle.rangemap_core.specs.Shape.{shape_of};
-ghost use Rattle.rangemap_core.specs.Stretch.{are_apart, taken_or_new, IsStretch, IsLeftSide, IsRightSide, IsPiece, IsTaken};
+ghost use Rattle.std.specs.List.Sorted.{IsPartitionPoint};
+ghost use Rattle.rangemap_core.specs.Stretch.{are_apart, taken_or_new, IsOverlap, IsStretch, IsLeftSide, IsRightSide, IsPiece, IsTaken};
 
 use super::Entries;
+use super::remove::{part_after, part_before};
 use crate::kind::{Edge, Kind};
-use crate::near::{Test, partition_point_near};
-use crate::search::{near_end, starts_up_to};
+use crate::overlapping::overlap;
 use crate::stretch::replace_stretch;
 use std::alloc::{AllocError, Allocator};
 use std::cmp::Ordering;
-use std::marker::PhantomData;
 
 // A piece that an insert leaves of a stored pair, or whether it takes the stored pair into the new one.
 #[derive(Drop)]
@@ -56,31 +56,17 @@ impl<Q: Kind<K, R>, K: Ord + Clone, R: Drop, V: Eq + Clone, A: Allocator> Entrie
         )
     }
 
-    // The places of the pairs that overlap the new one or are to be joined with it. The start is found by a search among the
-    // starts, and a step or two from there: of the pairs that start no later than the new one, only the last can reach past its
-    // start, and only the one before that can touch it there. The end is looked for from the start, and by a search only where
-    // that is far: of those that start no later than its end, only the last can start at its end, and only the next one can
-    // touch it from behind.
+    // The places of the pairs that overlap the new one or are to be joined with it: those that overlap it, and the pair on
+    // either side, where it touches and has an equal value.
     fn stretch(&self, range: &R, value: &V) -> (usize, usize)
         requires canonical { IsCanonical Q.kind V.eq self.now }
         requires range { IsStorable Q.kind range.now }
         ensures { IsStretch (shape_of Q.kind Q.high V.eq) self.now (range.now, value.now) result.0 result.1 }
     {
         let pairs = self.pairs.as_slice();
-        let before: IsBefore<'_, Q, K, R, V> = IsBefore {
-            range,
-            value,
-            kind: PhantomData,
-        };
-        let (near_start, _) = starts_up_to::<Q, K, R, V>(pairs, Q::start(range));
-        let start = partition_point_near(pairs, &before, near_start);
-        let reach: IsReached<'_, Q, K, R, V> = IsReached {
-            range,
-            value,
-            kind: PhantomData,
-        };
-        let near = near_end::<Q, K, R, V, _>(pairs, &reach, start, Q::end(range));
-        let end = partition_point_near(pairs, &reach, near);
+        let (from, to) = overlap::<Q, K, R, V>(pairs, range);
+        let start = stretch_start::<Q, K, R, V>(pairs, from, to, range, value);
+        let end = stretch_end::<Q, K, R, V>(pairs, from, to, range, value);
         (start, end)
     }
 
@@ -107,25 +93,16 @@ impl<Q: Kind<K, R>, K: Ord + Clone, R: Drop, V: Eq + Clone, A: Allocator> Entrie
             });
         }
         let first = &pairs[start];
-        match Q::compare_keys(Q::start(&first.0), Q::start(range)) {
-            Ordering::Less => {
-                if first.1 == *value {
-                    return Ok(Side {
-                        piece: None,
-                        is_taken: true,
-                    });
-                }
-                let part = Q::part(Edge::Start(&first.0), Edge::Start(range))?;
-                Ok(Side {
-                    piece: Some((part, first.1.clone()?)),
-                    is_taken: false,
-                })
-            }
-            _ => Ok(Side {
+        if first.1 == *value {
+            return Ok(Side {
                 piece: None,
-                is_taken: false,
-            }),
+                is_taken: Q::compare_keys(Q::start(&first.0), Q::start(range)).is_lt(),
+            });
         }
+        Ok(Side {
+            piece: part_before::<Q, K, R, V>(first, range)?,
+            is_taken: false,
+        })
     }
 
     fn right_side(
@@ -151,25 +128,16 @@ impl<Q: Kind<K, R>, K: Ord + Clone, R: Drop, V: Eq + Clone, A: Allocator> Entrie
             });
         }
         let last = &pairs[end - 1];
-        match Q::compare_keys(Q::end(range), Q::end(&last.0)) {
-            Ordering::Less => {
-                if last.1 == *value {
-                    return Ok(Side {
-                        piece: None,
-                        is_taken: true,
-                    });
-                }
-                let part = Q::part(Edge::End(range), Edge::End(&last.0))?;
-                Ok(Side {
-                    piece: Some((part, last.1.clone()?)),
-                    is_taken: false,
-                })
-            }
-            _ => Ok(Side {
+        if last.1 == *value {
+            return Ok(Side {
                 piece: None,
-                is_taken: false,
-            }),
+                is_taken: Q::compare_keys(Q::end(range), Q::end(&last.0)).is_lt(),
+            });
         }
+        Ok(Side {
+            piece: part_after::<Q, K, R, V>(last, range)?,
+            is_taken: false,
+        })
     }
 
     // The new range, from the start of the first pair of the stretch or up to the end of the last where these are taken into it.
@@ -205,6 +173,57 @@ impl<Q: Kind<K, R>, K: Ord + Clone, R: Drop, V: Eq + Clone, A: Allocator> Entrie
     }
 }
 
+// Where a stretch starts: at the pair before those that overlap the range, if it is to be joined.
+fn stretch_start<Q: Kind<K, R>, K: Ord + Clone, R, V: Eq>(
+    pairs: &[(R, V)],
+    from: usize,
+    to: usize,
+    range: &R,
+    value: &V,
+) -> usize
+    requires canonical { IsCanonical Q.kind V.eq pairs.now }
+    requires range { IsStorable Q.kind range.now }
+    requires overlap { IsOverlap (shape_of Q.kind Q.high V.eq) pairs.now range.now from to }
+    ensures before { result ≤ from }
+    ensures point { IsPartitionPoint (λ a. are_apart (shape_of Q.kind Q.high V.eq) a (range.now, value.now) ≡ true) (λ a. are_apart (shape_of Q.kind Q.high V.eq) a (range.now, value.now) ≡ false) pairs.now result }
+{
+    if from == 0 {
+        return 0;
+    }
+    let pair = &pairs[from - 1];
+    if is_apart::<Q, K, R, V>(&pair.0, &pair.1, range, value) {
+        from
+    } else {
+        from - 1
+    }
+}
+
+// Where it ends: behind the pair after those that overlap the range, if it is to be joined.
+fn stretch_end<Q: Kind<K, R>, K: Ord + Clone, R, V: Eq>(
+    pairs: &[(R, V)],
+    from: usize,
+    to: usize,
+    range: &R,
+    value: &V,
+) -> usize
+    requires canonical { IsCanonical Q.kind V.eq pairs.now }
+    requires range { IsStorable Q.kind range.now }
+    requires overlap { IsOverlap (shape_of Q.kind Q.high V.eq) pairs.now range.now from to }
+    ensures after { to ≤ result }
+    ensures bound { result ≤ length pairs.now }
+    ensures point { IsPartitionPoint (λ b. are_apart (shape_of Q.kind Q.high V.eq) (range.now, value.now) b ≡ false) (λ b. are_apart (shape_of Q.kind Q.high V.eq) (range.now, value.now) b ≡ true) pairs.now result }
+{
+    if to == pairs.len() {
+        return to;
+    }
+    let pair = &pairs[to];
+    if is_apart::<Q, K, R, V>(range, value, &pair.0, &pair.1) {
+        to
+    } else {
+        to + 1
+    }
+}
+
 // The first pair lies wholly before the second, and they are not to be joined into one.
 fn is_apart<Q: Kind<K, R>, K: Ord + Clone, R, V: Eq>(
     first: &R,
@@ -220,50 +239,5 @@ fn is_apart<Q: Kind<K, R>, K: Ord + Clone, R, V: Eq>(
         Ordering::Less => true,
         Ordering::Equal => *first_value != *second_value,
         Ordering::Greater => false,
-    }
-}
-
-// The pair lies wholly before the new one, and is not to be joined with it.
-#[derive(Drop)]
-struct IsBefore<'a, Q, K, R, V> {
-    range: &'a R,
-    value: &'a V,
-    kind: PhantomData<(Q, K)>,
-}
-
-impl<'a, Q: Kind<K, R>, K: Ord + Clone, R, V: Eq> Test<(R, V)> for IsBefore<'a, Q, K, R, V> {
-    ghost use Rattle.rangemap_core.specs.Ranges.{IsStorable};
-    ghost use Rattle.rangemap_core.specs.Shape.{shape_of};
-    ghost use Rattle.rangemap_core.specs.Stretch.{are_apart};
-
-    ghost passes = { λ t pair. are_apart (shape_of Q.kind Q.high V.eq) pair (t.range.now, t.value.now) };
-
-    ghost applies = { λ t pair. IsStorable Q.kind t.range.now × IsStorable Q.kind pair.0 };
-
-    fn test(&self, pair: &(R, V)) -> bool {
-        is_apart::<Q, K, R, V>(&pair.0, &pair.1, self.range, self.value)
-    }
-}
-
-// The pair does not lie wholly after the new one, or is to be joined with it.
-#[derive(Drop)]
-struct IsReached<'a, Q, K, R, V> {
-    range: &'a R,
-    value: &'a V,
-    kind: PhantomData<(Q, K)>,
-}
-
-impl<'a, Q: Kind<K, R>, K: Ord + Clone, R, V: Eq> Test<(R, V)> for IsReached<'a, Q, K, R, V> {
-    ghost use Rattle.std.specs.Prelude.{not};
-    ghost use Rattle.rangemap_core.specs.Ranges.{IsStorable};
-    ghost use Rattle.rangemap_core.specs.Shape.{shape_of};
-    ghost use Rattle.rangemap_core.specs.Stretch.{are_apart};
-
-    ghost passes = { λ t pair. not (are_apart (shape_of Q.kind Q.high V.eq) (t.range.now, t.value.now) pair) };
-
-    ghost applies = { λ t pair. IsStorable Q.kind t.range.now × IsStorable Q.kind pair.0 };
-
-    fn test(&self, pair: &(R, V)) -> bool {
-        !is_apart::<Q, K, R, V>(self.range, self.value, &pair.0, &pair.1)
     }
 }

@@ -4,8 +4,9 @@ use Rattle.rangemap_core.proofs.near.step_on.Given as goal
 
 abbrev pub invariant-on : goal.invariant-on
 invariant-on g l = record {
+  from : l.fn.from ≤ l.at;
   bound : l.at ≤ length l.list;
-  passed : AllWithin (λ x. g.T.Test.passes l.test x ≡ true) l.list 0 l.at;
+  passed : AllWithin (λ x. g.T.Test.passes l.test x ≡ true) l.list l.fn.from l.at;
 }
 
 abbrev pub decreases-on : goal.decreases-on

@@ -1,7 +1,10 @@
-use Rattle.std.proofs.Common.{arith, ◌≡◌, OnOk, List, ◌++◌, take, drop}
+use Rattle.std.proofs.Common.{arith, ◌≡◌, ◌∙◌, ◌-◌, OnOk, List, ◌++◌, take, drop}
 use Rattle.std.specs.Option.{option_to_list}
-use Rattle.rangemap_core.specs.Ranges.{IsCanonical, IsCanonOf, erase, value_at}
+use Rattle.rangemap_core.specs.Ranges.{IsCanonOf, erase, value_at}
+use Rattle.rangemap_core.specs.Stretch.{IsOverlap}
+use Rattle.rangemap_core.proofs.Bridge.{S, places, to_spaced, storable_here}
 use Rattle.rangemap_core.proofs.Removes.{unchanged_is_canon, pieces_are_canon, meets_none}
+use Rattle.rangemap_core.proofs.Rests.{left_rest, right_rest}
 use Rattle.rangemap_core.proofs.Sides.{on_ok}
 use Rattle.rangemap_core.proofs.entries.Entries.remove.Goals as goal
 
@@ -12,10 +15,37 @@ returns-then-start-end-clause-ok g c =
     let eq = g.V.PartialEq.eq in
     let e = g.met.V.Eq.laws in
     let xs = c.args.self.now in
-    let canonical : IsCanonical k eq xs = c.requires.canonical in
     let start = c.overlap-start.result.0 in
     let end = c.overlap-start.result.1 in
-    unchanged_is_canon p eq e xs canonical c.args.range c.requires.range start end c.overlap-start.ensures c.if-start-end.true
+    let same : c.as_slice-pairs.result.now ≡ xs = c.as_slice-pairs.ensures.value ∙ c.self.view_is in
+    let found : IsOverlap (S p eq) xs c.args.range start end = rw (← same) c.overlap-start.ensures.found in
+    unchanged_is_canon p eq e xs c.requires.canonical c.args.range c.requires.range start end found c.if-start-end.true
+
+pub part_before-requires-clause-pair : goal.part_before-requires-clause-pair
+part_before-requires-clause-pair g c =
+    let k = g.Q.Kind.kind in
+    let p = g.met.Q.Kind.placed in
+    let eq = g.V.PartialEq.eq in
+    let e = g.met.V.Eq.laws in
+    let xs = c.args.self.now in
+    let start = c.overlap-start.result.0 in
+    let end = c.overlap-start.result.1 in
+    let same : c.as_slice-pairs.result.now ≡ xs = c.as_slice-pairs.ensures.value ∙ c.self.view_is in
+    let found : IsOverlap (S p eq) xs c.args.range start end = rw (← same) c.overlap-start.ensures.found in
+    storable_here p eq xs c.requires.canonical start c.index-pairs-start.result (omega (arith, found.start_le_end, found.in_bounds)) (rw (← same) c.index-pairs-start.is)
+
+pub part_after-requires-clause-pair : goal.part_after-requires-clause-pair
+part_after-requires-clause-pair g c =
+    let k = g.Q.Kind.kind in
+    let p = g.met.Q.Kind.placed in
+    let eq = g.V.PartialEq.eq in
+    let e = g.met.V.Eq.laws in
+    let xs = c.args.self.now in
+    let start = c.overlap-start.result.0 in
+    let end = c.overlap-start.result.1 in
+    let same : c.as_slice-pairs.result.now ≡ xs = c.as_slice-pairs.ensures.value ∙ c.self.view_is in
+    let found : IsOverlap (S p eq) xs c.args.range start end = rw (← same) c.overlap-start.ensures.found in
+    storable_here p eq xs c.requires.canonical (end - 1) c.index-pairs-end.result (omega (arith, found.start_le_end, found.in_bounds)) (rw (← same) c.index-pairs-end.is)
 
 pub returns-in_err-left-clause-meets_nothing : goal.returns-in_err-left-clause-meets_nothing
 returns-in_err-left-clause-meets_nothing g c = λ h.
@@ -24,10 +54,11 @@ returns-in_err-left-clause-meets_nothing g c = λ h.
     let eq = g.V.PartialEq.eq in
     let e = g.met.V.Eq.laws in
     let xs = c.args.self.now in
-    let canonical : IsCanonical k eq xs = c.requires.canonical in
     let start = c.overlap-start.result.0 in
     let end = c.overlap-start.result.1 in
-    absurd (meets_none p eq e xs canonical c.args.range c.requires.range start end c.overlap-start.ensures h (omega (arith, c.overlap-start.ensures.start_le_end)))
+    let same : c.as_slice-pairs.result.now ≡ xs = c.as_slice-pairs.ensures.value ∙ c.self.view_is in
+    let found : IsOverlap (S p eq) xs c.args.range start end = rw (← same) c.overlap-start.ensures.found in
+    absurd (meets_none p eq e xs c.requires.canonical c.args.range c.requires.range start end found h (omega (arith, found.start_le_end)))
 
 pub returns-in_err-right-clause-meets_nothing : goal.returns-in_err-right-clause-meets_nothing
 returns-in_err-right-clause-meets_nothing g c = λ h.
@@ -36,10 +67,11 @@ returns-in_err-right-clause-meets_nothing g c = λ h.
     let eq = g.V.PartialEq.eq in
     let e = g.met.V.Eq.laws in
     let xs = c.args.self.now in
-    let canonical : IsCanonical k eq xs = c.requires.canonical in
     let start = c.overlap-start.result.0 in
     let end = c.overlap-start.result.1 in
-    absurd (meets_none p eq e xs canonical c.args.range c.requires.range start end c.overlap-start.ensures h (omega (arith, c.overlap-start.ensures.start_le_end)))
+    let same : c.as_slice-pairs.result.now ≡ xs = c.as_slice-pairs.ensures.value ∙ c.self.view_is in
+    let found : IsOverlap (S p eq) xs c.args.range start end = rw (← same) c.overlap-start.ensures.found in
+    absurd (meets_none p eq e xs c.requires.canonical c.args.range c.requires.range start end found h (omega (arith, found.start_le_end)))
 
 pub returns-clause-ok : goal.returns-clause-ok
 returns-clause-ok g c =
@@ -48,14 +80,20 @@ returns-clause-ok g c =
     let eq = g.V.PartialEq.eq in
     let e = g.met.V.Eq.laws in
     let xs = c.args.self.now in
-    let canonical : IsCanonical k eq xs = c.requires.canonical in
     let start = c.overlap-start.result.0 in
     let end = c.overlap-start.result.1 in
+    let same : c.as_slice-pairs.result.now ≡ xs = c.as_slice-pairs.ensures.value ∙ c.self.view_is in
+    let found : IsOverlap (S p eq) xs c.args.range start end = rw (← same) c.overlap-start.ensures.found in
     let left = c.in_ok-left.left in
     let right = c.in_ok-right.right in
+    let spaced = to_spaced p eq xs c.requires.canonical in
+    let full = p.non_empty _ c.requires.range in
     let replaced = take start xs ++ (option_to_list left ++ option_to_list right) ++ drop end xs in
     let ok : OnOk c.replace_stretch.result (c.replace_stretch.new.list.items ≡ replaced) = rw (← c.self.view_is) c.replace_stretch.ensures.ok in
-    on_ok (λ (new : List (g.row.R.Denot × g.row.V.Denot)). IsCanonOf k eq (erase k (value_at k xs) c.args.range) new) c.replace_stretch.result c.replace_stretch.new.list.items replaced ok (pieces_are_canon p eq e xs canonical c.args.range c.requires.range start end c.overlap-start.ensures left right c.in_ok-left.ensures.rest c.in_ok-right.ensures.rest c.in_ok-left.ensures.storable c.in_ok-right.ensures.storable)
+    on_ok (λ (new : List (g.row.R.Denot × g.row.V.Denot)). IsCanonOf k eq (erase k (value_at k xs) c.args.range) new) c.replace_stretch.result c.replace_stretch.new.list.items replaced ok (pieces_are_canon p eq e xs c.requires.canonical c.args.range c.requires.range start end found left right
+    (left_rest (S p eq) (places p eq) e xs spaced c.args.range full start end found c.index-pairs-start.result (omega (arith, found.start_le_end)) (rw (← same) c.index-pairs-start.is) left c.in_ok-left.ensures.piece)
+    (right_rest (S p eq) (places p eq) e xs spaced c.args.range full start end found c.index-pairs-end.result (omega (arith, found.start_le_end)) (rw (← same) c.index-pairs-end.is) right c.in_ok-right.ensures.piece)
+    c.in_ok-left.ensures.storable c.in_ok-right.ensures.storable)
 
 pub returns-clause-meets_nothing : goal.returns-clause-meets_nothing
 returns-clause-meets_nothing g c = λ h.
@@ -64,7 +102,8 @@ returns-clause-meets_nothing g c = λ h.
     let eq = g.V.PartialEq.eq in
     let e = g.met.V.Eq.laws in
     let xs = c.args.self.now in
-    let canonical : IsCanonical k eq xs = c.requires.canonical in
     let start = c.overlap-start.result.0 in
     let end = c.overlap-start.result.1 in
-    absurd (meets_none p eq e xs canonical c.args.range c.requires.range start end c.overlap-start.ensures h (omega (arith, c.overlap-start.ensures.start_le_end)))
+    let same : c.as_slice-pairs.result.now ≡ xs = c.as_slice-pairs.ensures.value ∙ c.self.view_is in
+    let found : IsOverlap (S p eq) xs c.args.range start end = rw (← same) c.overlap-start.ensures.found in
+    absurd (meets_none p eq e xs c.requires.canonical c.args.range c.requires.range start end found h (omega (arith, found.start_le_end)))

@@ -1,9 +1,6 @@
-use Rattle.std.proofs.Common.{arith, ap, sym, refl, ◌∙◌, ◌≡◌, ◌<◌, ◌-◌, get_or, is_lt}
-use Rattle.rangemap_core.specs.Edges.{AtEnd}
-use Rattle.rangemap_core.proofs.Pieces.{asked, part_spans}
+use Rattle.std.proofs.Common.{arith, ap, sym, true≢false, ◌∙◌, ◌≡◌, ◌<◌, ◌-◌, get_or, is_lt}
 use Rattle.rangemap_core.proofs.Bridge.{S, places, to_spaced, storable_here}
-use Rattle.rangemap_core.proofs.PlaceOrder.{le_from_not_lt}
-use Rattle.rangemap_core.proofs.Sides.{right_empty, right_not_after, right_into, right_piece}
+use Rattle.rangemap_core.proofs.Sides.{right_empty, right_of_equal, right_of_other}
 use Rattle.rangemap_core.proofs.entries.Entries.right_side.Goals as goal
 
 pub returns-then-start-end-clause-side : goal.returns-then-start-end-clause-side
@@ -34,18 +31,18 @@ returns-then-eq-clause-side g c =
     let full = p.non_empty _ c.requires.range in
     let more : c.args.start < c.args.end = omega (arith, c.requires.stretch.start_le_end) in
     let is : c.index-last.result.now ≡ get_or xs (c.args.end - 1) c.index-last.result.now = rw (← c.self.view_is) c.index-last.ensures in
-    let stored = storable_here p eq c.args.self.now c.requires.canonical (c.args.end - 1) c.index-last.result.now (omega (arith, c.requires.stretch.in_bounds)) (rw (← c.self.view_is) c.index-last.ensures) in
-    let high : s.order (s.high c.args.range.now) (s.high c.index-last.result.now.0) ≡ c.compare_keys.result = sym (p.ends _ _ c.requires.range stored) ∙ rw (← c.end.ensures, ← c.end-2.ensures) (sym c.compare_keys.ensures) in
-    right_into s o e xs spaced pair full c.args.start c.args.end c.requires.stretch c.index-last.result.now more is (high ∙ c.in-Less.is) (sym c.eq.ensures ∙ c.if-eq.true)
+    let stored = storable_here p eq c.args.self.now c.requires.canonical (c.args.end - 1) c.index-last.result.now (omega (arith, c.requires.stretch.start_le_end, c.requires.stretch.in_bounds)) (rw (← c.self.view_is) c.index-last.ensures) in
+    let ends : c.compare_keys.result ≡ s.order (s.high c.args.range.now) (s.high c.index-last.result.now.0) = c.compare_keys.ensures ∙ (λ i. k.cmp (c.end.ensures i) (c.end-then-eq.ensures i)) ∙ p.ends _ _ c.requires.range stored in
+    right_of_equal s o e xs spaced pair full c.args.start c.args.end c.requires.stretch c.index-last.result.now more is (sym c.eq.ensures ∙ c.if-eq.true) c.is_lt.result (c.is_lt.ensures ∙ ap is_lt ends)
 
-pub part-requires-clause-has_part : goal.part-requires-clause-has_part
-part-requires-clause-has_part g c =
+pub part_after-requires-clause-pair : goal.part_after-requires-clause-pair
+part_after-requires-clause-pair g c =
     let p = g.met.Q.Kind.placed in
-    let stored = storable_here p g.V.PartialEq.eq c.args.self.now c.requires.canonical (c.args.end - 1) c.index-last.result.now (omega (arith, c.requires.stretch.start_le_end, c.requires.stretch.in_bounds)) (rw (← c.self.view_is) c.index-last.ensures) in
-    ap is_lt (sym (p.ends _ _ c.requires.range stored) ∙ rw (← c.end.ensures, ← c.end-2.ensures) (sym c.compare_keys.ensures) ∙ c.in-Less.is)
+    let eq = g.V.PartialEq.eq in
+    storable_here p eq c.args.self.now c.requires.canonical (c.args.end - 1) c.index-last.result.now (omega (arith, c.requires.stretch.start_le_end, c.requires.stretch.in_bounds)) (rw (← c.self.view_is) c.index-last.ensures)
 
-pub returns-in_ok-clone-in-Less-clause-side : goal.returns-in_ok-clone-in-Less-clause-side
-returns-in_ok-clone-in-Less-clause-side g c =
+pub returns : goal.returns
+returns g c =
     let k = g.Q.Kind.kind in
     let p = g.met.Q.Kind.placed in
     let eq = g.V.PartialEq.eq in
@@ -58,28 +55,8 @@ returns-in_ok-clone-in-Less-clause-side g c =
     let full = p.non_empty _ c.requires.range in
     let more : c.args.start < c.args.end = omega (arith, c.requires.stretch.start_le_end) in
     let is : c.index-last.result.now ≡ get_or xs (c.args.end - 1) c.index-last.result.now = rw (← c.self.view_is) c.index-last.ensures in
-    let stored = storable_here p eq c.args.self.now c.requires.canonical (c.args.end - 1) c.index-last.result.now (omega (arith, c.requires.stretch.in_bounds)) (rw (← c.self.view_is) c.index-last.ensures) in
-    let high : s.order (s.high c.args.range.now) (s.high c.index-last.result.now.0) ≡ c.compare_keys.result = sym (p.ends _ _ c.requires.range stored) ∙ rw (← c.end.ensures, ← c.end-2.ensures) (sym c.compare_keys.ensures) in
-    let cut = part_spans p g.met.Q.Kind.answers (AtEnd c.args.range.now) (AtEnd c.index-last.result.now.0) c.in_ok-part-in-Less.part (asked _ c.requires.range) (asked _ stored) (ap is_lt (high ∙ c.in-Less.is)) c.in_ok-part-in-Less.ensures in
-    right_piece s o e xs spaced pair full c.args.start c.args.end c.requires.stretch c.index-last.result.now more is c.in_ok-part-in-Less.part c.in_ok-clone-in-Less.field-0 (high ∙ c.in-Less.is) (sym c.eq.ensures ∙ c.if-eq.false) cut.from cut.to (e.symm _ _ ∙ c.requires.faithful_values _ _ c.in_ok-clone-in-Less.ensures.cases)
-
-pub returns-in_default : goal.returns-in_default
-returns-in_default g c =
-    let k = g.Q.Kind.kind in
-    let p = g.met.Q.Kind.placed in
-    let eq = g.V.PartialEq.eq in
-    let e = g.met.V.Eq.laws in
-    let s = S p eq in
-    let o = places p eq in
-    let pair : g.row.R.Denot × g.row.V.Denot = (c.args.range.now, c.args.value.now) in
-    let xs = c.args.self.now in
-    let spaced = to_spaced p eq xs (c.requires.canonical) in
-    let full = p.non_empty _ c.requires.range in
-    let more : c.args.start < c.args.end = omega (arith, c.requires.stretch.start_le_end) in
-    let is : c.index-last.result.now ≡ get_or xs (c.args.end - 1) c.index-last.result.now = rw (← c.self.view_is) c.index-last.ensures in
-    let stored = storable_here p eq c.args.self.now c.requires.canonical (c.args.end - 1) c.index-last.result.now (omega (arith, c.requires.stretch.in_bounds)) (rw (← c.self.view_is) c.index-last.ensures) in
-    let high : s.order (s.high c.args.range.now) (s.high c.index-last.result.now.0) ≡ c.compare_keys.result = sym (p.ends _ _ c.requires.range stored) ∙ rw (← c.end.ensures, ← c.end-2.ensures) (sym c.compare_keys.ensures) in
+    let piece = c.in_ok-part_after in
     record {
-      side = right_not_after s o e xs spaced pair full c.args.start c.args.end c.requires.stretch c.index-last.result.now more is (le_from_not_lt o (s.high c.args.range.now) (s.high c.index-last.result.now.0) (λ h. c.in_default.not-Less (sym high ∙ h)));
-      piece = record { storable = tt; of_a_stretch = λ _. refl; of_other_values = λ _. refl };
+      side = right_of_other s o e xs spaced pair full c.args.start c.args.end c.requires.stretch c.index-last.result.now more is (sym c.eq.ensures ∙ c.if-eq.false) piece.field-0 piece.ensures.piece;
+      piece = record { storable = piece.ensures.storable; of_a_stretch = λ h. absurd (omega (arith, more, h)); of_other_values = λ one. absurd (true≢false (sym (one _ _) ∙ sym c.eq.ensures ∙ c.if-eq.false)) };
     }
