@@ -1,13 +1,13 @@
 -- Two equal maps that were changed in ways that make alike functions are equal again.
 use Rattle.std.proofs.Common.{◌≡◌, Bool, true, false, ◌&&◌, List, Option, refl, sym}
 use Rattle.std.specs.Cmp.{IsEquivalence}
+use Rattle.rangemap_core.specs.Edges.{IsPlaced, EdgeOf}
 use Rattle.rangemap_core.specs.Items.{IsSame}
-use Rattle.rangemap_core.specs.Places.{IsPlaced}
 use Rattle.rangemap_core.specs.Ranges.{RangeKind, Alike, IsCanonOf, IsCanonical, IsStorable, erase, override, same_pairs, value_at}
 use Rattle.rangemap_core.proofs.Alike.{Alike-itself, Alike-through, Alike-turned, canon_along, erase-alike, erase-override, override-alike, override-override, override-swapped}
 use Rattle.rangemap_core.proofs.Unique.{alike_from_same, canon_unique, same_points}
 
-module _ {K X V : Type 0} (k : RangeKind K X) {high : X → Option K} (p : IsPlaced k high) {eq : V → V → Bool} (e : IsEquivalence eq) where
+module _ {K X V : Type 0} (k : RangeKind K X) {high : X → Option K} {part : EdgeOf X → EdgeOf X → X} (p : IsPlaced k high part) {eq : V → V → Bool} (e : IsEquivalence eq) where
   -- a clone of a range, with an equal value, makes an alike function
   pub override_by_clone : (old new : List (X × V)) (r s : X) (v w : V) → IsStorable k r → IsSame k r s → eq w v ≡ true → IsCanonOf k eq (override k (value_at k old) s w) new → IsCanonOf k eq (override k (value_at k old) r v) new
   override_by_clone old new r s v w stored same values c =

@@ -4,8 +4,9 @@ use Rattle.std.proofs.lemmas.Bool.Decides.{nat_tests}
 use Rattle.std.specs.Cmp.{IsTotalOrder}
 use Rattle.std.specs.Option.{is_some}
 use Rattle.std.specs.List.{find}
+use Rattle.rangemap_core.specs.Edges.{IsPlaced, EdgeOf}
 use Rattle.rangemap_core.specs.Ranges.{RangeKind, IsCanonical, IsStorable, AreGaps, covering, covers, unit_eq, with_unit}
-use Rattle.rangemap_core.specs.Places.{place_cmp, IsPlaced}
+use Rattle.rangemap_core.specs.Places.{place_cmp}
 use Rattle.rangemap_core.specs.PlacedKinds.{place_total}
 use Rattle.rangemap_core.specs.Orders.{Less-Equal, lt_lt}
 use Rattle.rangemap.specs.Parted.{IsParted}
@@ -25,7 +26,7 @@ covered_is k (a ∷ list) x = go (covered_is k list x) (k.holds a.0 x)
     go rest true = refl
     go rest false = rest
 
-module _ {K X : Type 0} {k : RangeKind K X} {high : X → Option K} (p : IsPlaced k high) where
+module _ {K X : Type 0} {k : RangeKind K X} {high : X → Option K} {part : EdgeOf X → EdgeOf X → X} (p : IsPlaced k high part) where
   o : IsTotalOrder (place_cmp k.cmp)
   o = place_total p.total
 

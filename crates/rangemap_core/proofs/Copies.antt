@@ -1,8 +1,9 @@
 -- A list that is equal pair by pair to a canonical one.
 use Rattle.std.proofs.Common.{arith, ◌≡◌, Bool, true, List, [], ◌∷◌, ◌++◌, Option, Some, Equal, sym, ◌∙◌, true≢false, is_le}
 use Rattle.std.specs.Cmp.{IsEquivalence, alike_right}
+use Rattle.rangemap_core.specs.Edges.{IsPlaced, EdgeOf}
 use Rattle.rangemap_core.specs.Ranges.{RangeKind, IsStorable, IsCanonical, IsCanonOf, value_at, same_pair, same_pairs}
-use Rattle.rangemap_core.specs.Places.{place_cmp, IsPlaced}
+use Rattle.rangemap_core.specs.Places.{place_cmp}
 use Rattle.rangemap_core.specs.PlacedKinds.{place_total}
 use Rattle.rangemap_core.specs.Comparisons.{same_pairs_equiv}
 use Rattle.rangemap_core.specs.Stretch.{Every}
@@ -28,7 +29,7 @@ module _ {K X V : Type 0} (k : RangeKind K X) (eq : V → V → Bool) where
   same_pairs-last (o ∷ ls) [] l m h s = absurd (true≢false (sym h))
   same_pairs-last (o ∷ ls) (n ∷ ms) l m h s = grind (arith, h, same_pairs-last ls ms l m)
 
-module _ {K X V : Type 0} (k : RangeKind K X) {high : X → Option K} (p : IsPlaced k high) (eq : V → V → Bool) (e : IsEquivalence eq) where
+module _ {K X V : Type 0} (k : RangeKind K X) {high : X → Option K} {part : EdgeOf X → EdgeOf X → X} (p : IsPlaced k high part) (eq : V → V → Bool) (e : IsEquivalence eq) where
   same_gap : (r s t u : X) → IsStorable k r → IsStorable k t → k.cmp (k.end r) (k.end t) ≡ Equal → k.cmp (k.start s) (k.start u) ≡ Equal
       → place_cmp k.cmp (high r) (Some (k.start s)) ≡ place_cmp k.cmp (high t) (Some (k.start u))
   same_gap r s t u sr st ends starts =

@@ -1,8 +1,9 @@
 -- A range that overlaps a stored one shares a point with it.
 use Rattle.std.proofs.Common.{arith, ◌≡◌, Bool, true, false, ◌&&◌, cond, List, [], ◌∷◌, Option, Some, None, option_map, refl, sym, ap, ◌∙◌, true≢false, Ordering, Less, Equal, Greater, is_lt, is_le}
 use Rattle.std.specs.Option.{option_eq}
+use Rattle.rangemap_core.specs.Edges.{IsPlaced, EdgeOf, asked}
 use Rattle.rangemap_core.specs.Ranges.{RangeKind, IsStorable, IsCanonOf, covering, overlapped, value_at}
-use Rattle.rangemap_core.specs.Places.{place_cmp, IsPlaced}
+use Rattle.rangemap_core.specs.Places.{place_cmp}
 use Rattle.rangemap_core.specs.Histories.{IsUndefinedOn}
 use Rattle.rangemap_core.specs.Stretch.{Every}
 use Rattle.rangemap_core.specs.Orders.{itself, le_Equal, le_Less, turn}
@@ -18,9 +19,9 @@ skipped : {V : Type 0} (b : Bool) (v : V) (o : Option V) → cond b (Some v) o �
 skipped true v o h = absurd (cc)
 skipped false v o h = (refl, h)
 
-module _ {K X : Type 0} (k : RangeKind K X) {high : X → Option K} (p : IsPlaced k high) where
+module _ {K X : Type 0} (k : RangeKind K X) {high : X → Option K} {part : EdgeOf X → EdgeOf X → X} (p : IsPlaced k high part) where
   holds_by : (r : X) (x : K) → IsStorable k r → k.is_key x → is_le (k.cmp (k.start r) x) ≡ true → is_lt (place_cmp k.cmp (Some x) (high r)) ≡ true → k.holds r x ≡ true
-  holds_by r x stored key from to = p.holds r x stored key ∙ (λ i. from i && to i)
+  holds_by r x stored key from to = p.holds r x (asked k r stored) key ∙ (λ i. from i && to i)
 
   holds_start : (r : X) → IsStorable k r → k.holds r (k.start r) ≡ true
   holds_start r stored = holds_by r (k.start r) stored stored.start_is_key (le_Equal (itself p.total (k.start r))) (ap is_lt (p.non_empty r stored))
@@ -30,7 +31,7 @@ module _ {K X : Type 0} (k : RangeKind K X) {high : X → Option K} (p : IsPlace
   shared q r sq sr h = by (k.cmp (k.start q) (k.start r)) refl
     where
       both : (is_lt (place_cmp k.cmp (Some (k.start q)) (high r)) && is_lt (place_cmp k.cmp (Some (k.start r)) (high q))) ≡ true
-      both = sym (p.meets q r sq sr) ∙ h
+      both = sym (p.meets q r (asked k q sq) sr) ∙ h
 
       first : is_lt (place_cmp k.cmp (Some (k.start q)) (high r)) ≡ true
       first = first_true (is_lt (place_cmp k.cmp (Some (k.start q)) (high r))) (is_lt (place_cmp k.cmp (Some (k.start r)) (high q))) both

@@ -5,19 +5,16 @@ use Rattle.std.specs.Cmp.{IsTotalOrder}
 use Rattle.std.specs.declared.alloc.AllocError.{AllocError}
 use Rattle.rangemap_core.specs.Ranges.{RangeKind, IsStorable}
 use Rattle.rangemap_core.specs.Items.{IsSame}
-use Rattle.rangemap_core.specs.Places.{place_cmp, IsPlaced, Spans}
+use Rattle.rangemap_core.specs.Places.{place_cmp, Spans}
 use Rattle.rangemap_core.specs.PlacedKinds.{place_total}
 use Rattle.rangemap_core.specs.Orders.{eq_eq, eq_turn}
-use Rattle.rangemap_core.specs.Edges.{AnswersByEdges, EdgeOf, IsAsked, AtStart, AtEnd, IsAskedAt, has_part, place_of}
+use Rattle.rangemap_core.specs.Edges.{EdgeOf, AtStart, AtEnd, IsAskedAt, has_part, place_of, IsPlaced}
 use Rattle.rangemap_core.specs.Shape.{shape_of}
 use Rattle.rangemap_core.specs.Stretch.{Every, IsTaken, taken_or_new}
 use Rattle.rangemap_core.proofs.PlaceOrder.{le_lt_trans, lt_le_trans}
 use Rattle.rangemap_core.proofs.Searches.{Every-at}
 
-pub asked : {K X : Type 0} {k : RangeKind K X} (r : X) → IsStorable k r → IsAsked k r
-asked r stored = record { start_is_key = stored.start_is_key; end_is_key = stored.end_is_key }
-
-module _ {K X : Type 0} {k : RangeKind K X} {high : X → Option K} (p : IsPlaced k high) where
+module _ {K X : Type 0} {k : RangeKind K X} {high : X → Option K} {part : EdgeOf X → EdgeOf X → X} (p : IsPlaced k high part) where
   o : IsTotalOrder (place_cmp k.cmp)
   o = place_total p.total
 
@@ -25,10 +22,10 @@ module _ {K X : Type 0} {k : RangeKind K X} {high : X → Option K} (p : IsPlace
   pub same_high : (r s : X) → IsStorable k r → IsSame k r s → place_cmp k.cmp (high r) (high s) ≡ Equal
   same_high r s stored same = sym (p.ends r s stored same.storable) ∙ same.ends
 
-  pub part_spans : {part : EdgeOf X → EdgeOf X → X} → AnswersByEdges k high part → (from to : EdgeOf X) (range : X) → IsAskedAt k from → IsAskedAt k to → has_part k high from to ≡ true
+  pub part_spans : (from to : EdgeOf X) (range : X) → IsAskedAt k from → IsAskedAt k to → has_part k high from to ≡ true
       → IsSame k (part from to) range → Spans k high (place_of k high from) (place_of k high to) range
-  part_spans {part} answers from to range a b h same =
-      let s = answers.spans from to a b h in
+  part_spans from to range a b h same =
+      let s = p.spans from to a b h in
       record {
         storable = same.storable;
         from = eq_eq o {a = Some (k.start range)} {b = Some (k.start (part from to))} {c = place_of k high from} (eq_turn p.total same.starts) s.from;
@@ -36,10 +33,10 @@ module _ {K X : Type 0} {k : RangeKind K X} {high : X → Option K} (p : IsPlace
       }
 
   -- the same of an answer that may be a refusal
-  pub answered_spans : {part : EdgeOf X → EdgeOf X → X} → AnswersByEdges k high part → (from to : EdgeOf X) (result : Result X AllocError) → IsAskedAt k from → IsAskedAt k to → has_part k high from to ≡ true
+  pub answered_spans : (from to : EdgeOf X) (result : Result X AllocError) → IsAskedAt k from → IsAskedAt k to → has_part k high from to ≡ true
       → IfOk result (IsSame k (part from to)) → IfOk result (Spans k high (place_of k high from) (place_of k high to))
-  answered_spans answers from to (Ok range) a b h same = part_spans answers from to range a b h same
-  answered_spans answers from to (Err e) a b h same = tt
+  answered_spans from to (Ok range) a b h same = part_spans from to range a b h same
+  answered_spans from to (Err e) a b h same = tt
 
 -- ---- what is taken into the middle
 
@@ -55,7 +52,7 @@ module _ {X V : Type 0} (xs : List (X × V)) (i : ℕ) (pair : X × V) where
   taken_storable all stored false bound = stored
 
 -- from the first that is taken up to the last
-pub has_middle : {K X V : Type 0} {k : RangeKind K X} {high : X → Option K} (p : IsPlaced k high) (eq : V → V → Bool) (xs : List (X × V)) (pair : X × V) (start end : ℕ) (takes_first takes_last : Bool)
+pub has_middle : {K X V : Type 0} {k : RangeKind K X} {high : X → Option K} {part : EdgeOf X → EdgeOf X → X} (p : IsPlaced k high part) (eq : V → V → Bool) (xs : List (X × V)) (pair : X × V) (start end : ℕ) (takes_first takes_last : Bool)
     → IsTaken (shape_of k high eq) xs pair start end takes_first takes_last → IsStorable k pair.0
     → has_part k high (AtStart (taken_or_new xs start takes_first pair)) (AtEnd (taken_or_new xs (end - 1) takes_last pair)) ≡ true
 has_middle {k} {high} p eq xs pair start end takes_first takes_last taken stored =

@@ -6,12 +6,12 @@ use Rattle.std.specs.Option.{unwrap_or}
 use Rattle.std.specs.declared.alloc.AllocError.{AllocError}
 use Rattle.std.proofs.lemmas.List.{map-id}
 use Rattle.std.proofs.lemmas.Option.{slice_get_past}
+use Rattle.rangemap_core.specs.Edges.{IsPlaced, EdgeOf}
 use Rattle.rangemap_core.specs.declared.calls.Call.{Call}
 use Rattle.rangemap_core.specs.declared.calls.Call.TheVariants.{New, Insert, Remove, Clear, Clone, FromIter, Extend}
 use Rattle.rangemap_core.specs.Histories.{IsUndefinedOn}
 use Rattle.rangemap_core.specs.MapHistories.{MapsMake, MapsMakeAll, ShowCanonOf}
 use Rattle.rangemap_core.specs.Runs.{MakesEach}
-use Rattle.rangemap_core.specs.Places.{IsPlaced}
 use Rattle.rangemap_core.specs.Ranges.{RangeKind, IsCanonOf, IsStorable, Overrides, erase, nothing, overlapped, override, override_all, value_at}
 use Rattle.rangemap_core.proofs.Alike.{canon_along}
 use Rattle.rangemap_core.proofs.Canon.{erase_of, override_all_of, override_of}
@@ -82,7 +82,7 @@ module _ {K X V M : Type 0} (A : Type 0) (k : RangeKind K X) {eq : V → V → B
     insert_here r v (Ok u) ok err fs h = changed Shows fs ls at l m (λ f. override k f r v) h here is (λ f c. override_of k e f r (shown l) (shown m) c v ok)
     insert_here r v (Err u) ok err fs h = (fs, refl, same err fs h)
 
-    pub remove_here : {high : X → Option K} (p : IsPlaced k high) (r : X) → IsStorable k r → (res : Result (Unit {0}) AllocError) → OnOk res (IsCanonOf k eq (erase k (value_at k (shown l)) r) (shown m)) → OnErr res (shown m ≡ shown l) → (overlapped k (shown l) r ≡ [] → IsOk res × (shown m ≡ shown l))
+    pub remove_here : {high : X → Option K} {part : EdgeOf X → EdgeOf X → X} (p : IsPlaced k high part) (r : X) → IsStorable k r → (res : Result (Unit {0}) AllocError) → OnOk res (IsCanonOf k eq (erase k (value_at k (shown l)) r) (shown m)) → OnErr res (shown m ≡ shown l) → (overlapped k (shown l) r ≡ [] → IsOk res × (shown m ≡ shown l))
         → MapsMake {A = A} k eq shown ls (Remove at r) (is_ok res) (set ls at m)
     remove_here p r stored (Ok u) ok err none fs h = changed Shows fs ls at l m (λ f. erase k f r) h here is (λ f c. erase_of k e f r (shown l) (shown m) c ok)
     remove_here p r stored (Err u) ok err none fs h = (fs, (refl, λ f there undefined. met f there undefined), same err fs h)

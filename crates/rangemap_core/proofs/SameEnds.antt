@@ -2,8 +2,9 @@
 use Rattle.std.proofs.Common.{◌≡◌, List, [], ◌∷◌, ◌++◌, ◌&&◌, ◌||◌, Option, Some, append_assoc, append-nil, refl, subst, sym, ap, ◌∙◌, is_lt, is_le}
 use Rattle.std.specs.Cmp.{IsTotalOrder}
 use Rattle.std.specs.Cmp as order
+use Rattle.rangemap_core.specs.Edges.{IsPlaced, EdgeOf, asked}
 use Rattle.rangemap_core.specs.Ranges.{RangeKind, IsStorable, IsCanonical, AreGaps, covers, unit_eq, with_unit}
-use Rattle.rangemap_core.specs.Places.{place_cmp, IsPlaced}
+use Rattle.rangemap_core.specs.Places.{place_cmp}
 use Rattle.rangemap_core.specs.PlacedKinds.{place_total}
 use Rattle.rangemap_core.specs.Orders.{eq_le, eq_eq, eq_turn, le_eq}
 use Rattle.rangemap_core.specs.Items.{AreSame, IsSame, TakesRange}
@@ -33,16 +34,16 @@ module _ {K X : Type 0} (k : RangeKind K X) where
   pub take_all : (all left items : List X) → IsTakenSoFar all left items → left ≡ [] → AreSame k all items
   take_all all left items so_far none = subst (λ xs. AreSame k xs items) (sym (so_far.1 ∙ ap (λ xs. so_far.0 ++ xs) none ∙ append-nil so_far.0)) so_far.2
 
-module _ {K X : Type 0} {k : RangeKind K X} {high : X → Option K} (p : IsPlaced k high) where
+module _ {K X : Type 0} {k : RangeKind K X} {high : X → Option K} {part : EdgeOf X → EdgeOf X → X} (p : IsPlaced k high part) where
   o : IsTotalOrder (place_cmp k.cmp)
   o = place_total p.total
 
   same_holds : (r s : X) (x : K) → IsStorable k r → k.is_key x → IsSame k r s → k.holds s x ≡ k.holds r x
   same_holds r s x stored key same =
-      p.holds s x same.storable key
+      p.holds s x (asked k s same.storable) key
       ∙ ap (λ c. is_le c && is_lt (place_cmp k.cmp (Some x) (high s))) (sym (p.total.congr (k.start r) (k.start s) x same.starts))
       ∙ ap (λ c. is_le (k.cmp (k.start r) x) && is_lt c) (sym (order.alike_right o (high r) (high s) (Some x) (same_high p r s stored same)))
-      ∙ sym (p.holds r x stored key)
+      ∙ sym (p.holds r x (asked k r stored) key)
 
   same_covers : (rs ss : List X) (x : K) → IsCanonical k (unit_eq k) (with_unit k rs) → k.is_key x → AreSame k rs ss → covers k ss x ≡ covers k rs x
   same_covers [] [] x can key h = refl

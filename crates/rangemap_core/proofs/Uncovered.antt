@@ -8,12 +8,11 @@ use Rattle.std.specs.Option.{IfSome, is_some}
 use Rattle.std.specs.List.{find}
 use Rattle.std.specs.Ordering.{ordering_reverse}
 use Rattle.rangemap_core.specs.Ranges.{RangeKind, IsStorable, IsCanonical, AreGaps, covers, overlapped, unit_eq, with_unit}
-use Rattle.rangemap_core.specs.Places.{place_cmp, IsPlaced}
+use Rattle.rangemap_core.specs.Places.{place_cmp}
 use Rattle.rangemap_core.specs.PlacedKinds.{place_total}
 use Rattle.rangemap_core.specs.Orders.{Less-Equal, le_Less, le_Equal, eq_le, eq_lt, lt_le, le_lt, eq_turn, itself, not_lt}
 use Rattle.rangemap_core.specs.EdgeKinds.{lt_is}
-use Rattle.rangemap_core.specs.Edges.{AnswersByEdges, EdgeOf, AtStart, AtEnd, IsAsked, IsAskedAt, gaps_from, has_part, part_before, place_of}
-use Rattle.rangemap_core.proofs.Pieces.{asked}
+use Rattle.rangemap_core.specs.Edges.{EdgeOf, AtStart, AtEnd, IsAsked, IsAskedAt, gaps_from, has_part, part_before, place_of, IsPlaced, asked}
 
 -- ---- tests of one key: e and s are whether it is below the end and the start of a range, f and t whether it is below where a gap starts and the query ends, and c whether a later range covers it
 
@@ -88,7 +87,7 @@ covers-cons k r rs x = go (k.holds r x)
 abbrev ranges : {X V : Type 0} → List (X × V) → List X
 ranges list = map (λ p. p.0) list
 
-module _ {K X V : Type 0} {k : RangeKind K X} {high : X → Option K} (p : IsPlaced k high) {part : EdgeOf X → EdgeOf X → X} (ans : AnswersByEdges k high part)
+module _ {K X V : Type 0} {k : RangeKind K X} {high : X → Option K} {part : EdgeOf X → EdgeOf X → X} (p : IsPlaced k high part)
     (eq : V → V → Bool) (q : X) (q_asked : IsAsked k q) where
   abbrev R : Option K → Option K → Ordering
   R = place_cmp k.cmp
@@ -117,17 +116,17 @@ module _ {K X V : Type 0} {k : RangeKind K X} {high : X → Option K} (p : IsPla
 
   from_asked : (previous : Option X) → IfSome previous (IsStorable k) → IsAskedAt k (from previous)
   from_asked None stored = q_asked
-  from_asked (Some r) stored = asked r stored
+  from_asked (Some r) stored = asked k r stored
 
   to_asked : (next : Option X) → IfSome next (IsStorable k) → IsAskedAt k (to next)
   to_asked None stored = q_asked
-  to_asked (Some r) stored = asked r stored
+  to_asked (Some r) stored = asked k r stored
 
   o : IsTotalOrder R
   o = place_total p.total
 
   holds_stored : (r : X) (x : K) → IsStorable k r → k.is_key x → k.holds r x ≡ (not (is_lt (R (Some x) (low r))) && is_lt (R (Some x) (high r)))
-  holds_stored r x stored key = p.holds r x stored key ∙ ap (λ b. b && is_lt (R (Some x) (high r))) (le_is o (low r) (Some x))
+  holds_stored r x stored key = p.holds r x (asked k r stored) key ∙ ap (λ b. b && is_lt (R (Some x) (high r))) (le_is o (low r) (Some x))
 
   -- what one gap more covers
   in_gap : (previous next : Option X) → IfSome previous (IsStorable k) → IfSome next (IsStorable k) → (rest : List X) (x : K) → k.is_key x
@@ -138,8 +137,8 @@ module _ {K X V : Type 0} {k : RangeKind K X} {high : X → Option K} (p : IsPla
           → covers k (cond b (part (from previous) (to next) ∷ rest) rest) x ≡ ((not (is_lt (R (Some x) (start previous))) && is_lt (R (Some x) (end next))) || covers k rest x)
       go true e =
           let g = part (from previous) (to next) in
-          let s = ans.spans (from previous) (to next) (from_asked previous sp) (to_asked next sn) e in
-          covers-cons k g rest x ∙ ap (λ b. b || covers k rest x) (p.holds g x s.storable key ∙ between_tied o (Some x) (low g) (high g) (start previous) (end next) s.from s.to)
+          let s = p.spans (from previous) (to next) (from_asked previous sp) (to_asked next sn) e in
+          covers-cons k g rest x ∙ ap (λ b. b || covers k rest x) (p.holds g x (asked k g s.storable) key ∙ between_tied o (Some x) (low g) (high g) (start previous) (end next) s.from s.to)
       go false e = sym (ap (λ b. b || covers k rest x) (nothing_between o (Some x) (start previous) (end next) e))
 
   -- the range lies before the pairs
@@ -189,7 +188,7 @@ module _ {K X V : Type 0} {k : RangeKind K X} {high : X → Option K} (p : IsPla
           → (b : Bool) → k.meets q a.0 ≡ b → covers k (gaps previous (cond b (a ∷ overlapped k list q) (overlapped k list q))) x
           ≡ ((not (is_lt (R (Some x) (start previous))) && is_lt (R (Some x) (high q))) && not (covers k (ranges (a ∷ list)) x))
       go taken skipped true m =
-          let both = sym (ans.meets q a.0 q_asked can.0) ∙ m in
+          let both = sym (p.meets q a.0 q_asked can.0) ∙ m in
           let up = second_of_and _ _ both in
           let from_end = start_below previous a list can.0 behind (first_of_and _ _ both) in
           in_gap previous (Some a.0) sp can.0 (gaps (Some a.0) (overlapped k list q)) x key
@@ -204,7 +203,7 @@ module _ {K X V : Type 0} {k : RangeKind K X} {high : X → Option K} (p : IsPla
       go taken skipped false m =
           skipped
           ∙ misses_tests (is_lt (R (Some x) (high a.0))) (is_lt (R (Some x) (low a.0))) (is_lt (R (Some x) (start previous))) (is_lt (R (Some x) (high q))) (covers k (ranges list) x)
-          (is_lt (R (low q) (high a.0))) (is_lt (R (low a.0) (high q))) (sym (ans.meets q a.0 q_asked can.0) ∙ m)
+          (is_lt (R (low q) (high a.0))) (is_lt (R (low a.0) (high q))) (sym (p.meets q a.0 q_asked can.0) ∙ m)
           (λ h l. below o (Some x) (high a.0) (start previous) l (le_through o (high a.0) (low q) (start previous) (not_lt o (low q) (high a.0) h) from))
           (λ h l. below o (Some x) (high q) (low a.0) l (not_lt o (low a.0) (high q) h))
           ∙ covered
@@ -222,7 +221,7 @@ module _ {K X V : Type 0} {k : RangeKind K X} {high : X → Option K} (p : IsPla
   gap_starts previous next sp sn rest h = go (has_part k high (from previous) (to next)) refl
     where
       go : (b : Bool) → has_part k high (from previous) (to next) ≡ b → StartsFrom (start previous) (cond b (part (from previous) (to next) ∷ rest) rest)
-      go true e = le_Equal (eq_turn o {a = low (part (from previous) (to next))} {b = start previous} (ans.spans (from previous) (to next) (from_asked previous sp) (to_asked next sn) e).from)
+      go true e = le_Equal (eq_turn o {a = low (part (from previous) (to next))} {b = start previous} (p.spans (from previous) (to next) (from_asked previous sp) (to_asked next sn) e).from)
       go false e = h
 
   gaps_start : (previous : Option X) (list : List (X × V)) → IfSome previous (IsStorable k) → IsBehind previous list → IsCanonical k eq list → StartsFrom (start previous) (gaps previous (overlapped k list q))
@@ -232,7 +231,7 @@ module _ {K X V : Type 0} {k : RangeKind K X} {high : X → Option K} (p : IsPla
     where
       go : StartsFrom (high a.0) (gaps (Some a.0) (overlapped k list q)) → StartsFrom (start previous) (gaps previous (overlapped k list q)) → (b : Bool) → k.meets q a.0 ≡ b → StartsFrom (start previous) (gaps previous (cond b (a ∷ overlapped k list q) (overlapped k list q)))
       go taken skipped true m =
-          let from_end = start_below previous a list can.0 behind (first_of_and _ _ (sym (ans.meets q a.0 q_asked can.0) ∙ m)) in
+          let from_end = start_below previous a list can.0 behind (first_of_and _ _ (sym (p.meets q a.0 q_asked can.0) ∙ m)) in
           gap_starts previous (Some a.0) sp can.0 (gaps (Some a.0) (overlapped k list q))
           (starts_sooner (start previous) (high a.0) (gaps (Some a.0) (overlapped k list q)) (le_Less from_end) taken)
       go taken skipped false m = skipped
@@ -248,7 +247,7 @@ module _ {K X V : Type 0} {k : RangeKind K X} {high : X → Option K} (p : IsPla
   canonical previous [] sp behind can = go (has_part k high (from previous) (to None)) refl
     where
       go : (b : Bool) → has_part k high (from previous) (to None) ≡ b → IsCanonical k (unit_eq k) (with_unit k (cond b (part (from previous) (to None) ∷ []) []))
-      go true e = ((ans.spans (from previous) (to None) (from_asked previous sp) (to_asked None tt) e).storable, tt, tt)
+      go true e = ((p.spans (from previous) (to None) (from_asked previous sp) (to_asked None tt) e).storable, tt, tt)
       go false e = tt
   canonical previous (a ∷ list) sp behind can =
       go (canonical (Some a.0) list can.0 (next_behind a list can) can.2) (canonical previous list sp (still_behind previous a list can behind) can.2) (k.meets q a.0) refl
@@ -256,7 +255,7 @@ module _ {K X V : Type 0} {k : RangeKind K X} {high : X → Option K} (p : IsPla
       one_more : IsCanonical k (unit_eq k) (with_unit k (gaps (Some a.0) (overlapped k list q))) → (c : Bool) → has_part k high (from previous) (to (Some a.0)) ≡ c
           → IsCanonical k (unit_eq k) (with_unit k (cond c (part (from previous) (to (Some a.0)) ∷ gaps (Some a.0) (overlapped k list q)) (gaps (Some a.0) (overlapped k list q))))
       one_more taken true e =
-          let s = ans.spans (from previous) (to (Some a.0)) (from_asked previous sp) (to_asked (Some a.0) can.0) e in
+          let s = p.spans (from previous) (to (Some a.0)) (from_asked previous sp) (to_asked (Some a.0) can.0) e in
           canonical_cons (part (from previous) (to (Some a.0))) (gaps (Some a.0) (overlapped k list q)) (low a.0) (high a.0) s.storable s.to (p.non_empty a.0 can.0)
           (gaps_start (Some a.0) list can.0 (next_behind a list can) can.2) taken
       one_more taken false e = taken
@@ -270,5 +269,5 @@ module _ {K X V : Type 0} {k : RangeKind K X} {high : X → Option K} (p : IsPla
   pub are_gaps : (list : List (X × V)) → IsCanonical k eq list → AreGaps k (ranges list) q (gaps None (overlapped k list q))
   are_gaps list can = record {
     canonical = canonical None list tt tt can;
-    points = λ x key. points None list tt tt (le_Equal (itself o (low q))) can x key ∙ ap (λ b. b && not (covers k (ranges list) x)) (sym (ans.holds q x q_asked key ∙ ap (λ b. b && is_lt (R (Some x) (high q))) (le_is o (low q) (Some x))));
+    points = λ x key. points None list tt tt (le_Equal (itself o (low q))) can x key ∙ ap (λ b. b && not (covers k (ranges list) x)) (sym (p.holds q x q_asked key ∙ ap (λ b. b && is_lt (R (Some x) (high q))) (le_is o (low q) (Some x))));
   }

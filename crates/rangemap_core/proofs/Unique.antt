@@ -3,8 +3,9 @@ use Rattle.std.proofs.Common.{◌≡◌, Bool, true, false, ◌&&◌, cond, IsTr
 use Rattle.std.specs.Option.{option_eq}
 use Rattle.std.specs.Cmp.{IsTotalOrder, IsEquivalence, alike_right}
 use Rattle.rangemap_core.proofs.Alike.{Alike-through, Alike-turned}
+use Rattle.rangemap_core.specs.Edges.{IsPlaced, EdgeOf, asked}
 use Rattle.rangemap_core.specs.Ranges.{RangeKind, IsStorable, IsCanonical, covering, value_at, Alike, same_pair, same_pairs, IsCanonOf}
-use Rattle.rangemap_core.specs.Places.{place_cmp, IsPlaced}
+use Rattle.rangemap_core.specs.Places.{place_cmp}
 use Rattle.rangemap_core.specs.PlacedKinds.{place_total}
 use Rattle.rangemap_core.specs.Orders.{le_Less, le_Equal, turn, lt_eq, eq_lt, eq_eq, lt_lt, lt_le, eq_turn, itself, lt_not_le, le_not_lt}
 
@@ -208,7 +209,7 @@ same_length k eq (l ∷ ls) (m ∷ ms) h =
 
 -- ---- the places of a kind of range
 
-module _ {K X : Type 0} (k : RangeKind K X) {high : X → Option K} (p : IsPlaced k high) where
+module _ {K X : Type 0} (k : RangeKind K X) {high : X → Option K} {part : EdgeOf X → EdgeOf X → X} (p : IsPlaced k high part) where
   none_last : (g : Option K) → place_cmp k.cmp None g ≡ Less → ⊥
   none_last None h = true≢false (sym (ap is_lt h))
   none_last (Some y) h = true≢false (sym (ap is_lt h))
@@ -221,7 +222,7 @@ module _ {K X : Type 0} (k : RangeKind K X) {high : X → Option K} (p : IsPlace
     non_empty = p.non_empty;
     before = p.before;
     touches = p.touches_from;
-    holds = p.holds;
+    holds = λ r x stored key. p.holds r x (asked k r stored) key;
     start_point = λ r stored. (k.start r, stored.start_is_key, itself p.total (k.start r));
     end_point = λ r s stored other low. go r (high r) refl stored (high s) low;
   }
@@ -233,9 +234,9 @@ module _ {K X : Type 0} (k : RangeKind K X) {high : X → Option K} (p : IsPlace
   -- ranges with equal ends have the same points
   pub same_points : (r s : X) (x : K) → IsStorable k r → IsStorable k s → k.is_key x → k.cmp (k.start r) (k.start s) ≡ Equal → k.cmp (k.end r) (k.end s) ≡ Equal → k.holds r x ≡ k.holds s x
   same_points r s x sr ss key a b =
-      p.holds r x sr key
+      p.holds r x (asked k r sr) key
       ∙ (λ i. is_le (p.total.congr (k.start r) (k.start s) x a i) && is_lt (alike_right (place_total p.total) (high r) (high s) (Some x) (sym (p.ends r s sr ss) ∙ b) i))
-      ∙ sym (p.holds s x ss key)
+      ∙ sym (p.holds s x (asked k s ss) key)
 
   module _ {V : Type 0} (eq : V → V → Bool) (e : IsEquivalence eq) where
     -- canonical lists of alike point functions are equal pair by pair

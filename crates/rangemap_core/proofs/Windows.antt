@@ -6,7 +6,7 @@ use Rattle.std.specs.List.Sorted.{IsPartitionPoint}
 use Rattle.std.specs.Cmp.{IsTotalOrder}
 use Rattle.std.proofs.lemmas.List.{get_or-drop}
 use Rattle.rangemap_core.specs.Ranges.{RangeKind, IsStorable, IsCanonical, overlapped}
-use Rattle.rangemap_core.specs.Places.{place_cmp, IsPlaced}
+use Rattle.rangemap_core.specs.Places.{place_cmp}
 use Rattle.rangemap_core.specs.PlacedKinds.{place_total}
 use Rattle.rangemap_core.specs.Orders.{Less-Equal, turn, lt_lt, lt_le, not_lt}
 use Rattle.rangemap_core.specs.Shape.{starts_by_key}
@@ -14,7 +14,7 @@ use Rattle.rangemap_core.proofs.Bridge.{S, places, to_spaced, all_storable}
 use Rattle.rangemap_core.proofs.PlaceOrder.{le_trans, not_lt_ge}
 use Rattle.rangemap_core.proofs.Searches.{Every-at, apart_at, lows_rise}
 use Rattle.rangemap_core.specs.EdgeKinds.{lt_is}
-use Rattle.rangemap_core.specs.Edges.{AnswersByEdges, EdgeOf, IsAsked}
+use Rattle.rangemap_core.specs.Edges.{EdgeOf, IsAsked, IsPlaced, asked}
 use Rattle.rangemap_core.specs.Stretch.{ends_by, starts_within, IsOverlap}
 
 of_not : (b : Bool) → not b ≡ true → b ≡ false
@@ -51,7 +51,7 @@ module _ {X : Type 0} (f : X → Bool) where
       ap (λ b. cond b (x ∷ filter f xs) (filter f xs)) (h 0 x (omega arith) (omega arith))
       ∙ ap (λ ys. x ∷ ys) (filter-take xs m (λ i d lt l. h (suc i) d (omega arith) (omega arith)) (λ i d le l. k (suc i) d (omega arith) (omega arith)))
 
-module _ {K X V : Type 0} {k : RangeKind K X} {high : X → Option K} (p : IsPlaced k high) (eq : V → V → Bool) where
+module _ {K X V : Type 0} {k : RangeKind K X} {high : X → Option K} {part : EdgeOf X → EdgeOf X → X} (p : IsPlaced k high part) (eq : V → V → Bool) where
   o : IsTotalOrder (place_cmp k.cmp)
   o = place_total p.total
 
@@ -82,30 +82,30 @@ module _ {K X V : Type 0} {k : RangeKind K X} {high : X → Option K} (p : IsPla
         ap (λ r. not (is_lt r)) (lt_lt o {a = Some (k.start q)} {b = Some (k.start e)} {c = high e} up (p.non_empty e (stored_at list can i d l)))
 
     -- of the pairs that start no later than the key of q's end, all but the last start before q ends
-    pub begun_but_the_last : {part : EdgeOf X → EdgeOf X → X} → AnswersByEdges k high part → IsAsked k q → (list : List (X × V)) (near : ℕ) → IsCanonical k eq list → near ≤ length list
+    pub begun_but_the_last : IsAsked k q → (list : List (X × V)) (near : ℕ) → IsCanonical k eq list → near ≤ length list
         → IsPartitionPoint (λ a. starts_by_key k (k.end q) a ≡ true) (λ a. starts_by_key k (k.end q) a ≡ false) list near
         → (i : ℕ) (d : X × V) → 0 ≤ i → i < near - 1 → starts_within (S p eq) q (get_or list i d) ≡ true
-    begun_but_the_last ans asked list near can le point i d z l =
+    begun_but_the_last asked list near can le point i d z l =
         let a = (get_or list i d).0 in
         let b = (get_or list (near - 1) d).0 in
         let up : k.cmp (k.start a) (k.start b) ≡ Less = lows_rise (S p eq) (places p eq) list (to_spaced p eq list can) i (near - 1) d (omega arith) (omega arith) in
         let by : is_le (k.cmp (k.start b) (k.end q)) ≡ true = not_lt p.total (k.end q) (k.start b) (of_not _ (point.0 (near - 1) d (omega arith) (omega arith))) in
         let before : k.cmp (k.start a) (k.end q) ≡ Less = lt_le p.total {a = k.start a} {b = k.start b} {c = k.end q} up by in
-        ans.away_from_end q (k.start a) asked (stored_at list can i d (omega arith)).start_is_key (Less-Equal before) ∙ ap is_lt before
+        p.away_from_end q (k.start a) asked (stored_at list can i d (omega arith)).start_is_key (Less-Equal before) ∙ ap is_lt before
 
     -- and none of the others does
-    pub not_begun_behind : {part : EdgeOf X → EdgeOf X → X} → AnswersByEdges k high part → IsAsked k q → (list : List (X × V)) (near : ℕ) → IsCanonical k eq list
+    pub not_begun_behind : IsAsked k q → (list : List (X × V)) (near : ℕ) → IsCanonical k eq list
         → IsPartitionPoint (λ a. starts_by_key k (k.end q) a ≡ true) (λ a. starts_by_key k (k.end q) a ≡ false) list near
         → (i : ℕ) (d : X × V) → near ≤ i → i < length list → starts_within (S p eq) q (get_or list i d) ≡ false
-    not_begun_behind ans asked list near can point i d le l =
+    not_begun_behind asked list near can point i d le l =
         let e = (get_or list i d).0 in
         let behind : k.cmp (k.start e) (k.end q) ≡ Greater = turn p.total {a = k.end q} {b = k.start e} {r = Less} (lt_is _ (of_not_false _ (point.1 i d le l))) in
-        ans.away_from_end q (k.start e) asked (stored_at list can i d l).start_is_key (Greater-Equal behind) ∙ ap is_lt behind
+        p.away_from_end q (k.start e) asked (stored_at list can i d l).start_is_key (Greater-Equal behind) ∙ ap is_lt behind
 
     -- the stretch is what overlaps
-    pub window : {part : EdgeOf X → EdgeOf X → X} → AnswersByEdges k high part → IsAsked k q → (list : List (X × V)) (from to : ℕ) → IsCanonical k eq list
+    pub window : IsAsked k q → (list : List (X × V)) (from to : ℕ) → IsCanonical k eq list
         → IsOverlap (S p eq) list q from to → take (to - from) (drop from list) ≡ overlapped k list q
-    window ans asked list from to can ov =
+    window asked list from to can ov =
         let f = λ (a : X × V). k.meets q a.0 in
         let bound = length-drop from list in
         sym (filter-take f (drop from list) (to - from)
@@ -114,7 +114,7 @@ module _ {K X V : Type 0} {k : RangeKind K X} {high : X → Option K} (p : IsPla
         ∙ filter-drop f list from (λ j d lt l. met j d l ∙ ap (λ t. t && starts_within (S p eq) q (get_or list j d)) (of_not _ (ov.ended.0 j d (omega arith) lt)))
       where
         met : (j : ℕ) (d : X × V) → j < length list → k.meets q (get_or list j d).0 ≡ (is_lt (place_cmp k.cmp (Some (k.start q)) (high (get_or list j d).0)) && starts_within (S p eq) q (get_or list j d))
-        met j d l = ans.meets q (get_or list j d).0 asked (stored_at list can j d l)
+        met j d l = p.meets q (get_or list j d).0 asked (stored_at list can j d l)
 
         met_there : (j : ℕ) (d : X × V) → j < length (drop from list)
             → k.meets q (get_or (drop from list) j d).0 ≡ (is_lt (place_cmp k.cmp (Some (k.start q)) (high (get_or list (from + j) d).0)) && starts_within (S p eq) q (get_or list (from + j) d))

@@ -1,4 +1,4 @@
--- Half-open and closed ranges answer by their edges what is asked about them.
+-- Half-open and closed ranges lie between places, and answer by their edges what is asked about them.
 use Rattle.std.proofs.Common.{◌≡◌, true, false, ◌&&◌, Option, Some, None, MatchOption, unwrap_or, ◌∙◌, ap, refl, sym, Ordering, Less, Equal, Greater, is_lt, is_le}
 use Rattle.std.specs.Prelude.{◌≢◌}
 use Rattle.std.specs.Cmp.{IsTotalOrder}
@@ -8,9 +8,9 @@ use Rattle.std.specs.Range.{range_inclusive_start, range_inclusive_end}
 use Rattle.rangemap_core.specs.Ranges.{closed, half_open}
 use Rattle.rangemap_core.specs.Steps.{HasSmaller, IsNext, GivesSuccessors, GivesPredecessors}
 use Rattle.rangemap_core.specs.Places.{place_cmp, Spans}
-use Rattle.rangemap_core.specs.PlacedKinds.{After, closed_high, half_open_high, holds_by, nexts_tied_by, place_total}
+use Rattle.rangemap_core.specs.PlacedKinds.{After, after_le, after_le_from, below_after, closed_high, ends_as_places, half_open_high, holds_by, next_is_key, nexts_tied_by, place_total, tied_touches, touches_tied}
 use Rattle.rangemap_core.specs.Orders.{eq_lt, eq_turn, itself, lt_eq}
-use Rattle.rangemap_core.specs.Edges.{AnswersByEdges, EdgeOf, AtStart, AtEnd, IsAskedAt, has_part, place_of}
+use Rattle.rangemap_core.specs.Edges.{EdgeOf, AtStart, AtEnd, IsAskedAt, IsPlaced, has_part, place_of}
 
 -- what the test of an answer says
 pub lt_is : (r : Ordering) → is_lt r ≡ true → r ≡ Less
@@ -56,8 +56,16 @@ module _ {K : Type 0} {cmp : K → K → Ordering} (o : IsTotalOrder cmp) where
     to = rw (half_open_place cmp to) (itself o (half_open_key to));
   }
 
-  pub half_open_answers : AnswersByEdges (half_open cmp) half_open_high half_open_part
-  half_open_answers = record {
+  pub half_open_placed : IsPlaced (half_open cmp) half_open_high half_open_part
+  half_open_placed = record {
+    total = o;
+    ends = λ r s p q. refl;
+    high_is_key = λ r x p h. tt;
+    non_empty = λ r p. p.non_empty;
+    before = λ r s p q h. h;
+    before_from = λ r s p q h. h;
+    touches = λ r s p q h. h;
+    touches_from = λ r s p q h. h;
     meets = λ q r asked stored. refl;
     holds = λ q x asked key. refl;
     away_from_end = λ q x asked key h. refl;
@@ -135,8 +143,20 @@ module _ {K : Type 0} (is_key : K → Type 0) (cmp : K → K → Ordering) (o : 
   starts_by_end : (x e : K) → is_key x → is_key e → is_le (cmp x e) ≡ is_lt (place_cmp cmp (Some x) (after e))
   starts_by_end x e x-key e-key = holds_by is_key cmp o x e x-key (after e) (follows e e-key) (cmp x e) refl
 
-  pub closed_answers : AnswersByEdges (closed is_key cmp) (closed_high after) (closed_part after before)
-  closed_answers = record {
+  pub closed_placed : IsPlaced (closed is_key cmp) (closed_high after) (closed_part after before)
+  closed_placed = record {
+    total = o;
+    ends = λ r s p q. ends_as_places is_key cmp o (range_inclusive_end r) (range_inclusive_end s) p.end_is_key q.end_is_key (after (range_inclusive_end r)) (after (range_inclusive_end s))
+        (follows (range_inclusive_end r) p.end_is_key) (follows (range_inclusive_end s) q.end_is_key) (cmp (range_inclusive_end r) (range_inclusive_end s)) refl;
+    high_is_key = λ r x p h. next_is_key is_key cmp o (range_inclusive_end r) x (after (range_inclusive_end r)) (follows (range_inclusive_end r) p.end_is_key) h;
+    non_empty = λ r p. below_after is_key cmp o (range_inclusive_start r) (range_inclusive_end r) p.non_empty.0 (after (range_inclusive_end r)) (follows (range_inclusive_end r) p.end_is_key);
+    before = λ r s p q h. after_le is_key cmp o (range_inclusive_end r) (range_inclusive_start s) q.start_is_key h (after (range_inclusive_end r)) (follows (range_inclusive_end r) p.end_is_key);
+    before_from = λ r s p q h. after_le_from is_key cmp o (range_inclusive_end r) (range_inclusive_start s) (after (range_inclusive_end r)) (follows (range_inclusive_end r) p.end_is_key) h;
+    touches = λ r s p q h. touches_tied is_key cmp o (range_inclusive_end r) (range_inclusive_start s) q.start_is_key (after (range_inclusive_end r)) (follows (range_inclusive_end r) p.end_is_key) h.0 h.1;
+    touches_from = λ r s p q h. (
+      after_le_from is_key cmp o (range_inclusive_end r) (range_inclusive_start s) (after (range_inclusive_end r)) (follows (range_inclusive_end r) p.end_is_key) (ap is_le h),
+      tied_touches is_key cmp o (range_inclusive_end r) (range_inclusive_start s) (after (range_inclusive_end r)) (follows (range_inclusive_end r) p.end_is_key) h,
+    );
     meets = λ q r asked stored.
         ap (λ b. b && is_le (cmp (range_inclusive_start r) (range_inclusive_end q))) (starts_by_end (range_inclusive_start q) (range_inclusive_end r) asked.start_is_key stored.end_is_key)
         ∙ ap (λ b. is_lt (place_cmp cmp (Some (range_inclusive_start q)) (after (range_inclusive_end r))) && b) (starts_by_end (range_inclusive_start r) (range_inclusive_end q) stored.start_is_key asked.end_is_key);

@@ -1,7 +1,9 @@
--- Edges of ranges, the part between two of them, and the gaps that stored ranges leave. No public contract needs them.
+-- Edges of ranges, the part between two of them, what holds of a kind of range, and the gaps that stored ranges leave. No public contract
+-- needs them.
 use Rattle.std.specs.Prelude.{◌≡◌, ◌≢◌, Bool, true, ◌&&◌, cond, List, [], ◌∷◌, Option, Some}
 use Rattle.std.specs.Ordering.{is_lt, is_le}
-use Rattle.std.specs.declared.cmp.Ordering.TheVariants.{Equal}
+use Rattle.std.specs.declared.cmp.Ordering.TheVariants.{Less, Equal}
+use Rattle.std.specs.Cmp.{IsTotalOrder}
 use Rattle.rangemap_core.specs.declared.kind.Edge.{Edge}
 use Rattle.rangemap_core.specs.declared.kind.Edge.TheVariants.{Start, End}
 use Rattle.rangemap_core.specs.Ranges.{RangeKind, IsStorable}
@@ -23,6 +25,9 @@ module _ {K X : Type 0} (k : RangeKind K X) where
     pub start_is_key : k.is_key (k.start q)
     pub end_is_key : k.is_key (k.end q)
 
+  pub asked : (r : X) → IsStorable k r → IsAsked r
+  asked r stored = record { start_is_key = stored.start_is_key; end_is_key = stored.end_is_key }
+
   -- the same of the range of an edge
   abbrev pub IsAskedAt : EdgeOf X → Type 0
   IsAskedAt (AtStart r) = IsAsked r
@@ -38,10 +43,19 @@ module _ {K X : Type 0} (k : RangeKind K X) (high : X → Option K) where
   abbrev pub has_part : EdgeOf X → EdgeOf X → Bool
   has_part from to = is_lt (place_cmp k.cmp (place_of from) (place_of to))
 
-  -- what holds of a kind of range that is asked about, where `part` gives the range from one edge up to another
-  pub record AnswersByEdges (part : EdgeOf X → EdgeOf X → X) : Type 0 where
-    pub meets : (q r : X) → IsAsked k q → IsStorable k r → k.meets q r ≡ (has_part (AtStart q) (AtEnd r) && has_part (AtStart r) (AtEnd q))
+  -- What holds of a kind of range. A range that may be stored goes from the place before its start up to the place `high`, one
+  -- that is asked about answers by the places of its edges, and `part` gives the range from one edge up to another.
+  pub record IsPlaced (part : EdgeOf X → EdgeOf X → X) : Type 0 where
+    pub total : IsTotalOrder k.cmp
+    pub ends : (r s : X) → IsStorable k r → IsStorable k s → k.cmp (k.end r) (k.end s) ≡ place_cmp k.cmp (high r) (high s)
+    pub high_is_key : (r : X) (x : K) → IsStorable k r → high r ≡ Some x → k.is_key x
+    pub non_empty : (r : X) → IsStorable k r → place_cmp k.cmp (Some (k.start r)) (high r) ≡ Less
+    pub before : (r s : X) → IsStorable k r → IsStorable k s → k.IsBefore r s → is_le (place_cmp k.cmp (high r) (Some (k.start s))) ≡ true
+    pub before_from : (r s : X) → IsStorable k r → IsStorable k s → is_le (place_cmp k.cmp (high r) (Some (k.start s))) ≡ true → k.IsBefore r s
+    pub touches : (r s : X) → IsStorable k r → IsStorable k s → k.Touches r s → place_cmp k.cmp (high r) (Some (k.start s)) ≡ Equal
+    pub touches_from : (r s : X) → IsStorable k r → IsStorable k s → place_cmp k.cmp (high r) (Some (k.start s)) ≡ Equal → k.Touches r s
     pub holds : (q : X) (x : K) → IsAsked k q → k.is_key x → k.holds q x ≡ (is_le (k.cmp (k.start q) x) && is_lt (place_cmp k.cmp (Some x) (high q)))
+    pub meets : (q r : X) → IsAsked k q → IsStorable k r → k.meets q r ≡ (has_part (AtStart q) (AtEnd r) && has_part (AtStart r) (AtEnd q))
     -- a key that does not tie with the end of q lies before the place where q ends just where it is less than that end
     pub away_from_end : (q : X) (x : K) → IsAsked k q → k.is_key x → k.cmp x (k.end q) ≢ Equal → is_lt (place_cmp k.cmp (Some x) (high q)) ≡ is_lt (k.cmp x (k.end q))
     pub spans : (from to : EdgeOf X) → IsAskedAt k from → IsAskedAt k to → has_part from to ≡ true → Spans k high (place_of from) (place_of to) (part from to)

@@ -1,14 +1,13 @@
--- Half-open and closed ranges lie between places.
-use Rattle.std.proofs.Common.{◌≡◌, true, false, ◌&&◌, Option, Some, None, MatchOption, is_none, subst, sym, ap, refl, true≢false, Ordering, Less, Equal, Greater, is_lt, is_le, is_eq}
+-- The places of half-open and of closed ranges.
+use Rattle.std.proofs.Common.{◌≡◌, true, false, Option, Some, None, MatchOption, is_none, subst, sym, ap, refl, true≢false, Ordering, Less, Equal, Greater, is_lt, is_le, is_eq}
 use Rattle.std.specs.Prelude.{⊤}
 use Rattle.std.specs.Cmp.{IsTotalOrder}
 use Rattle.std.specs.Ordering.{ordering_reverse}
 use Rattle.std.specs.declared.ops.Range.{Range}
 use Rattle.std.specs.declared.ops.RangeInclusive.{RangeInclusive}
-use Rattle.std.specs.Range.{range_inclusive_start, range_inclusive_end}
-use Rattle.rangemap_core.specs.Ranges.{closed, half_open}
-use Rattle.rangemap_core.specs.Steps.{NoneBetween, HasGreater, IsNext, GivesSuccessors}
-use Rattle.rangemap_core.specs.Places.{place_cmp, IsPlaced}
+use Rattle.std.specs.Range.{range_inclusive_end}
+use Rattle.rangemap_core.specs.Steps.{NoneBetween, HasGreater, IsNext}
+use Rattle.rangemap_core.specs.Places.{place_cmp}
 use Rattle.rangemap_core.specs.Orders.{Less-Equal, turn, lt_eq, eq_lt, lt_lt, lt_le, le_lt, eq_turn, not_lt}
 
 -- ---- the order of places is total
@@ -43,20 +42,6 @@ module _ {K : Type 0} {R : K → K → Ordering} (o : IsTotalOrder R) where
 abbrev pub half_open_high : {K : Type 0} → Range K → Option K
 half_open_high r = Some r.end
 
-pub half_open_placed : {K : Type 0} {cmp : K → K → Ordering} → IsTotalOrder cmp → IsPlaced (half_open cmp) half_open_high
-half_open_placed o = record {
-  total = o;
-  ends = λ r s p q. refl;
-  high_is_key = λ r x p h. tt;
-  non_empty = λ r p. p.non_empty;
-  before = λ r s p q h. h;
-  before_from = λ r s p q h. h;
-  touches = λ r s p q h. h;
-  touches_from = λ r s p q h. h;
-  holds = λ r x p h. refl;
-  meets = λ q r p s. refl;
-}
-
 -- ---- closed ranges end before the successor of their end, or after every key
 
 -- the place up to which the range goes
@@ -69,7 +54,7 @@ module _ {K : Type 0} (is_key : K → Type 0) (R : K → K → Ordering) (o : Is
   After e a = MatchOption a (¬ (HasGreater is_key R e)) (λ y. IsNext is_key R e y)
 
   -- the successor of a smaller key is at most the greater
-  pub up_to : (e f g : K) → is_key f → R e f ≡ Less → IsNext is_key R e g → is_le (R g f) ≡ true
+  up_to : (e f g : K) → is_key f → R e f ≡ Less → IsNext is_key R e g → is_le (R g f) ≡ true
   up_to e f g f-key low n = not_lt o f g (go (R f g) refl)
     where
       go : (r : Ordering) → R f g ≡ r → is_lt r ≡ false
@@ -103,15 +88,15 @@ module _ {K : Type 0} (is_key : K → Type 0) (R : K → K → Ordering) (o : Is
   below_after x e le None n = refl
   below_after x e le (Some g) n = le_lt o le n.below
 
-  after_le : (e s : K) → is_key s → R e s ≡ Less → (a : Option K) → After e a → is_le (place_cmp R a (Some s)) ≡ true
+  pub after_le : (e s : K) → is_key s → R e s ≡ Less → (a : Option K) → After e a → is_le (place_cmp R a (Some s)) ≡ true
   after_le e s s-key low None n = absurd (n (record { other = s; is_a_key = s-key; greater = low }))
   after_le e s s-key low (Some g) n = up_to e s g s-key low n
 
-  after_le_from : (e s : K) → (a : Option K) → After e a → is_le (place_cmp R a (Some s)) ≡ true → R e s ≡ Less
+  pub after_le_from : (e s : K) → (a : Option K) → After e a → is_le (place_cmp R a (Some s)) ≡ true → R e s ≡ Less
   after_le_from e s None n h = absurd (true≢false (sym h))
   after_le_from e s (Some g) n h = lt_le o n.below h
 
-  touches_tied : (e s : K) → is_key s → (a : Option K) → After e a → R e s ≡ Less → NoneBetween is_key R e s → place_cmp R a (Some s) ≡ Equal
+  pub touches_tied : (e s : K) → is_key s → (a : Option K) → After e a → R e s ≡ Less → NoneBetween is_key R e s → place_cmp R a (Some s) ≡ Equal
   touches_tied e s s-key None n low none = absurd (n (record { other = s; is_a_key = s-key; greater = low }))
   touches_tied e s s-key (Some g) n low none = go (R g s) refl
     where
@@ -120,7 +105,7 @@ module _ {K : Type 0} (is_key : K → Type 0) (R : K → K → Ordering) (o : Is
       go Equal k = refl
       go Greater k = absurd (n.none_between s s-key low (turn o k))
 
-  tied_touches : (e s : K) → (a : Option K) → After e a → place_cmp R a (Some s) ≡ Equal → NoneBetween is_key R e s
+  pub tied_touches : (e s : K) → (a : Option K) → After e a → place_cmp R a (Some s) ≡ Equal → NoneBetween is_key R e s
   tied_touches e s None n h = absurd (true≢false (sym (ap is_eq h)))
   tied_touches e s (Some g) n h = λ z z-key up down. n.none_between z z-key up (lt_eq o down (eq_turn o h))
 
@@ -137,27 +122,6 @@ module _ {K : Type 0} (is_key : K → Type 0) (R : K → K → Ordering) (o : Is
       go Equal k = refl
       go Greater k = refl
 
-  next_is_key : (e x : K) (a : Option K) → After e a → a ≡ Some x → is_key x
+  pub next_is_key : (e x : K) (a : Option K) → After e a → a ≡ Some x → is_key x
   next_is_key e x None n h = absurd (true≢false (ap is_none h))
   next_is_key e x (Some g) n h = subst (λ o. MatchOption o ⊤ is_key) h n.to_key
-
-  pub closed_placed : (after : K → Option K) → GivesSuccessors is_key R after → IsPlaced (closed is_key R) (closed_high after)
-  closed_placed after follows = record {
-    total = o;
-    ends = λ r s p q. ends_as_places (range_inclusive_end r) (range_inclusive_end s) p.end_is_key q.end_is_key (after (range_inclusive_end r)) (after (range_inclusive_end s))
-        (follows (range_inclusive_end r) p.end_is_key) (follows (range_inclusive_end s) q.end_is_key) (R (range_inclusive_end r) (range_inclusive_end s)) refl;
-    high_is_key = λ r x p h. next_is_key (range_inclusive_end r) x (after (range_inclusive_end r)) (follows (range_inclusive_end r) p.end_is_key) h;
-    non_empty = λ r p. below_after (range_inclusive_start r) (range_inclusive_end r) p.non_empty.0 (after (range_inclusive_end r)) (follows (range_inclusive_end r) p.end_is_key);
-    before = λ r s p q h. after_le (range_inclusive_end r) (range_inclusive_start s) q.start_is_key h (after (range_inclusive_end r)) (follows (range_inclusive_end r) p.end_is_key);
-    before_from = λ r s p q h. after_le_from (range_inclusive_end r) (range_inclusive_start s) (after (range_inclusive_end r)) (follows (range_inclusive_end r) p.end_is_key) h;
-    touches = λ r s p q h. touches_tied (range_inclusive_end r) (range_inclusive_start s) q.start_is_key (after (range_inclusive_end r)) (follows (range_inclusive_end r) p.end_is_key) h.0 h.1;
-    touches_from = λ r s p q h. (
-      after_le_from (range_inclusive_end r) (range_inclusive_start s) (after (range_inclusive_end r)) (follows (range_inclusive_end r) p.end_is_key) (ap is_le h),
-      tied_touches (range_inclusive_end r) (range_inclusive_start s) (after (range_inclusive_end r)) (follows (range_inclusive_end r) p.end_is_key) h,
-    );
-    holds = λ r x p x-key. ap (λ b. is_le (R (range_inclusive_start r) x) && b)
-        (holds_by x (range_inclusive_end r) x-key (after (range_inclusive_end r)) (follows (range_inclusive_end r) p.end_is_key) (R x (range_inclusive_end r)) refl);
-    meets = λ q r p s i.
-        holds_by (range_inclusive_start q) (range_inclusive_end r) p.start_is_key (after (range_inclusive_end r)) (follows (range_inclusive_end r) s.end_is_key) (R (range_inclusive_start q) (range_inclusive_end r)) refl i
-        && holds_by (range_inclusive_start r) (range_inclusive_end q) s.start_is_key (after (range_inclusive_end q)) (follows (range_inclusive_end q) p.end_is_key) (R (range_inclusive_start r) (range_inclusive_end q)) refl i;
-  }

@@ -16,9 +16,9 @@ impl<K: Ord + Clone> Kind<K, Range<K>> for HalfOpen {
     ghost use Rattle.rangemap_core.specs.Ranges.{half_open};
     ghost use Rattle.rangemap_core.specs.Clones.{KeysCloneFaithfully};
     ghost use Rattle.rangemap_core.specs.Edges.{edge_of, has_part};
-    ghost use Rattle.rangemap_core.specs.EdgeKinds.{half_open_answers, half_open_part};
+    ghost use Rattle.rangemap_core.specs.EdgeKinds.{half_open_part, half_open_placed};
     ghost use Rattle.rangemap_core.specs.Items.{IsSame};
-    ghost use Rattle.rangemap_core.specs.PlacedKinds.{half_open_high, half_open_placed};
+    ghost use Rattle.rangemap_core.specs.PlacedKinds.{half_open_high};
     ghost use Rattle.std.specs.Prelude.{◌≡◌, true, IfOk};
 
     ghost kind = { half_open K.cmp };
@@ -28,8 +28,6 @@ impl<K: Ord + Clone> Kind<K, Range<K>> for HalfOpen {
     ghost part_of = { half_open_part };
 
     ghost placed = { half_open_placed K.total };
-
-    ghost answers = { half_open_answers K.total };
 
     fn known(key: &K) {}
 

@@ -1,9 +1,9 @@
 //! The kinds of range that a map may store.
 ghost use Rattle.std.specs.Prelude.{◌≡◌, true, Option as OptionOf, Some as SomeWord, IfOk};
 ghost use Rattle.rangemap_core.specs.Clones.{KeysCloneFaithfully};
-ghost use Rattle.rangemap_core.specs.Edges.{AnswersByEdges, EdgeOf, edge_of, has_part};
+ghost use Rattle.rangemap_core.specs.Edges.{EdgeOf, IsPlaced, edge_of, has_part};
 ghost use Rattle.rangemap_core.specs.Items.{IsSame};
-ghost use Rattle.rangemap_core.specs.Places.{place_cmp, IsPlaced};
+ghost use Rattle.rangemap_core.specs.Places.{place_cmp};
 ghost use Rattle.rangemap_core.specs.Ranges.{RangeKind, IsStorable};
 
 use std::alloc::AllocError;
@@ -72,9 +72,7 @@ pub trait Kind<K: Ord + Clone, R> {
         requires faithful_keys { KeysCloneFaithfully K.is_clone K.cmp }
         ensures { IfOk result (IsSame kind (part_of (edge_of from.entry) (edge_of to.entry))) };
 
-    /// Ranges of the kind lie between places in a total order.
-    ghost placed: { IsPlaced kind high };
-
-    /// They answer by the places of their edges, the empty and the reversed ones too.
-    ghost answers: { AnswersByEdges kind high part_of };
+    /// Ranges of the kind lie between places in a total order, and answer by the places of their edges, the empty and the
+    /// reversed ones too.
+    ghost placed: { IsPlaced kind high part_of };
 }

@@ -10,7 +10,7 @@ use Rattle.rangemap_core.specs.Places.{place_cmp}
 use Rattle.rangemap_core.specs.Orders.{eq_le, eq_turn, le_eq}
 use Rattle.rangemap_core.specs.PlacedKinds.{After, closed_high, ends_as_places, holds_by}
 use Rattle.rangemap_core.specs.Edges.{EdgeOf, AtStart, AtEnd, IsAsked, IsAskedAt, has_part}
-use Rattle.rangemap_core.specs.EdgeKinds.{closed_answers, closed_first, closed_last, closed_part, lt_is}
+use Rattle.rangemap_core.specs.EdgeKinds.{closed_placed, closed_first, closed_last, closed_part, lt_is}
 use Rattle.rangemap_maps.specs.Steppable.{HasFirst, HasLast}
 
 module _ {K : Type 0} (is_key : K → Type 0) (cmp : K → K → Ordering) (o : IsTotalOrder cmp) (after before : K → Option K)
@@ -69,7 +69,7 @@ module _ {K : Type 0} (is_key : K → Type 0) (cmp : K → K → Ordering) (o : 
       → is_key (range_inclusive_start range) → is_key (range_inclusive_end range) → range_inclusive_exhausted range ≡ false
       → IsSame (closed is_key cmp) (closed_part after before from to) range
   same_part from to range a b h s t s-key t-key fresh =
-      let part = (closed_answers is_key cmp o after before follows precedes).spans from to a b h in
+      let part = (closed_placed is_key cmp o after before follows precedes).spans from to a b h in
       record {
         storable = record {
           start_is_key = s-key;

@@ -25,9 +25,9 @@ impl<K: Ord + Clone, StepFnsT: StepFns<K>> Kind<K, RangeInclusive<K>> for Closed
     ghost use Rattle.rangemap_core.specs.Ranges.{closed};
     ghost use Rattle.rangemap_core.specs.Clones.{KeysCloneFaithfully};
     ghost use Rattle.rangemap_core.specs.Edges.{edge_of, has_part};
-    ghost use Rattle.rangemap_core.specs.EdgeKinds.{closed_answers, closed_part};
+    ghost use Rattle.rangemap_core.specs.EdgeKinds.{closed_part, closed_placed};
     ghost use Rattle.rangemap_core.specs.Items.{IsSame};
-    ghost use Rattle.rangemap_core.specs.PlacedKinds.{closed_high, closed_placed};
+    ghost use Rattle.rangemap_core.specs.PlacedKinds.{closed_high};
     ghost use Rattle.std.specs.Prelude.{◌≡◌, true, IfOk};
 
     ghost kind = { closed StepFnsT.is_key K.cmp };
@@ -36,9 +36,7 @@ impl<K: Ord + Clone, StepFnsT: StepFns<K>> Kind<K, RangeInclusive<K>> for Closed
 
     ghost part_of = { closed_part StepFnsT.after StepFnsT.before };
 
-    ghost placed = { closed_placed StepFnsT.is_key K.cmp K.total StepFnsT.after StepFnsT.follows };
-
-    ghost answers = { closed_answers StepFnsT.is_key K.cmp K.total StepFnsT.after StepFnsT.before StepFnsT.follows StepFnsT.precedes };
+    ghost placed = { closed_placed StepFnsT.is_key K.cmp K.total StepFnsT.after StepFnsT.before StepFnsT.follows StepFnsT.precedes };
 
     fn known(key: &K) {
         StepFnsT::known(key)

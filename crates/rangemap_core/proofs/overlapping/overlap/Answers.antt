@@ -35,7 +35,7 @@ returns g c =
     } in
     record {
       found = found;
-      part = window g.met.Q.Kind.placed g.V.PartialEq.eq c.args.query.now g.met.Q.Kind.answers
+      part = window g.met.Q.Kind.placed g.V.PartialEq.eq c.args.query.now
       (record { start_is_key = subst k.is_key c.start.ensures c.known.ensures; end_is_key = subst k.is_key c.end.ensures c.known-2.ensures })
       c.args.pairs.now start.result end.result c.requires found;
     }

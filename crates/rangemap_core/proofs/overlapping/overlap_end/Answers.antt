@@ -12,7 +12,7 @@ partition_point_by-requires-clause-passed g c =
     let pairs = c.args.pairs.now in
     let near = c.starts_up_to-near_end in
     let point : IsPartitionPoint (λ a. starts_by_key k (k.end c.args.query.now) a ≡ true) (λ a. starts_by_key k (k.end c.args.query.now) a ≡ false) pairs near.result.0 = rw (← c.end-then-test.ensures) near.ensures.point in
-    begun_but_the_last g.met.Q.Kind.placed g.V.PartialEq.eq c.args.query.now g.met.Q.Kind.answers
+    begun_but_the_last g.met.Q.Kind.placed g.V.PartialEq.eq c.args.query.now
     (record { start_is_key = subst k.is_key c.start.ensures c.known.ensures; end_is_key = subst k.is_key c.end.ensures c.known-2.ensures })
     pairs near.result.0 c.requires.canonical near.ensures.bound point
 
@@ -22,7 +22,7 @@ partition_point_by-requires-clause-failed g c =
     let pairs = c.args.pairs.now in
     let near = c.starts_up_to-near_end in
     let point : IsPartitionPoint (λ a. starts_by_key k (k.end c.args.query.now) a ≡ true) (λ a. starts_by_key k (k.end c.args.query.now) a ≡ false) pairs near.result.0 = rw (← c.end-then-test.ensures) near.ensures.point in
-    not_begun_behind g.met.Q.Kind.placed g.V.PartialEq.eq c.args.query.now g.met.Q.Kind.answers
+    not_begun_behind g.met.Q.Kind.placed g.V.PartialEq.eq c.args.query.now
     (record { start_is_key = subst k.is_key c.start.ensures c.known.ensures; end_is_key = subst k.is_key c.end.ensures c.known-2.ensures })
     pairs near.result.0 c.requires.canonical point
 

@@ -1,8 +1,8 @@
 use Rattle.std.proofs.Common.{arith, ap, ◌-◌, ◌≡◌}
 use Rattle.rangemap_core.specs.Stretch.{taken_or_new}
-use Rattle.rangemap_core.specs.Edges.{AtStart, AtEnd}
+use Rattle.rangemap_core.specs.Edges.{AtStart, AtEnd, asked}
 use Rattle.rangemap_core.proofs.Bridge.{all_storable}
-use Rattle.rangemap_core.proofs.Pieces.{answered_spans, asked, has_middle, new_is, taken_is, taken_storable}
+use Rattle.rangemap_core.proofs.Pieces.{answered_spans, has_middle, new_is, taken_is, taken_storable}
 use Rattle.rangemap_core.proofs.entries.Entries.middle.Goals as goal
 use Rattle.rangemap_core.proofs.entries.Entries.middle.Goals.{then-takes_first, else-takes_first, then-takes_last, else-takes_last}
 
@@ -44,8 +44,8 @@ returns g c =
       | then-takes_last w ↦ taken_is xs (c.args.end - 1) pair c.args.takes_last w.index-then-takes_last.result.now c.if-takes_last.last.now w.if-takes_last.true (rw (← c.self.view_is) w.index-then-takes_last.ensures) (omega (arith, taken.last_in_stretch w.if-takes_last.true, taken.in_bounds)) (ap (λ b. b.now) w.last-is)
       | else-takes_last w ↦ new_is xs (c.args.end - 1) pair c.args.takes_last c.if-takes_last.last.now w.if-takes_last.false (ap (λ b. b.now) w.last-is)
     ] in
-    answered_spans p g.met.Q.Kind.answers (AtStart (taken_or_new xs c.args.start c.args.takes_first pair)) (AtEnd (taken_or_new xs (c.args.end - 1) c.args.takes_last pair)) c.part.result
-    (asked _ (taken_storable xs c.args.start pair all c.requires.range c.args.takes_first (λ h. omega (arith, taken.first_in_stretch h, taken.in_bounds))))
-    (asked _ (taken_storable xs (c.args.end - 1) pair all c.requires.range c.args.takes_last (λ h. omega (arith, taken.last_in_stretch h, taken.in_bounds))))
+    answered_spans p (AtStart (taken_or_new xs c.args.start c.args.takes_first pair)) (AtEnd (taken_or_new xs (c.args.end - 1) c.args.takes_last pair)) c.part.result
+    (asked k _ (taken_storable xs c.args.start pair all c.requires.range c.args.takes_first (λ h. omega (arith, taken.first_in_stretch h, taken.in_bounds))))
+    (asked k _ (taken_storable xs (c.args.end - 1) pair all c.requires.range c.args.takes_last (λ h. omega (arith, taken.last_in_stretch h, taken.in_bounds))))
     (has_middle p eq xs pair c.args.start c.args.end c.args.takes_first c.args.takes_last taken c.requires.range)
     (rw (first, last) c.part.ensures)

@@ -1,8 +1,8 @@
 use Rattle.std.proofs.Common.{◌∙◌, ap, is_lt}
 use Rattle.rangemap_core.specs.Orders.{eq_turn}
-use Rattle.rangemap_core.specs.Edges.{AtStart, AtEnd}
+use Rattle.rangemap_core.specs.Edges.{AtStart, AtEnd, asked}
 use Rattle.rangemap_core.proofs.Copies.{to_same}
-use Rattle.rangemap_core.proofs.Pieces.{asked, part_spans}
+use Rattle.rangemap_core.proofs.Pieces.{part_spans}
 use Rattle.rangemap_core.proofs.entries.collect.clone_pair.Goals as goal
 
 pub returns-clause-same : goal.returns-clause-same
@@ -10,7 +10,7 @@ returns-clause-same g c =
     let p = g.met.Q.Kind.placed in
     let pair = c.args.pair.now in
     let stored = c.requires.stored in
-    let cut = part_spans p g.met.Q.Kind.answers (AtStart pair.0) (AtEnd pair.0) c.in_ok-range.range (asked _ stored) (asked _ stored) (ap is_lt (p.non_empty _ stored)) c.in_ok-range.ensures in
+    let cut = part_spans p (AtStart pair.0) (AtEnd pair.0) c.in_ok-range.range (asked g.Q.Kind.kind _ stored) (asked g.Q.Kind.kind _ stored) (ap is_lt (p.non_empty _ stored)) c.in_ok-range.ensures in
     to_same g.Q.Kind.kind g.V.PartialEq.eq pair (c.in_ok-range.range, c.in_ok-clone.field-0) (record {
       starts = eq_turn p.total cut.from;
       ends = eq_turn p.total (p.ends _ _ cut.storable stored ∙ cut.to);
