@@ -14,3 +14,5 @@ pub mod Runs
 pub mod Items
 pub mod Edges
 pub mod EdgeKinds
+pub mod Intervals
+pub mod IntervalKinds

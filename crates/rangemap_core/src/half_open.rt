@@ -3,7 +3,7 @@ ghost use Rattle.std.specs.Prelude.{◌≡◌};
 ghost use Rattle.rangemap_core.specs.Edges.{edge_of};
 ghost use Rattle.rangemap_core.specs.EdgeKinds.{half_open_key};
 
-use crate::kind::{Edge, Kind};
+use crate::kind::{Edge, Interval, Kind};
 use crate::std_ext::compare_end_to_start;
 use std::alloc::AllocError;
 use std::cmp::Ordering;
@@ -12,22 +12,16 @@ use std::ops::Range;
 /// The ranges `a..b`.
 pub struct HalfOpen;
 
-impl<K: Ord + Clone> Kind<K, Range<K>> for HalfOpen {
+impl<K: Ord + Clone> Interval<K, Range<K>> for HalfOpen {
+    ghost use Rattle.rangemap_core.specs.IntervalKinds.{half_open_interval};
     ghost use Rattle.rangemap_core.specs.Ranges.{half_open};
-    ghost use Rattle.rangemap_core.specs.Clones.{KeysCloneFaithfully};
-    ghost use Rattle.rangemap_core.specs.Edges.{edge_of, has_part};
-    ghost use Rattle.rangemap_core.specs.EdgeKinds.{half_open_part, half_open_placed};
-    ghost use Rattle.rangemap_core.specs.Items.{IsSame};
-    ghost use Rattle.rangemap_core.specs.PlacedKinds.{half_open_high};
-    ghost use Rattle.std.specs.Prelude.{◌≡◌, true, IfOk};
+    ghost use Rattle.std.specs.Prelude.{false};
 
     ghost kind = { half_open K.cmp };
 
-    ghost high = { half_open_high };
+    ghost has_end = { false };
 
-    ghost part_of = { half_open_part };
-
-    ghost placed = { half_open_placed K.total };
+    ghost interval = { half_open_interval K.total };
 
     fn known(key: &K) {}
 
@@ -46,6 +40,34 @@ impl<K: Ord + Clone> Kind<K, Range<K>> for HalfOpen {
     fn holds(range: &Range<K>, key: &K) -> bool {
         range.start.cmp(key).is_le() && key.cmp(&range.end).is_lt()
     }
+
+    fn reaches(first: &Range<K>, second: &Range<K>) -> bool {
+        second.start.cmp(&first.end).is_lt()
+    }
+
+    fn between(start: K, end: K) -> Option<Range<K>> {
+        if start.cmp(&end).is_lt() {
+            Some(start..end)
+        } else {
+            None
+        }
+    }
+}
+
+impl<K: Ord + Clone> Kind<K, Range<K>> for HalfOpen {
+    ghost use Rattle.rangemap_core.specs.Ranges.{half_open};
+    ghost use Rattle.rangemap_core.specs.Clones.{KeysCloneFaithfully};
+    ghost use Rattle.rangemap_core.specs.Edges.{edge_of, has_part};
+    ghost use Rattle.rangemap_core.specs.EdgeKinds.{half_open_part, half_open_placed};
+    ghost use Rattle.rangemap_core.specs.Items.{IsSame};
+    ghost use Rattle.rangemap_core.specs.PlacedKinds.{half_open_high};
+    ghost use Rattle.std.specs.Prelude.{◌≡◌, true, IfOk};
+
+    ghost high = { half_open_high };
+
+    ghost part_of = { half_open_part };
+
+    ghost placed = { half_open_placed K.total };
 
     fn compare_end_to_start(first: &Range<K>, second: &Range<K>) -> Ordering {
         compare_end_to_start(first, second)

@@ -1,7 +1,8 @@
 //! The kinds of range that a map may store.
-ghost use Rattle.std.specs.Prelude.{◌≡◌, true, Option as OptionOf, Some as SomeWord, IfOk};
+ghost use Rattle.std.specs.Prelude.{◌≡◌, Bool, true, Option as OptionOf, Some as SomeWord, IfOk};
 ghost use Rattle.rangemap_core.specs.Clones.{KeysCloneFaithfully};
 ghost use Rattle.rangemap_core.specs.Edges.{EdgeOf, IsPlaced, edge_of, has_part};
+ghost use Rattle.rangemap_core.specs.Intervals.{IsBetween, IsInterval, reaches};
 ghost use Rattle.rangemap_core.specs.Items.{IsSame};
 ghost use Rattle.rangemap_core.specs.Places.{place_cmp};
 ghost use Rattle.rangemap_core.specs.Ranges.{RangeKind, IsStorable};
@@ -28,16 +29,13 @@ impl<'a, R> Clone for Edge<'a, R> {
 
 impl<'a, R> Copy for Edge<'a, R> {}
 
-/// A kind of range `R` over keys of type `K`.
-pub trait Kind<K: Ord + Clone, R> {
-    /// What contracts know of the kind.
+/// Ranges `R` from one key of type `K` to another, as far as no steps of keys are asked.
+pub trait Interval<K: Ord + Clone, R> {
+    /// What contracts know of the ranges.
     ghost kind: { RangeKind K R };
 
-    /// The place up to which a range goes: before a key, or after every key.
-    ghost high: { R → OptionOf K };
-
-    /// The range from one edge up to another.
-    ghost part_of: { EdgeOf R → EdgeOf R → R };
+    /// Whether they have their end.
+    ghost has_end: { Bool };
 
     /// Does nothing, and tells that a value at hand is a key.
     fn known(key: &K)
@@ -56,23 +54,43 @@ pub trait Kind<K: Ord + Clone, R> {
     fn holds(range: &R, key: &K) -> bool
         ensures { result ≡ kind.holds range.now key.now };
 
+    /// Whether the second range starts before the first one ends.
+    fn reaches(first: &R, second: &R) -> bool
+        ensures { result ≡ reaches kind has_end (kind.end first.now) (kind.start second.now) };
+
+    /// The range from one key to another, where it is not empty.
+    fn between(start: K, end: K) -> Option<R>
+        ensures { IsBetween kind has_end start end result };
+
+    /// They answer by their ends.
+    ghost interval: { IsInterval kind has_end };
+}
+
+/// A kind of range that may be stored: the place where a range ends is before a key, or after every key.
+pub trait Kind<K: Ord + Clone, R>: Interval<K, R> {
+    /// The place up to which a range goes: before a key, or after every key.
+    ghost high: { R → OptionOf K };
+
+    /// The range from one edge up to another.
+    ghost part_of: { EdgeOf R → EdgeOf R → R };
+
     /// How the place where the first range ends lies to that where the second starts: equal where the two touch.
     fn compare_end_to_start(first: &R, second: &R) -> Ordering
-        requires first { IsStorable kind first.now }
-        requires second { IsStorable kind second.now }
-        ensures { result ≡ place_cmp kind.cmp (high first.now) (SomeWord (kind.start second.now)) };
+        requires first { IsStorable Self.kind first.now }
+        requires second { IsStorable Self.kind second.now }
+        ensures { result ≡ place_cmp Self.kind.cmp (high first.now) (SomeWord (Self.kind.start second.now)) };
 
     /// Whether the part from the first edge up to the second has a key.
     fn has_part(from: Edge<'_, R>, to: Edge<'_, R>) -> bool
-        ensures { result ≡ has_part kind high (edge_of from.entry) (edge_of to.entry) };
+        ensures { result ≡ has_part Self.kind high (edge_of from.entry) (edge_of to.entry) };
 
     /// That part, where it has a key.
     fn part(from: Edge<'_, R>, to: Edge<'_, R>) -> Result<R, AllocError>
-        requires has_part { has_part kind high (edge_of from) (edge_of to) ≡ true }
+        requires has_part { has_part Self.kind high (edge_of from) (edge_of to) ≡ true }
         requires faithful_keys { KeysCloneFaithfully K.is_clone K.cmp }
-        ensures { IfOk result (IsSame kind (part_of (edge_of from.entry) (edge_of to.entry))) };
+        ensures { IfOk result (IsSame Self.kind (part_of (edge_of from.entry) (edge_of to.entry))) };
 
     /// Ranges of the kind lie between places in a total order, and answer by the places of their edges, the empty and the
     /// reversed ones too.
-    ghost placed: { IsPlaced kind high part_of };
+    ghost placed: { IsPlaced Self.kind high part_of };
 }

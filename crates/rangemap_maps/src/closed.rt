@@ -2,7 +2,9 @@
 //!
 //! A step is asked of a key only where a greater or smaller key was seen, which is a condition of the step: so nothing here
 //! steps past the last key of a type.
-ghost use Rattle.std.specs.Prelude.{◌≡◌, IfOk, Some as SomeWord};
+ghost use Rattle.std.specs.Prelude.{◌≡◌, ◌&&◌, IfOk, Some as SomeWord};
+ghost use Rattle.std.specs.Ordering.{is_le};
+ghost use Rattle.std.specs.Range.{range_inclusive_start, range_inclusive_end};
 ghost use Rattle.std.specs.declared.cmp.Ordering.TheVariants.{Equal as EqualWord};
 ghost use Rattle.rangemap_core.specs.Clones.{KeysCloneFaithfully};
 ghost use Rattle.rangemap_core.specs.Edges.{IsAskedAt, edge_of};
@@ -11,7 +13,7 @@ ghost use Rattle.rangemap_core.specs.Places.{place_cmp};
 ghost use Rattle.rangemap_core.specs.Ranges.{closed};
 ghost use Rattle.rangemap_maps.specs.Steppable.{HasFirst, HasLast};
 
-use rangemap_core::kind::{Edge, Kind};
+use rangemap_core::kind::{Edge, Interval, Kind};
 use rangemap_core::std_ext::StepFns;
 use std::alloc::AllocError;
 use std::cmp::Ordering;
@@ -21,22 +23,16 @@ use std::ops::RangeInclusive;
 /// The ranges `a..=b`, over keys whose steps are `StepFnsT`.
 pub struct Closed<StepFnsT>(PhantomData<StepFnsT>);
 
-impl<K: Ord + Clone, StepFnsT: StepFns<K>> Kind<K, RangeInclusive<K>> for Closed<StepFnsT> {
+impl<K: Ord + Clone, StepFnsT: StepFns<K>> Interval<K, RangeInclusive<K>> for Closed<StepFnsT> {
+    ghost use Rattle.rangemap_core.specs.IntervalKinds.{closed_interval};
     ghost use Rattle.rangemap_core.specs.Ranges.{closed};
-    ghost use Rattle.rangemap_core.specs.Clones.{KeysCloneFaithfully};
-    ghost use Rattle.rangemap_core.specs.Edges.{edge_of, has_part};
-    ghost use Rattle.rangemap_core.specs.EdgeKinds.{closed_part, closed_placed};
-    ghost use Rattle.rangemap_core.specs.Items.{IsSame};
-    ghost use Rattle.rangemap_core.specs.PlacedKinds.{closed_high};
-    ghost use Rattle.std.specs.Prelude.{◌≡◌, true, IfOk};
+    ghost use Rattle.std.specs.Prelude.{true};
 
     ghost kind = { closed StepFnsT.is_key K.cmp };
 
-    ghost high = { closed_high StepFnsT.after };
+    ghost has_end = { true };
 
-    ghost part_of = { closed_part StepFnsT.after StepFnsT.before };
-
-    ghost placed = { closed_placed StepFnsT.is_key K.cmp K.total StepFnsT.after StepFnsT.before StepFnsT.follows StepFnsT.precedes };
+    ghost interval = { closed_interval K.total StepFnsT.is_key };
 
     fn known(key: &K) {
         StepFnsT::known(key)
@@ -55,8 +51,83 @@ impl<K: Ord + Clone, StepFnsT: StepFns<K>> Kind<K, RangeInclusive<K>> for Closed
     }
 
     fn holds(range: &RangeInclusive<K>, key: &K) -> bool {
-        range.start().cmp(key).is_le() && key.cmp(range.end()).is_le()
+        has_key(range, key)
     }
+
+    fn reaches(first: &RangeInclusive<K>, second: &RangeInclusive<K>) -> bool {
+        second.start().cmp(first.end()).is_le()
+    }
+
+    fn between(start: K, end: K) -> Option<RangeInclusive<K>> {
+        StepFnsT::known(&start);
+        StepFnsT::known(&end);
+        if start.cmp(&end).is_le() {
+            Some(RangeInclusive::new(start, end))
+        } else {
+            None
+        }
+    }
+}
+
+/// The ranges `a..=b` over keys of which no step is asked: each value counts as a key.
+pub struct Unstepped;
+
+impl<K: Ord + Clone> Interval<K, RangeInclusive<K>> for Unstepped {
+    ghost use Rattle.rangemap_core.specs.IntervalKinds.{closed_interval};
+    ghost use Rattle.rangemap_core.specs.Ranges.{closed};
+    ghost use Rattle.std.specs.Prelude.{true, ⊤};
+
+    ghost kind = { closed (λ _. ⊤) K.cmp };
+
+    ghost has_end = { true };
+
+    ghost interval = { closed_interval K.total (λ _. ⊤) };
+
+    fn known(key: &K) {}
+
+    fn start(range: &RangeInclusive<K>) -> &K {
+        range.start()
+    }
+
+    fn end(range: &RangeInclusive<K>) -> &K {
+        range.end()
+    }
+
+    fn compare_keys(left: &K, right: &K) -> Ordering {
+        left.cmp(right)
+    }
+
+    fn holds(range: &RangeInclusive<K>, key: &K) -> bool {
+        has_key(range, key)
+    }
+
+    fn reaches(first: &RangeInclusive<K>, second: &RangeInclusive<K>) -> bool {
+        second.start().cmp(first.end()).is_le()
+    }
+
+    fn between(start: K, end: K) -> Option<RangeInclusive<K>> {
+        if start.cmp(&end).is_le() {
+            Some(RangeInclusive::new(start, end))
+        } else {
+            None
+        }
+    }
+}
+
+impl<K: Ord + Clone, StepFnsT: StepFns<K>> Kind<K, RangeInclusive<K>> for Closed<StepFnsT> {
+    ghost use Rattle.rangemap_core.specs.Ranges.{closed};
+    ghost use Rattle.rangemap_core.specs.Clones.{KeysCloneFaithfully};
+    ghost use Rattle.rangemap_core.specs.Edges.{edge_of, has_part};
+    ghost use Rattle.rangemap_core.specs.EdgeKinds.{closed_part, closed_placed};
+    ghost use Rattle.rangemap_core.specs.Items.{IsSame};
+    ghost use Rattle.rangemap_core.specs.PlacedKinds.{closed_high};
+    ghost use Rattle.std.specs.Prelude.{◌≡◌, true, IfOk};
+
+    ghost high = { closed_high StepFnsT.after };
+
+    ghost part_of = { closed_part StepFnsT.after StepFnsT.before };
+
+    ghost placed = { closed_placed StepFnsT.is_key K.cmp K.total StepFnsT.after StepFnsT.before StepFnsT.follows StepFnsT.precedes };
 
     fn compare_end_to_start(first: &RangeInclusive<K>, second: &RangeInclusive<K>) -> Ordering {
         compare_after::<K, StepFnsT>(first.end(), second.start())
@@ -93,6 +164,13 @@ impl<K: Ord + Clone, StepFnsT: StepFns<K>> Kind<K, RangeInclusive<K>> for Closed
         StepFnsT::known(&end);
         Ok(RangeInclusive::new(start, end))
     }
+}
+
+// Whether the key is between the ends.
+fn has_key<K: Ord>(range: &RangeInclusive<K>, key: &K) -> bool
+    ensures { result ≡ (is_le (K.cmp (range_inclusive_start range.now) key.now) && is_le (K.cmp key.now (range_inclusive_end range.now))) }
+{
+    range.start().cmp(key).is_le() && key.cmp(range.end()).is_le()
 }
 
 // How the place after the one key lies to that before the other: equal where no key lies between.

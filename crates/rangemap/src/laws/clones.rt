@@ -4,7 +4,7 @@ ghost use Rattle.rangemap_core.specs.Items.{IsSame};
 ghost use Rattle.rangemap.specs.Clones.{KeysCloneFaithfully, ValuesCloneFaithfully};
 ghost use Rattle.rangemap.specs.Ranges.{IsCanonOf, IsCanonical, IsStorable, erase, override, value_at};
 
-use rangemap_core::kind::{Edge, Kind};
+use rangemap_core::kind::{Edge, Interval, Kind};
 use rangemap_core::ranged_map::RangedMap;
 use std::alloc::AllocError;
 

@@ -6,7 +6,7 @@ ghost use Rattle.rangemap_core.specs.Ranges.{AreNonEmpty};
 
 use super::CallOn;
 use crate::calls::{Call, Change};
-use crate::kind::Kind;
+use crate::kind::Interval;
 use crate::ranged_map::{RangedMap, TakesPairs};
 
 impl<M: TakesPairs> CallOn<M> for Call<M::Range, M::Value, M::Alloc>

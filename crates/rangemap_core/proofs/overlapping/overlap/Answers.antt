@@ -7,7 +7,7 @@ use Rattle.rangemap_core.proofs.overlapping.overlap.Goals as goal
 
 pub partition_point_by-start-requires-clause-passed : goal.partition_point_by-start-requires-clause-passed
 partition_point_by-start-requires-clause-passed g c =
-    let k = g.Q.Kind.kind in
+    let k = g.Q.Interval.kind in
     let pairs = c.args.pairs.now in
     let near = c.starts_up_to-near_start in
     let point : IsPartitionPoint (λ a. starts_by_key k (k.start c.args.query.now) a ≡ true) (λ a. starts_by_key k (k.start c.args.query.now) a ≡ false) pairs near.result.0 = rw (← c.start-2.ensures) near.ensures.point in
@@ -15,7 +15,7 @@ partition_point_by-start-requires-clause-passed g c =
 
 pub partition_point_by-start-requires-clause-failed : goal.partition_point_by-start-requires-clause-failed
 partition_point_by-start-requires-clause-failed g c =
-    let k = g.Q.Kind.kind in
+    let k = g.Q.Interval.kind in
     let pairs = c.args.pairs.now in
     let near = c.starts_up_to-near_start in
     let point : IsPartitionPoint (λ a. starts_by_key k (k.start c.args.query.now) a ≡ true) (λ a. starts_by_key k (k.start c.args.query.now) a ≡ false) pairs near.result.0 = rw (← c.start-2.ensures) near.ensures.point in
@@ -23,7 +23,7 @@ partition_point_by-start-requires-clause-failed g c =
 
 pub returns : goal.returns
 returns g c =
-    let k = g.Q.Kind.kind in
+    let k = g.Q.Interval.kind in
     let start = c.partition_point_by-start in
     let end = c.overlap_end in
     let found : IsOverlap (shape_of k g.Q.Kind.high g.V.PartialEq.eq) c.args.pairs.now c.args.query.now start.result end.result = record {

@@ -8,7 +8,7 @@ use Rattle.rangemap_core.proofs.overlapping.overlap_end.Goals as goal
 
 pub partition_point_by-requires-clause-passed : goal.partition_point_by-requires-clause-passed
 partition_point_by-requires-clause-passed g c =
-    let k = g.Q.Kind.kind in
+    let k = g.Q.Interval.kind in
     let pairs = c.args.pairs.now in
     let near = c.starts_up_to-near_end in
     let point : IsPartitionPoint (λ a. starts_by_key k (k.end c.args.query.now) a ≡ true) (λ a. starts_by_key k (k.end c.args.query.now) a ≡ false) pairs near.result.0 = rw (← c.end-then-test.ensures) near.ensures.point in
@@ -18,7 +18,7 @@ partition_point_by-requires-clause-passed g c =
 
 pub partition_point_by-requires-clause-failed : goal.partition_point_by-requires-clause-failed
 partition_point_by-requires-clause-failed g c =
-    let k = g.Q.Kind.kind in
+    let k = g.Q.Interval.kind in
     let pairs = c.args.pairs.now in
     let near = c.starts_up_to-near_end in
     let point : IsPartitionPoint (λ a. starts_by_key k (k.end c.args.query.now) a ≡ true) (λ a. starts_by_key k (k.end c.args.query.now) a ≡ false) pairs near.result.0 = rw (← c.end-then-test.ensures) near.ensures.point in

@@ -4,8 +4,8 @@ use Rattle.rangemap_core.proofs.Replays.{allowed_each, made_all}
 use Rattle.rangemap_core.proofs.replay.replay.Goals as goal
 
 pub make_calls-requires : goal.make_calls-requires
-make_calls-requires g c = record { allowed = allowed_each (HasNonEmptyRanges g.M.Kind.Kind.kind) c.args.calls.items c.requires.non_empty c.requires.faithful_keys c.requires.faithful_values }
+make_calls-requires g c = record { allowed = allowed_each (HasNonEmptyRanges g.M.Kind.Interval.kind) c.args.calls.items c.requires.non_empty c.requires.faithful_keys c.requires.faithful_values }
 
 pub returns-clause-ok : goal.returns-clause-ok
 returns-clause-ok g c =
-    IfOk-weaker c.make_calls.result _ _ (λ answers made. made_all g.M.Kind.Kind.kind g.M.Value.PartialEq.eq g.M.RangedMap.pairs c.args.maps.now.items c.make_calls.new.maps.items c.args.calls.items answers.items made) c.make_calls.ensures.ok
+    IfOk-weaker c.make_calls.result _ _ (λ answers made. made_all g.M.Kind.Interval.kind g.M.Value.PartialEq.eq g.M.RangedMap.pairs c.args.maps.now.items c.make_calls.new.maps.items c.args.calls.items answers.items made) c.make_calls.ensures.ok

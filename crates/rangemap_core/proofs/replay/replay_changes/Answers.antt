@@ -5,8 +5,8 @@ use Rattle.rangemap_core.proofs.replay.replay_changes.Goals as goal
 
 pub make_calls-requires : goal.make_calls-requires
 make_calls-requires g c =
-    record { allowed = allowed_each (λ call. HasNonEmptyRanges {A = g.row.M-Alloc.Denot} g.M.Kind.Kind.kind (call_of call)) c.args.changes.items c.requires.non_empty c.requires.faithful_keys c.requires.faithful_values }
+    record { allowed = allowed_each (λ call. HasNonEmptyRanges {A = g.row.M-Alloc.Denot} g.M.Kind.Interval.kind (call_of call)) c.args.changes.items c.requires.non_empty c.requires.faithful_keys c.requires.faithful_values }
 
 pub returns-clause-ok : goal.returns-clause-ok
 returns-clause-ok g c =
-    IfOk-weaker c.make_calls.result _ _ (λ answers made. made_in_turn g.M.Kind.Kind.kind g.M.Value.PartialEq.eq g.M.RangedMap.pairs call_of c.args.maps.now.items c.make_calls.new.maps.items c.args.changes.items answers.items made) c.make_calls.ensures.ok
+    IfOk-weaker c.make_calls.result _ _ (λ answers made. made_in_turn g.M.Kind.Interval.kind g.M.Value.PartialEq.eq g.M.RangedMap.pairs call_of c.args.maps.now.items c.make_calls.new.maps.items c.args.changes.items answers.items made) c.make_calls.ensures.ok

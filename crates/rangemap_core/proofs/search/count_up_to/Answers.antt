@@ -11,7 +11,7 @@ use Rattle.rangemap_core.proofs.search.count_up_to.Goals as goal
 pub halves-init : goal.halves-init
 halves-init g c =
     let xs = c.args.probe.now.0 in
-    let test = is_up_to g.Q.Kind.kind.cmp c.args.key.now in
+    let test = is_up_to g.Q.Interval.kind.cmp c.args.key.now in
     let whole = 1 * 2 ^ c.ilog2-places.result % 18446744073709551616 in
     let power : whole ≡ 2 ^ c.ilog2-places.result = one_shl c.ilog2-places.result 64 c.ilog2-places.ensures.bound in
     let le : whole ≤ length xs = rw power (omega (arith, c.ilog2-places.ensures.power_le)) in
@@ -57,7 +57,7 @@ overflow_sub-base-in-halves g c =
 pub halves-preserved : goal.halves-preserved
 halves-preserved g c =
     let xs = c.args.probe.now.0 in
-    let test = is_up_to g.Q.Kind.kind.cmp c.args.key.now in
+    let test = is_up_to g.Q.Interval.kind.cmp c.args.key.now in
     let i = c.halves.invariant in
     let b = c.halves.base in
     let step = twice (c.halves.left - 1) c.halves.left (omega arith) in

@@ -9,8 +9,8 @@ invariant-halves g l = record {
   small : l.left < 64;
   power : l.half ≡ 2 ^ l.left;
   window : l.base + l.half ≤ length l.fn.probe.0 + 1;
-  pass : (k : ℕ) (d : g.row.K.Denot) → 0 ≤ k → k < l.base → is_up_to g.Q.Kind.kind.cmp l.key (get_or l.fn.probe.0 k d) ≡ true;
-  fail : (k : ℕ) (d : g.row.K.Denot) → l.base + l.half ≤ k + 1 → k < length l.fn.probe.0 → is_up_to g.Q.Kind.kind.cmp l.key (get_or l.fn.probe.0 k d) ≡ false;
+  pass : (k : ℕ) (d : g.row.K.Denot) → 0 ≤ k → k < l.base → is_up_to g.Q.Interval.kind.cmp l.key (get_or l.fn.probe.0 k d) ≡ true;
+  fail : (k : ℕ) (d : g.row.K.Denot) → l.base + l.half ≤ k + 1 → k < length l.fn.probe.0 → is_up_to g.Q.Interval.kind.cmp l.key (get_or l.fn.probe.0 k d) ≡ false;
 }
 
 abbrev pub decreases-halves : goal.decreases-halves

@@ -13,7 +13,7 @@ clone_pair-requires-clause-stored g c =
 
 pub loop-pair-preserved : goal.loop-pair-preserved
 loop-pair-preserved g c =
-    let k = g.Q.Kind.kind in
+    let k = g.Q.Interval.kind in
     let eq = g.V.PartialEq.eq in
     let xs = c.deref-pair-items.result.now in
     let n = c.loop-pair.pair-index in
@@ -29,10 +29,10 @@ loop-pair-preserved g c =
     }
 
 -- what was cloned, once all pairs were
-copied : (g : _) (c : goal.After-loop-pair g) → IsCanonOf g.Q.Kind.kind g.V.PartialEq.eq (value_at g.Q.Kind.kind c.deref-pair-items.result.now) c.loop-pair.pairs.items
+copied : (g : _) (c : goal.After-loop-pair g) → IsCanonOf g.Q.Interval.kind g.V.PartialEq.eq (value_at g.Q.Interval.kind c.deref-pair-items.result.now) c.loop-pair.pairs.items
 copied g c =
-    copy_is_canon g.Q.Kind.kind g.met.Q.Kind.placed g.V.PartialEq.eq g.met.V.Eq.laws c.deref-pair-items.result.now c.loop-pair.pairs.items
+    copy_is_canon g.Q.Interval.kind g.met.Q.Kind.placed g.V.PartialEq.eq g.met.V.Eq.laws c.deref-pair-items.result.now c.loop-pair.pairs.items
     c.loop-pair.invariant.canonical c.loop-pair.invariant.storable (rw (take_all c.loop-pair.pair-index c.deref-pair-items.result.now (omega arith)) at c.loop-pair.invariant.same)
 
 pub returns-clause-canon : goal.returns-clause-canon
-returns-clause-canon g c = subst (λ (xs : List (g.row.R.Denot × g.row.V.Denot)). IsCanonOf g.Q.Kind.kind g.V.PartialEq.eq (value_at g.Q.Kind.kind xs) c.loop-pair.pairs.items) (c.deref-pair-items.ensures.value ∙ c.self.view_is) (copied g c)
+returns-clause-canon g c = subst (λ (xs : List (g.row.R.Denot × g.row.V.Denot)). IsCanonOf g.Q.Interval.kind g.V.PartialEq.eq (value_at g.Q.Interval.kind xs) c.loop-pair.pairs.items) (c.deref-pair-items.ensures.value ∙ c.self.view_is) (copied g c)

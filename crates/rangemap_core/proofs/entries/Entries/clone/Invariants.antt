@@ -5,9 +5,9 @@ use Rattle.rangemap_core.proofs.entries.Entries.clone.Given as goal
 
 abbrev pub invariant-loop-pair : goal.invariant-loop-pair
 invariant-loop-pair g l = record {
-  canonical : IsCanonical g.Q.Kind.kind g.V.PartialEq.eq l.pair-items;
-  storable : Every (λ a. IsStorable g.Q.Kind.kind a.0) l.pairs.items;
-  same : same_pairs g.Q.Kind.kind g.V.PartialEq.eq (take l.pair-index l.pair-items) l.pairs.items ≡ true;
+  canonical : IsCanonical g.Q.Interval.kind g.V.PartialEq.eq l.pair-items;
+  storable : Every (λ a. IsStorable g.Q.Interval.kind a.0) l.pairs.items;
+  same : same_pairs g.Q.Interval.kind g.V.PartialEq.eq (take l.pair-index l.pair-items) l.pairs.items ≡ true;
   as_many : vec_len l.pairs ≡ l.pair-index;
   room : length l.pair-items ≤ vec_capacity l.pairs;
 }

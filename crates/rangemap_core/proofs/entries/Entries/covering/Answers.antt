@@ -10,7 +10,7 @@ returns-then-count-eq0-clause-pair g c =
     let eq = g.V.PartialEq.eq in
     let xs = c.as_slice-pairs.result.now in
     let same : xs ≡ c.args.self.now = c.as_slice-pairs.ensures.value ∙ c.self.view_is in
-    let canonical : IsCanonical g.Q.Kind.kind eq xs = rw (c.as_slice-pairs.ensures.value, c.self.view_is) c.requires in
+    let canonical : IsCanonical g.Q.Interval.kind eq xs = rw (c.as_slice-pairs.ensures.value, c.self.view_is) c.requires in
     rw (← same) (sym (covering_is p eq xs _ (all_storable p eq xs canonical) c.known.ensures ∙ covering_none (S p eq) (places p eq) xs (Some c.args.key.now) (rw c.if-count-eq0.true at c.starts_up_to-count.ensures.point)))
 
 pub returns-then-holds-clause-pair : goal.returns-then-holds-clause-pair
@@ -19,7 +19,7 @@ returns-then-holds-clause-pair g c =
     let eq = g.V.PartialEq.eq in
     let xs = c.as_slice-pairs.result.now in
     let same : xs ≡ c.args.self.now = c.as_slice-pairs.ensures.value ∙ c.self.view_is in
-    let canonical : IsCanonical g.Q.Kind.kind eq xs = rw (c.as_slice-pairs.ensures.value, c.self.view_is) c.requires in
+    let canonical : IsCanonical g.Q.Interval.kind eq xs = rw (c.as_slice-pairs.ensures.value, c.self.view_is) c.requires in
     let n = c.starts_up_to-count.result.0 in
     let more : n ≡ n - 1 + 1 = omega arith in
     let a = c.index-pairs-count.result in
@@ -33,7 +33,7 @@ returns-else-holds-clause-pair g c =
     let eq = g.V.PartialEq.eq in
     let xs = c.as_slice-pairs.result.now in
     let same : xs ≡ c.args.self.now = c.as_slice-pairs.ensures.value ∙ c.self.view_is in
-    let canonical : IsCanonical g.Q.Kind.kind eq xs = rw (c.as_slice-pairs.ensures.value, c.self.view_is) c.requires in
+    let canonical : IsCanonical g.Q.Interval.kind eq xs = rw (c.as_slice-pairs.ensures.value, c.self.view_is) c.requires in
     let n = c.starts_up_to-count.result.0 in
     let more : n ≡ n - 1 + 1 = omega arith in
     let a = c.index-pairs-count.result in

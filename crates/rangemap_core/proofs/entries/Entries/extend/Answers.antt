@@ -4,17 +4,17 @@ use Rattle.rangemap_core.proofs.Canon.{Overrides-last, Overrides-none}
 use Rattle.rangemap_core.proofs.entries.Entries.extend.Goals as goal
 
 pub loop-range-init : goal.loop-range-init
-loop-range-init g c = Overrides-none g.Q.Kind.kind g.met.V.Eq.laws c.args.self.now (c.requires.canonical)
+loop-range-init g c = Overrides-none g.Q.Interval.kind g.met.V.Eq.laws c.args.self.now (c.requires.canonical)
 
 pub insert-requires-clause-range : goal.insert-requires-clause-range
 insert-requires-clause-range g c =
     let it = c.into_iter-range-iterator in
     record {
-      start_is_key = subst g.Q.Kind.kind.is_key c.start.ensures c.known.ensures;
-      end_is_key = subst g.Q.Kind.kind.is_key c.end.ensures c.known-in-loop-range.ensures;
-      non_empty = at_turn g.Q.Kind.kind it.result c.loop-range.yielded c.loop-range.range-iterator (c.in-Some.range, c.in-Some.value) c.next.new.self (c.requires.non_empty it.result it.ensures.into_iter_gives) c.loop-range.yielded_by c.in-Some.ensures.steps;
+      start_is_key = subst g.Q.Interval.kind.is_key c.start.ensures c.known.ensures;
+      end_is_key = subst g.Q.Interval.kind.is_key c.end.ensures c.known-in-loop-range.ensures;
+      non_empty = at_turn g.Q.Interval.kind it.result c.loop-range.yielded c.loop-range.range-iterator (c.in-Some.range, c.in-Some.value) c.next.new.self (c.requires.non_empty it.result it.ensures.into_iter_gives) c.loop-range.yielded_by c.in-Some.ensures.steps;
     }
 
 pub loop-range-preserved : goal.loop-range-preserved
 loop-range-preserved g c =
-    Overrides-last g.Q.Kind.kind g.met.V.Eq.laws c.args.self.now c.loop-range.self c.insert.new.self c.loop-range.yielded (c.in-Some.range, c.in-Some.value) c.loop-range.invariant c.in_ok-insert.ensures.ok
+    Overrides-last g.Q.Interval.kind g.met.V.Eq.laws c.args.self.now c.loop-range.self c.insert.new.self c.loop-range.yielded (c.in-Some.range, c.in-Some.value) c.loop-range.invariant c.in_ok-insert.ensures.ok

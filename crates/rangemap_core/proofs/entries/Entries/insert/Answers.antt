@@ -7,7 +7,7 @@ use Rattle.rangemap_core.proofs.entries.Entries.insert.Goals as goal
 
 pub middle-requires-clause-taken : goal.middle-requires-clause-taken
 middle-requires-clause-taken g c =
-    let k = g.Q.Kind.kind in
+    let k = g.Q.Interval.kind in
     let p = g.met.Q.Kind.placed in
     let eq = g.V.PartialEq.eq in
     let e = g.met.V.Eq.laws in
@@ -19,7 +19,7 @@ middle-requires-clause-taken g c =
 
 pub returns-clause-ok : goal.returns-clause-ok
 returns-clause-ok g c =
-    let k = g.Q.Kind.kind in
+    let k = g.Q.Interval.kind in
     let p = g.met.Q.Kind.placed in
     let eq = g.V.PartialEq.eq in
     let e = g.met.V.Eq.laws in
@@ -33,7 +33,7 @@ returns-clause-ok g c =
 
 pub returns-clause-growth : goal.returns-clause-growth
 returns-clause-growth g c =
-    let k = g.Q.Kind.kind in
+    let k = g.Q.Interval.kind in
     let p = g.met.Q.Kind.placed in
     let eq = g.V.PartialEq.eq in
     let e = g.met.V.Eq.laws in
@@ -47,7 +47,7 @@ returns-clause-growth g c =
 
 pub returns-clause-growth_where_all_are_equal : goal.returns-clause-growth_where_all_are_equal
 returns-clause-growth_where_all_are_equal g c =
-    let k = g.Q.Kind.kind in
+    let k = g.Q.Interval.kind in
     let p = g.met.Q.Kind.placed in
     let eq = g.V.PartialEq.eq in
     let e = g.met.V.Eq.laws in

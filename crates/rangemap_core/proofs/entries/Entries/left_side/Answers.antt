@@ -5,7 +5,7 @@ use Rattle.rangemap_core.proofs.entries.Entries.left_side.Goals as goal
 
 pub returns-then-start-end-clause-side : goal.returns-then-start-end-clause-side
 returns-then-start-end-clause-side g c =
-    let k = g.Q.Kind.kind in
+    let k = g.Q.Interval.kind in
     let p = g.met.Q.Kind.placed in
     let eq = g.V.PartialEq.eq in
     let e = g.met.V.Eq.laws in
@@ -19,7 +19,7 @@ returns-then-start-end-clause-side g c =
 
 pub returns-then-eq-clause-side : goal.returns-then-eq-clause-side
 returns-then-eq-clause-side g c =
-    let k = g.Q.Kind.kind in
+    let k = g.Q.Interval.kind in
     let p = g.met.Q.Kind.placed in
     let eq = g.V.PartialEq.eq in
     let e = g.met.V.Eq.laws in
@@ -42,7 +42,7 @@ part_before-requires-clause-pair g c =
 
 pub returns : goal.returns
 returns g c =
-    let k = g.Q.Kind.kind in
+    let k = g.Q.Interval.kind in
     let p = g.met.Q.Kind.placed in
     let eq = g.V.PartialEq.eq in
     let e = g.met.V.Eq.laws in

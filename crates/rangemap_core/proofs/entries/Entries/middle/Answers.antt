@@ -27,7 +27,7 @@ part-requires-clause-has_part g c =
 
 pub returns : goal.returns
 returns g c =
-    let k = g.Q.Kind.kind in
+    let k = g.Q.Interval.kind in
     let p = g.met.Q.Kind.placed in
     let eq = g.V.PartialEq.eq in
     let xs = c.args.self.now in

@@ -10,7 +10,7 @@ use Rattle.rangemap_core.proofs.entries.Entries.remove.Goals as goal
 
 pub returns-then-start-end-clause-ok : goal.returns-then-start-end-clause-ok
 returns-then-start-end-clause-ok g c =
-    let k = g.Q.Kind.kind in
+    let k = g.Q.Interval.kind in
     let p = g.met.Q.Kind.placed in
     let eq = g.V.PartialEq.eq in
     let e = g.met.V.Eq.laws in
@@ -23,7 +23,7 @@ returns-then-start-end-clause-ok g c =
 
 pub part_before-requires-clause-pair : goal.part_before-requires-clause-pair
 part_before-requires-clause-pair g c =
-    let k = g.Q.Kind.kind in
+    let k = g.Q.Interval.kind in
     let p = g.met.Q.Kind.placed in
     let eq = g.V.PartialEq.eq in
     let e = g.met.V.Eq.laws in
@@ -36,7 +36,7 @@ part_before-requires-clause-pair g c =
 
 pub part_after-requires-clause-pair : goal.part_after-requires-clause-pair
 part_after-requires-clause-pair g c =
-    let k = g.Q.Kind.kind in
+    let k = g.Q.Interval.kind in
     let p = g.met.Q.Kind.placed in
     let eq = g.V.PartialEq.eq in
     let e = g.met.V.Eq.laws in
@@ -49,7 +49,7 @@ part_after-requires-clause-pair g c =
 
 pub returns-in_err-left-clause-meets_nothing : goal.returns-in_err-left-clause-meets_nothing
 returns-in_err-left-clause-meets_nothing g c = λ h.
-    let k = g.Q.Kind.kind in
+    let k = g.Q.Interval.kind in
     let p = g.met.Q.Kind.placed in
     let eq = g.V.PartialEq.eq in
     let e = g.met.V.Eq.laws in
@@ -62,7 +62,7 @@ returns-in_err-left-clause-meets_nothing g c = λ h.
 
 pub returns-in_err-right-clause-meets_nothing : goal.returns-in_err-right-clause-meets_nothing
 returns-in_err-right-clause-meets_nothing g c = λ h.
-    let k = g.Q.Kind.kind in
+    let k = g.Q.Interval.kind in
     let p = g.met.Q.Kind.placed in
     let eq = g.V.PartialEq.eq in
     let e = g.met.V.Eq.laws in
@@ -75,7 +75,7 @@ returns-in_err-right-clause-meets_nothing g c = λ h.
 
 pub returns-clause-ok : goal.returns-clause-ok
 returns-clause-ok g c =
-    let k = g.Q.Kind.kind in
+    let k = g.Q.Interval.kind in
     let p = g.met.Q.Kind.placed in
     let eq = g.V.PartialEq.eq in
     let e = g.met.V.Eq.laws in
@@ -97,7 +97,7 @@ returns-clause-ok g c =
 
 pub returns-clause-meets_nothing : goal.returns-clause-meets_nothing
 returns-clause-meets_nothing g c = λ h.
-    let k = g.Q.Kind.kind in
+    let k = g.Q.Interval.kind in
     let p = g.met.Q.Kind.placed in
     let eq = g.V.PartialEq.eq in
     let e = g.met.V.Eq.laws in

@@ -10,8 +10,8 @@ returns-clause-same g c =
     let p = g.met.Q.Kind.placed in
     let pair = c.args.pair.now in
     let stored = c.requires.stored in
-    let cut = part_spans p (AtStart pair.0) (AtEnd pair.0) c.in_ok-range.range (asked g.Q.Kind.kind _ stored) (asked g.Q.Kind.kind _ stored) (ap is_lt (p.non_empty _ stored)) c.in_ok-range.ensures in
-    to_same g.Q.Kind.kind g.V.PartialEq.eq pair (c.in_ok-range.range, c.in_ok-clone.field-0) (record {
+    let cut = part_spans p (AtStart pair.0) (AtEnd pair.0) c.in_ok-range.range (asked g.Q.Interval.kind _ stored) (asked g.Q.Interval.kind _ stored) (ap is_lt (p.non_empty _ stored)) c.in_ok-range.ensures in
+    to_same g.Q.Interval.kind g.V.PartialEq.eq pair (c.in_ok-range.range, c.in_ok-clone.field-0) (record {
       starts = eq_turn p.total cut.from;
       ends = eq_turn p.total (p.ends _ _ cut.storable stored ∙ cut.to);
       values = c.requires.faithful_values _ _ c.in_ok-clone.ensures.cases;

@@ -4,8 +4,8 @@ use Rattle.rangemap_core.proofs.gaps.Gaps.try_next.Given as goal
 
 abbrev pub invariant-loop-pair : goal.invariant-loop-pair
 invariant-loop-pair g l = record {
-  left : gaps_from g.Q.Kind.kind g.Q.Kind.high g.Q.Kind.part_of (edge_of l.from) l.self-inside.outer_range.now l.pairs ≡ l.fn.self;
-  kept : gaps_from g.Q.Kind.kind g.Q.Kind.high g.Q.Kind.part_of (edge_of l.self-inside.from) l.self-inside.outer_range.now l.self-inside.pairs.now ≡ l.fn.self;
+  left : gaps_from g.Q.Interval.kind g.Q.Kind.high g.Q.Kind.part_of (edge_of l.from) l.self-inside.outer_range.now l.pairs ≡ l.fn.self;
+  kept : gaps_from g.Q.Interval.kind g.Q.Kind.high g.Q.Kind.part_of (edge_of l.self-inside.from) l.self-inside.outer_range.now l.self-inside.pairs.now ≡ l.fn.self;
   goes_on : l.self-inside.is_done ≡ false;
 }
 
