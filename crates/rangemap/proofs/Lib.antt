@@ -1,3 +1,3 @@
-pub mod Equal
-pub mod Partings
-pub use Rattle.rangemap_core.proofs.Incoming
+pub mod EqualityLemmas
+pub mod GapLemmas
+pub use Rattle.rangemap_core.proofs.IncomingLemmas

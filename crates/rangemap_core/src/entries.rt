@@ -70,6 +70,11 @@ impl<Q: Kind<K, R>, K: Ord + Clone, R, V: Eq, A: Allocator> Entries<Q, K, R, V, 
         self.pairs.is_empty()
     }
 
+    /// What the memory comes from.
+    pub fn allocator(&self) -> &A {
+        self.pairs.allocator()
+    }
+
     /// The pairs, in order, where they stand.
     pub fn as_slice(&self) -> &[(R, V)]
         ensures { result.now ≡ self.now }
@@ -114,7 +119,7 @@ impl<Q: Kind<K, R>, K: Ord + Clone, R, V: Eq, A: Allocator> Entries<Q, K, R, V, 
         }
     }
 
-    /// The parts of the range that no pair covers, in order, for any range. It searches twice, and takes no memory.
+    /// The parts of the range that no pair covers, in order, for any range. It searches once, and takes no memory.
     pub fn gaps<'a>(&'a self, outer_range: &'a R) -> Gaps<'a, Q, K, R, V>
         requires { IsCanonical Q.kind V.eq self.now }
         ensures { AreGaps Q.kind (map (λ pair. pair.0) self.now) outer_range.now result }

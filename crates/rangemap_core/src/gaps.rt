@@ -6,8 +6,8 @@ ghost use Rattle.rangemap_core.specs.Clones.{KeysCloneFaithfully};
 ghost use Rattle.rangemap_core.specs.Items.{GivesRange, TakesRange};
 ghost use Rattle.rangemap_core.specs.Ranges.{AreGaps, IsCanonical};
 
-use crate::kind::{Edge, Kind};
-use crate::overlapping::overlapping_part;
+use crate::kind::{Endpoint, Kind};
+use crate::overlapping::{overlapping_tail, split_begun};
 use std::alloc::AllocError;
 use std::iter::Iterator;
 use std::marker::{Model, PhantomData};
@@ -16,8 +16,8 @@ use std::marker::{Model, PhantomData};
 #[derive(Drop)]
 pub struct Gaps<'a, Q: Kind<K, R>, K: Ord + Clone, R, V> {
     // Where the next gap may start: the start of the outer range, or the end of a stored one.
-    from: Edge<'a, R>,
-    // The pairs behind it that overlap the outer range.
+    from: Endpoint<'a, R>,
+    // The pairs behind it. Those that overlap the outer range come first: they start before it ends.
     pairs: &'a [(R, V)],
     outer_range: &'a R,
     is_done: bool,
@@ -25,12 +25,12 @@ pub struct Gaps<'a, Q: Kind<K, R>, K: Ord + Clone, R, V> {
 }
 
 impl<'a, Q: Kind<K, R>, K: Ord + Clone, R, V> Model for Gaps<'a, Q, K, R, V> {
-    ghost use Rattle.std.specs.Prelude.{List, [], if◌then◌else◌};
-    ghost use Rattle.rangemap_core.specs.Edges.{edge_of, gaps_from};
+    ghost use Rattle.std.specs.Prelude.{List, [], if◌then◌else◌, take_while};
+    ghost use Rattle.rangemap_core.specs.engine.Endpoints.{endpoint_of, gaps_from, starts_before};
 
     ghost Value = { List R };
 
-    ghost view = { λ s. if s.is_done then [] else gaps_from Q.kind Q.high Q.part_of (edge_of s.from) s.outer_range.now s.pairs.now };
+    ghost view = { λ s. if s.is_done then [] else gaps_from Q.kind Q.end_place Q.part_of (endpoint_of s.from) s.outer_range.now (take_while (starts_before Q.kind Q.end_place s.outer_range.now) s.pairs.now) };
 }
 
 impl<'a, Q: Kind<K, R>, K: Ord + Clone, R, V> Gaps<'a, Q, K, R, V> {
@@ -44,8 +44,8 @@ impl<'a, Q: Kind<K, R>, K: Ord + Clone, R, V> Gaps<'a, Q, K, R, V> {
         Q::known(Q::start(outer_range));
         Q::known(Q::end(outer_range));
         Gaps {
-            from: Edge::Start(outer_range),
-            pairs: overlapping_part::<Q, K, R, V>(pairs, outer_range),
+            from: Endpoint::Start(outer_range),
+            pairs: overlapping_tail::<Q, K, R, V>(pairs, outer_range),
             outer_range,
             is_done: false,
             kind: PhantomData,
@@ -64,10 +64,10 @@ impl<'a, Q: Kind<K, R>, K: Ord + Clone, R, V> Gaps<'a, Q, K, R, V> {
         }
         let mut from = self.from;
         let mut pairs = self.pairs;
-        while let Some((pair, rest)) = pairs.split_first() {
-            let to = Edge::Start(&pair.0);
-            let behind = Edge::End(&pair.0);
-            if Q::has_part(from, to) {
+        while let Some((pair, rest)) = split_begun::<Q, K, R, V>(pairs, self.outer_range) {
+            let to = Endpoint::Start(&pair.0);
+            let behind = Endpoint::End(&pair.0);
+            if Q::is_before(from, to) {
                 let gap = Q::part(from, to)?;
                 self.from = behind;
                 self.pairs = rest;
@@ -76,8 +76,8 @@ impl<'a, Q: Kind<K, R>, K: Ord + Clone, R, V> Gaps<'a, Q, K, R, V> {
             from = behind;
             pairs = rest;
         }
-        let to = Edge::End(self.outer_range);
-        let gap = if Q::has_part(from, to) {
+        let to = Endpoint::End(self.outer_range);
+        let gap = if Q::is_before(from, to) {
             Some(Q::part(from, to)?)
         } else {
             None

@@ -1,9 +1,9 @@
 //! Half-open ranges as a kind.
 ghost use Rattle.std.specs.Prelude.{◌≡◌};
-ghost use Rattle.rangemap_core.specs.Edges.{edge_of};
-ghost use Rattle.rangemap_core.specs.EdgeKinds.{half_open_key};
+ghost use Rattle.rangemap_core.specs.engine.Endpoints.{endpoint_of};
+ghost use Rattle.rangemap_core.specs.engine.EndpointKinds.{half_open_key};
 
-use crate::kind::{Edge, Interval, Kind};
+use crate::kind::{Endpoint, Interval, Kind};
 use crate::std_ext::compare_end_to_start;
 use std::alloc::AllocError;
 use std::cmp::Ordering;
@@ -13,7 +13,7 @@ use std::ops::Range;
 pub struct HalfOpen;
 
 impl<K: Ord + Clone> Interval<K, Range<K>> for HalfOpen {
-    ghost use Rattle.rangemap_core.specs.IntervalKinds.{half_open_interval};
+    ghost use Rattle.rangemap_core.specs.engine.IntervalKinds.{half_open_interval};
     ghost use Rattle.rangemap_core.specs.Ranges.{half_open};
     ghost use Rattle.std.specs.Prelude.{false};
 
@@ -57,13 +57,13 @@ impl<K: Ord + Clone> Interval<K, Range<K>> for HalfOpen {
 impl<K: Ord + Clone> Kind<K, Range<K>> for HalfOpen {
     ghost use Rattle.rangemap_core.specs.Ranges.{half_open};
     ghost use Rattle.rangemap_core.specs.Clones.{KeysCloneFaithfully};
-    ghost use Rattle.rangemap_core.specs.Edges.{edge_of, has_part};
-    ghost use Rattle.rangemap_core.specs.EdgeKinds.{half_open_part, half_open_placed};
+    ghost use Rattle.rangemap_core.specs.engine.Endpoints.{endpoint_of, is_before};
+    ghost use Rattle.rangemap_core.specs.engine.EndpointKinds.{half_open_part, half_open_placed};
     ghost use Rattle.rangemap_core.specs.Items.{IsSame};
-    ghost use Rattle.rangemap_core.specs.PlacedKinds.{half_open_high};
+    ghost use Rattle.rangemap_core.specs.engine.PlacedKinds.{half_open_end_place};
     ghost use Rattle.std.specs.Prelude.{◌≡◌, true, IfOk};
 
-    ghost high = { half_open_high };
+    ghost end_place = { half_open_end_place };
 
     ghost part_of = { half_open_part };
 
@@ -73,26 +73,26 @@ impl<K: Ord + Clone> Kind<K, Range<K>> for HalfOpen {
         compare_end_to_start(first, second)
     }
 
-    fn has_part(from: Edge<'_, Range<K>>, to: Edge<'_, Range<K>>) -> bool
-        ensures { result ≡ has_part (half_open K.cmp) half_open_high (edge_of from.entry) (edge_of to.entry) }
+    fn is_before(from: Endpoint<'_, Range<K>>, to: Endpoint<'_, Range<K>>) -> bool
+        ensures { result ≡ is_before (half_open K.cmp) half_open_end_place (endpoint_of from.entry) (endpoint_of to.entry) }
     {
         key_at(from).cmp(key_at(to)).is_lt()
     }
 
-    fn part(from: Edge<'_, Range<K>>, to: Edge<'_, Range<K>>) -> Result<Range<K>, AllocError>
-        requires has_part { has_part (half_open K.cmp) half_open_high (edge_of from) (edge_of to) ≡ true }
+    fn part(from: Endpoint<'_, Range<K>>, to: Endpoint<'_, Range<K>>) -> Result<Range<K>, AllocError>
+        requires is_before { is_before (half_open K.cmp) half_open_end_place (endpoint_of from) (endpoint_of to) ≡ true }
         requires faithful_keys { KeysCloneFaithfully K.is_clone K.cmp }
-        ensures { IfOk result (IsSame (half_open K.cmp) (half_open_part (edge_of from.entry) (edge_of to.entry))) }
+        ensures { IfOk result (IsSame (half_open K.cmp) (half_open_part (endpoint_of from.entry) (endpoint_of to.entry))) }
     {
         Ok(key_at(from).clone()?..key_at(to).clone()?)
     }
 }
 
-fn key_at<'a, K>(edge: Edge<'a, Range<K>>) -> &'a K
-    ensures { result.now ≡ half_open_key (edge_of edge.entry) }
+fn key_at<'a, K>(endpoint: Endpoint<'a, Range<K>>) -> &'a K
+    ensures { result.now ≡ half_open_key (endpoint_of endpoint.entry) }
 {
-    match edge {
-        Edge::Start(range) => &range.start,
-        Edge::End(range) => &range.end,
+    match endpoint {
+        Endpoint::Start(range) => &range.start,
+        Endpoint::End(range) => &range.end,
     }
 }

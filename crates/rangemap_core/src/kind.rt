@@ -1,33 +1,33 @@
 //! The kinds of range that a map may store.
 ghost use Rattle.std.specs.Prelude.{◌≡◌, Bool, true, Option as OptionOf, Some as SomeWord, IfOk};
 ghost use Rattle.rangemap_core.specs.Clones.{KeysCloneFaithfully};
-ghost use Rattle.rangemap_core.specs.Edges.{EdgeOf, IsPlaced, edge_of, has_part};
-ghost use Rattle.rangemap_core.specs.Intervals.{IsBetween, IsInterval, reaches};
+ghost use Rattle.rangemap_core.specs.engine.Endpoints.{EndpointOf, IsPlaced, endpoint_of, is_before};
+ghost use Rattle.rangemap_core.specs.engine.Intervals.{IsBetween, IsInterval, reaches};
 ghost use Rattle.rangemap_core.specs.Items.{IsSame};
-ghost use Rattle.rangemap_core.specs.Places.{place_cmp};
+ghost use Rattle.rangemap_core.specs.engine.Places.{place_cmp};
 ghost use Rattle.rangemap_core.specs.Ranges.{RangeKind, IsStorable};
 
 use std::alloc::AllocError;
 use std::cmp::Ordering;
 
-/// An edge of a range.
+/// An endpoint of a range.
 #[derive(Drop)]
-pub enum Edge<'a, R> {
+pub enum Endpoint<'a, R> {
     /// Where the range starts.
     Start(&'a R),
     /// Where it ends.
     End(&'a R),
 }
 
-impl<'a, R> Clone for Edge<'a, R> {
-    ghost is_clone = { λ edge copy. copy ≡ edge };
+impl<'a, R> Clone for Endpoint<'a, R> {
+    ghost is_clone = { λ endpoint copy. copy ≡ endpoint };
 
     fn clone(&self) -> Result<Self, AllocError> {
         Ok(*self)
     }
 }
 
-impl<'a, R> Copy for Edge<'a, R> {}
+impl<'a, R> Copy for Endpoint<'a, R> {}
 
 /// Ranges `R` from one key of type `K` to another, as far as no steps of keys are asked.
 pub trait Interval<K: Ord + Clone, R> {
@@ -69,28 +69,28 @@ pub trait Interval<K: Ord + Clone, R> {
 /// A kind of range that may be stored: the place where a range ends is before a key, or after every key.
 pub trait Kind<K: Ord + Clone, R>: Interval<K, R> {
     /// The place up to which a range goes: before a key, or after every key.
-    ghost high: { R → OptionOf K };
+    ghost end_place: { R → OptionOf K };
 
-    /// The range from one edge up to another.
-    ghost part_of: { EdgeOf R → EdgeOf R → R };
+    /// The range from one endpoint up to another.
+    ghost part_of: { EndpointOf R → EndpointOf R → R };
 
     /// How the place where the first range ends lies to that where the second starts: equal where the two touch.
     fn compare_end_to_start(first: &R, second: &R) -> Ordering
         requires first { IsStorable Self.kind first.now }
         requires second { IsStorable Self.kind second.now }
-        ensures { result ≡ place_cmp Self.kind.cmp (high first.now) (SomeWord (Self.kind.start second.now)) };
+        ensures { result ≡ place_cmp Self.kind.cmp (end_place first.now) (SomeWord (Self.kind.start second.now)) };
 
-    /// Whether the part from the first edge up to the second has a key.
-    fn has_part(from: Edge<'_, R>, to: Edge<'_, R>) -> bool
-        ensures { result ≡ has_part Self.kind high (edge_of from.entry) (edge_of to.entry) };
+    /// Whether the part from the first endpoint up to the second has a key.
+    fn is_before(from: Endpoint<'_, R>, to: Endpoint<'_, R>) -> bool
+        ensures { result ≡ is_before Self.kind end_place (endpoint_of from.entry) (endpoint_of to.entry) };
 
     /// That part, where it has a key.
-    fn part(from: Edge<'_, R>, to: Edge<'_, R>) -> Result<R, AllocError>
-        requires has_part { has_part Self.kind high (edge_of from) (edge_of to) ≡ true }
+    fn part(from: Endpoint<'_, R>, to: Endpoint<'_, R>) -> Result<R, AllocError>
+        requires is_before { is_before Self.kind end_place (endpoint_of from) (endpoint_of to) ≡ true }
         requires faithful_keys { KeysCloneFaithfully K.is_clone K.cmp }
-        ensures { IfOk result (IsSame Self.kind (part_of (edge_of from.entry) (edge_of to.entry))) };
+        ensures { IfOk result (IsSame Self.kind (part_of (endpoint_of from.entry) (endpoint_of to.entry))) };
 
-    /// Ranges of the kind lie between places in a total order, and answer by the places of their edges, the empty and the
+    /// Ranges of the kind lie between places in a total order, and answer by the places of their endpoints, the empty and the
     /// reversed ones too.
-    ghost placed: { IsPlaced Self.kind high part_of };
+    ghost placed: { IsPlaced Self.kind end_place part_of };
 }

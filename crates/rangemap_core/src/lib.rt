@@ -12,13 +12,13 @@ pub mod into_iter;
 pub mod iter;
 pub mod kind;
 pub mod map;
-mod near;
+mod partition_point;
 pub mod overlapping;
 mod probe;
 pub mod ranged_map;
 pub mod replay;
 mod search;
 pub mod std_ext;
-mod stretch;
+mod splice;
 
 pub use map::RangeMap;

@@ -63,6 +63,11 @@ impl<K: Ord + Clone, V: Eq + Clone, A: Allocator> RangeMap<K, V, A> {
         }
     }
 
+    /// What the memory comes from.
+    pub fn allocator(&self) -> &A {
+        self.entries.allocator()
+    }
+
     /// How many ranges are stored. It takes the same time for any map.
     pub fn len(&self) -> usize
         ensures { result ≡ length self.now }
@@ -237,7 +242,7 @@ impl<K: Ord + Clone, V: Eq + Clone, A: Allocator> RangeMap<K, V, A> {
 impl<K: Ord + Clone, V: Eq + Clone, A: Allocator> PartialEq for RangeMap<K, V, A> {
     ghost use Rattle.std.specs.Cmp.{partial_equiv_from_equiv};
     ghost use Rattle.rangemap_core.specs.Ranges.{half_open, same_pairs};
-    ghost use Rattle.rangemap_core.specs.Comparisons.{same_pairs_equiv};
+    ghost use Rattle.rangemap_core.specs.laws.Comparisons.{same_pairs_equiv};
 
     ghost eq = { λ left right. same_pairs (half_open K.cmp) V.eq left right };
 
@@ -252,7 +257,7 @@ impl<K: Ord + Clone, V: Eq + Clone, A: Allocator> PartialEq for RangeMap<K, V, A
 
 impl<K: Ord + Clone, V: Eq + Clone, A: Allocator> Eq for RangeMap<K, V, A> {
     ghost use Rattle.rangemap_core.specs.Ranges.{half_open};
-    ghost use Rattle.rangemap_core.specs.Comparisons.{same_pairs_equiv};
+    ghost use Rattle.rangemap_core.specs.laws.Comparisons.{same_pairs_equiv};
 
     ghost laws = { same_pairs_equiv (half_open K.cmp) K.total V.Eq.laws };
 }

@@ -1,16 +1,18 @@
 //! The pairs that overlap a range, from both ends.
-ghost use Rattle.std.specs.Prelude.{◌≡◌, ◌-◌, ◌≤◌, IfSome, None as NoneWord, true, false, drop, length, nat_lt, take};
+ghost use Rattle.std.specs.Prelude.{◌≡◌, ◌<◌, ◌-◌, ◌≤◌, ◌∷◌, [], IfSome, MatchOption, None as NoneWord, true, false, drop, length, nat_lt, take, take_while};
 ghost use Rattle.std.specs.List.{AllWithin};
+ghost use Rattle.std.specs.List.Sorted.{IsPartitionPoint};
 ghost use Rattle.std.specs.Iterator.{UpTo, at_most};
 ghost use Rattle.std.specs.Iterator.SizeHint.{IsWithinCount};
 ghost use Rattle.std.specs.Map.Iter.{TakesFirst, TakesLast, deref_pair};
+ghost use Rattle.rangemap_core.specs.engine.Endpoints.{starts_before};
 ghost use Rattle.rangemap_core.specs.Ranges.{IsCanonical, overlapped};
-ghost use Rattle.rangemap_core.specs.Shape.{shape_of};
-ghost use Rattle.rangemap_core.specs.Stretch.{IsOverlap, starts_within};
+ghost use Rattle.rangemap_core.specs.engine.Shape.{shape_of};
+ghost use Rattle.rangemap_core.specs.engine.Stretch.{IsOverlap, ends_by, starts_within};
 
 use crate::iter::Iter;
-use crate::kind::{Edge, Kind};
-use crate::near::{Test, partition_point_by, step_on};
+use crate::kind::{Endpoint, Kind};
+use crate::partition_point::{Test, partition_point_near, partition_point_from};
 use crate::search::starts_up_to;
 use std::iter::{DoubleEndedIterator, Iterator};
 use std::marker::{Model, PhantomData};
@@ -35,8 +37,9 @@ impl<'a, R, V: Eq> Overlapping<'a, R, V> {
         requires { IsCanonical Q.kind V.eq pairs.now }
         ensures { result ≡ overlapped Q.kind pairs.now query.now }
     {
+        let (start, end) = overlap::<Q, K, R, V>(pairs, query, Reach::Far);
         Overlapping {
-            pairs: Iter::over(overlapping_part::<Q, K, R, V>(pairs, query)),
+            pairs: Iter::over(&pairs[start..end]),
         }
     }
 }
@@ -74,52 +77,106 @@ pub fn overlaps<Q: Kind<K, R>, K: Ord + Clone, R, V: Eq>(pairs: &[(R, V)], query
     requires { IsCanonical Q.kind V.eq pairs.now }
     ensures { result ≡ nat_lt 0 (length (overlapped Q.kind pairs.now query.now)) }
 {
-    !overlapping_part::<Q, K, R, V>(pairs, query).is_empty()
+    let tail = overlapping_tail::<Q, K, R, V>(pairs, query);
+    split_begun::<Q, K, R, V>(tail, query).is_some()
 }
 
-// The part of a canonical list that overlaps the query.
-pub(crate) fn overlapping_part<'a, Q: Kind<K, R>, K: Ord + Clone, R, V: Eq>(
+// The pairs of a canonical list from the first that overlaps the query on. Of these the ones that overlap it come first: those
+// that start before it ends.
+pub(crate) fn overlapping_tail<'a, Q: Kind<K, R>, K: Ord + Clone, R, V: Eq>(
     pairs: &'a [(R, V)],
     query: &R,
 ) -> &'a [(R, V)]
     requires { IsCanonical Q.kind V.eq pairs.now }
-    ensures { result.now ≡ overlapped Q.kind pairs.now query.now }
+    ensures { take_while (starts_before Q.kind Q.end_place query.now) result.now ≡ overlapped Q.kind pairs.now query.now }
 {
-    let (start, end) = overlap::<Q, K, R, V>(pairs, query);
-    &pairs[start..end]
+    Q::known(Q::start(query));
+    Q::known(Q::end(query));
+    &pairs[overlap_start::<Q, K, R, V>(pairs, query)..]
+}
+
+// The first pair and those behind it, if it starts before the query ends.
+pub(crate) fn split_begun<'a, Q: Kind<K, R>, K: Ord + Clone, R, V>(
+    pairs: &'a [(R, V)],
+    query: &R,
+) -> Option<(&'a (R, V), &'a [(R, V)])>
+    ensures begun { MatchOption result (take_while (starts_before Q.kind Q.end_place query.now) pairs.now ≡ []) (λ split. take_while (starts_before Q.kind Q.end_place query.now) pairs.now ≡ split.0.now ∷ take_while (starts_before Q.kind Q.end_place query.now) split.1.now) }
+    ensures shorter { IfSome result (λ split. length split.1.now < length pairs.now) }
+{
+    let (first, rest) = pairs.split_first()?;
+    if Q::is_before(Endpoint::Start(&first.0), Endpoint::End(query)) {
+        Some((first, rest))
+    } else {
+        None
+    }
+}
+
+/// How far the end of an overlap is thought to be from its start.
+pub enum Reach {
+    /// A few pairs, as with most changes: the end is looked for pair by pair first.
+    Near,
+    /// Any number of pairs, as with queries: the end is searched for at once.
+    Far,
 }
 
 /// The places of the pairs that overlap the query: from the first up to the second.
-///
-/// Of the pairs that start no later than the query, only the last can reach past its start: a search among the starts and one
-/// look find the first place. The second is looked for from there, and by a search only where that is far.
 pub fn overlap<Q: Kind<K, R>, K: Ord + Clone, R, V: Eq>(
     pairs: &[(R, V)],
     query: &R,
+    reach: Reach,
 ) -> (usize, usize)
     requires { IsCanonical Q.kind V.eq pairs.now }
-    ensures found { IsOverlap (shape_of Q.kind Q.high V.eq) pairs.now query.now result.0 result.1 }
+    ensures found { IsOverlap (shape_of Q.kind Q.end_place V.eq) pairs.now query.now result.0 result.1 }
     ensures part { take (result.1 - result.0) (drop result.0 pairs.now) ≡ overlapped Q.kind pairs.now query.now }
 {
     Q::known(Q::start(query));
     Q::known(Q::end(query));
+    let start = overlap_start::<Q, K, R, V>(pairs, query);
+    (start, overlap_end::<Q, K, R, V>(pairs, query, start, reach))
+}
+
+// The place of the first pair that ends after the query starts.
+//
+// Of the pairs that start no later than the query, only the last can reach past its start: a search among the starts and one
+// look find the place.
+fn overlap_start<Q: Kind<K, R>, K: Ord + Clone, R, V: Eq>(pairs: &[(R, V)], query: &R) -> usize
+    requires { IsCanonical Q.kind V.eq pairs.now }
+    ensures bound { result ≤ length pairs.now }
+    ensures point { IsPartitionPoint (λ a. ends_by (shape_of Q.kind Q.end_place V.eq) query.now a ≡ true) (λ a. ends_by (shape_of Q.kind Q.end_place V.eq) query.now a ≡ false) pairs.now result }
+{
     let ended: EndsBefore<'_, Q, K, R> = EndsBefore {
         query,
         kind: PhantomData,
     };
     let (near_start, _) = starts_up_to::<Q, K, R, V>(pairs, Q::start(query));
-    let start = partition_point_by(pairs, &ended, near_start);
-    (start, overlap_end::<Q, K, R, V>(pairs, query, start))
+    partition_point_near(pairs, &ended, near_start)
+}
+
+// How far on from a place the pairs start before the query ends.
+fn overlap_end<Q: Kind<K, R>, K: Ord + Clone, R, V: Eq>(
+    pairs: &[(R, V)],
+    query: &R,
+    start: usize,
+    reach: Reach,
+) -> usize
+    requires canonical { IsCanonical Q.kind V.eq pairs.now }
+    requires in_bounds { start ≤ length pairs.now }
+    ensures start { start ≤ result }
+    ensures bound { result ≤ length pairs.now }
+    ensures begun { AllWithin (λ b. starts_within (shape_of Q.kind Q.end_place V.eq) query.now b ≡ true) pairs.now start result }
+    ensures later { AllWithin (λ b. starts_within (shape_of Q.kind Q.end_place V.eq) query.now b ≡ false) pairs.now result (length pairs.now) }
+{
+    match reach {
+        Reach::Near => near_end::<Q, K, R, V>(pairs, query, start),
+        Reach::Far => searched_end::<Q, K, R, V>(pairs, query, start),
+    }
 }
 
 // How many pairs a stretch may have for its end to be looked for from its start.
 const SHORT: usize = 4;
 
-// How far on from a place the pairs start before the query ends.
-//
-// Where at most four do, that takes a look at each of them. Only a longer stretch is worth a search: of the pairs that start no
-// later than the query's end, only the last can start there, and it overlaps only where the end is a point of the query.
-fn overlap_end<Q: Kind<K, R>, K: Ord + Clone, R, V: Eq>(
+// The end of an overlap, by a look at each pair from its start on where there are at most four.
+fn near_end<Q: Kind<K, R>, K: Ord + Clone, R, V: Eq>(
     pairs: &[(R, V)],
     query: &R,
     start: usize,
@@ -128,8 +185,35 @@ fn overlap_end<Q: Kind<K, R>, K: Ord + Clone, R, V: Eq>(
     requires in_bounds { start ≤ length pairs.now }
     ensures start { start ≤ result }
     ensures bound { result ≤ length pairs.now }
-    ensures begun { AllWithin (λ b. starts_within (shape_of Q.kind Q.high V.eq) query.now b ≡ true) pairs.now start result }
-    ensures later { AllWithin (λ b. starts_within (shape_of Q.kind Q.high V.eq) query.now b ≡ false) pairs.now result (length pairs.now) }
+    ensures begun { AllWithin (λ b. starts_within (shape_of Q.kind Q.end_place V.eq) query.now b ≡ true) pairs.now start result }
+    ensures later { AllWithin (λ b. starts_within (shape_of Q.kind Q.end_place V.eq) query.now b ≡ false) pairs.now result (length pairs.now) }
+{
+    let begun: StartsBefore<'_, Q, K, R> = StartsBefore {
+        query,
+        kind: PhantomData,
+    };
+    if SHORT < pairs.len() - start && begun.test(&pairs[start + SHORT]) {
+        searched_end::<Q, K, R, V>(pairs, query, start)
+    } else {
+        partition_point_from(pairs, &begun, start)
+    }
+}
+
+// The end of an overlap, by a search.
+//
+// Of the pairs that start no later than the query's end, only the last can start there, and it overlaps only where the end is a
+// point of the query. So a search among the starts and one look find the end.
+fn searched_end<Q: Kind<K, R>, K: Ord + Clone, R, V: Eq>(
+    pairs: &[(R, V)],
+    query: &R,
+    start: usize,
+) -> usize
+    requires canonical { IsCanonical Q.kind V.eq pairs.now }
+    requires in_bounds { start ≤ length pairs.now }
+    ensures start { start ≤ result }
+    ensures bound { result ≤ length pairs.now }
+    ensures begun { AllWithin (λ b. starts_within (shape_of Q.kind Q.end_place V.eq) query.now b ≡ true) pairs.now start result }
+    ensures later { AllWithin (λ b. starts_within (shape_of Q.kind Q.end_place V.eq) query.now b ≡ false) pairs.now result (length pairs.now) }
 {
     Q::known(Q::start(query));
     Q::known(Q::end(query));
@@ -137,12 +221,8 @@ fn overlap_end<Q: Kind<K, R>, K: Ord + Clone, R, V: Eq>(
         query,
         kind: PhantomData,
     };
-    if SHORT < pairs.len() - start && begun.test(&pairs[start + SHORT]) {
-        let (near_end, _) = starts_up_to::<Q, K, R, V>(pairs, Q::end(query));
-        partition_point_by(pairs, &begun, near_end)
-    } else {
-        step_on(pairs, &begun, start)
-    }
+    let (near_end, _) = starts_up_to::<Q, K, R, V>(pairs, Q::end(query));
+    partition_point_near(pairs, &begun, near_end).max(start)
 }
 
 // The pair's range ends before the query starts.
@@ -154,15 +234,15 @@ struct EndsBefore<'a, Q, K, R> {
 
 impl<'a, Q: Kind<K, R>, K: Ord + Clone, R, V: Eq> Test<(R, V)> for EndsBefore<'a, Q, K, R> {
     ghost use Rattle.std.specs.Prelude.{⊤};
-    ghost use Rattle.rangemap_core.specs.Shape.{shape_of};
-    ghost use Rattle.rangemap_core.specs.Stretch.{ends_by};
+    ghost use Rattle.rangemap_core.specs.engine.Shape.{shape_of};
+    ghost use Rattle.rangemap_core.specs.engine.Stretch.{ends_by};
 
-    ghost passes = { λ t pair. ends_by (shape_of Q.kind Q.high V.eq) t.query.now pair };
+    ghost passes = { λ t pair. ends_by (shape_of Q.kind Q.end_place V.eq) t.query.now pair };
 
     ghost applies = { λ _ _. ⊤ };
 
     fn test(&self, pair: &(R, V)) -> bool {
-        !Q::has_part(Edge::Start(self.query), Edge::End(&pair.0))
+        !Q::is_before(Endpoint::Start(self.query), Endpoint::End(&pair.0))
     }
 }
 
@@ -175,14 +255,14 @@ struct StartsBefore<'a, Q, K, R> {
 
 impl<'a, Q: Kind<K, R>, K: Ord + Clone, R, V: Eq> Test<(R, V)> for StartsBefore<'a, Q, K, R> {
     ghost use Rattle.std.specs.Prelude.{⊤};
-    ghost use Rattle.rangemap_core.specs.Shape.{shape_of};
-    ghost use Rattle.rangemap_core.specs.Stretch.{starts_within};
+    ghost use Rattle.rangemap_core.specs.engine.Shape.{shape_of};
+    ghost use Rattle.rangemap_core.specs.engine.Stretch.{starts_within};
 
-    ghost passes = { λ t pair. starts_within (shape_of Q.kind Q.high V.eq) t.query.now pair };
+    ghost passes = { λ t pair. starts_within (shape_of Q.kind Q.end_place V.eq) t.query.now pair };
 
     ghost applies = { λ _ _. ⊤ };
 
     fn test(&self, pair: &(R, V)) -> bool {
-        Q::has_part(Edge::Start(&pair.0), Edge::End(self.query))
+        Q::is_before(Endpoint::Start(&pair.0), Endpoint::End(self.query))
     }
 }

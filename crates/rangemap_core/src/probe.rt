@@ -3,7 +3,7 @@
 //! A search that is given a `Probe` and a key sees nothing else of the list: neither an end, nor a value, nor a start
 //! that it did not ask for. So what the probe counted is all that the search has seen.
 ghost use Rattle.std.specs.Prelude.{◌≡◌, ◌+◌, ◌^◌, ◌<◌, length, slice_get};
-ghost use Rattle.rangemap_core.specs.Shape.{starts_of};
+ghost use Rattle.rangemap_core.specs.engine.Shape.{starts_of};
 
 use crate::kind::Kind;
 use std::marker::{Model, PhantomData};
@@ -18,7 +18,7 @@ pub struct Probe<'a, Q: Kind<K, R>, K: Ord + Clone, R, V> {
 
 impl<'a, Q: Kind<K, R>, K: Ord + Clone, R, V> Model for Probe<'a, Q, K, R, V> {
     ghost use Rattle.std.specs.Prelude.{List, ℕ};
-    ghost use Rattle.rangemap_core.specs.Shape.{starts_of};
+    ghost use Rattle.rangemap_core.specs.engine.Shape.{starts_of};
 
     ghost Value = { List K × ℕ };
 

@@ -1,8 +1,9 @@
 //! The search for a key among stored starts, by halving.
-ghost use Rattle.std.specs.Prelude.{◌≡◌, ◌+◌, ◌*◌, ◌^◌, ◌<◌, ◌≤◌, true, false, length, if◌then◌else◌};
+ghost use Rattle.std.specs.Prelude.{◌≡◌, ◌+◌, ◌*◌, ◌^◌, ◌<◌, ◌≤◌, true, false, length};
+ghost use Rattle.std.specs.List.{All};
 ghost use Rattle.std.specs.List.Sorted.{IsPartitionPoint, IsPartitionedBy};
 ghost use Rattle.rangemap_core.specs.Ranges.{IsCanonical};
-ghost use Rattle.rangemap_core.specs.Shape.{is_up_to, starts_by_key};
+ghost use Rattle.rangemap_core.specs.engine.Shape.{is_up_to, starts_by_key};
 
 use crate::kind::Kind;
 use crate::probe::Probe;
@@ -56,13 +57,17 @@ pub fn count_up_to<'a, Q: Kind<K, R>, K: Ord + Clone + 'a, R, V>(
     if is_up_to::<Q, K, R>(probe.start(len - whole), key) {
         base = len - whole + 1;
     }
-    let mut left = places;
     let mut half = whole;
-    'halves: while 0 < left {
-        left -= 1;
+    'halves: while 1 < half {
         half /= 2;
-        let middle = probe.start(base + half - 1);
-        base += bit(is_up_to::<Q, K, R>(middle, key), left);
+        // This never turns. In a loop that has no other within, LLVM makes a branch of the conditional move below.
+        'fits: while len < base + half {
+            half /= 2;
+        }
+        let next = base + half;
+        if is_up_to::<Q, K, R>(probe.start(next - 1), key) {
+            base = next;
+        }
     }
     base
 }
@@ -76,13 +81,4 @@ fn is_up_to<Q: Kind<K, R>, K: Ord + Clone, R>(start: &K, key: &K) -> bool
         Ordering::Less => false,
         _ => true,
     }
-}
-
-// The power of two at a place, or 0. A shift compiles to no branch, and a branch here would be guessed wrong every other time.
-#[inline(always)]
-fn bit(is_set: bool, place: u32) -> usize
-    requires { place < 64 }
-    ensures { result ≡ (if is_set then 2 ^ place else 0) }
-{
-    usize::from(is_set) << place
 }

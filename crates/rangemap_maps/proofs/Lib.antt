@@ -1,1 +1,1 @@
-pub mod Edged
+pub mod ClosedEndpointLemmas

@@ -7,13 +7,13 @@ ghost use Rattle.std.specs.Ordering.{is_le};
 ghost use Rattle.std.specs.Range.{range_inclusive_start, range_inclusive_end};
 ghost use Rattle.std.specs.declared.cmp.Ordering.TheVariants.{Equal as EqualWord};
 ghost use Rattle.rangemap_core.specs.Clones.{KeysCloneFaithfully};
-ghost use Rattle.rangemap_core.specs.Edges.{IsAskedAt, edge_of};
-ghost use Rattle.rangemap_core.specs.EdgeKinds.{closed_first, closed_last};
-ghost use Rattle.rangemap_core.specs.Places.{place_cmp};
+ghost use Rattle.rangemap_core.specs.engine.Endpoints.{IsAskedAt, endpoint_of};
+ghost use Rattle.rangemap_core.specs.engine.EndpointKinds.{closed_first, closed_last};
+ghost use Rattle.rangemap_core.specs.engine.Places.{place_cmp};
 ghost use Rattle.rangemap_core.specs.Ranges.{closed};
 ghost use Rattle.rangemap_maps.specs.Steppable.{HasFirst, HasLast};
 
-use rangemap_core::kind::{Edge, Interval, Kind};
+use rangemap_core::kind::{Endpoint, Interval, Kind};
 use rangemap_core::std_ext::StepFns;
 use std::alloc::AllocError;
 use std::cmp::Ordering;
@@ -24,7 +24,7 @@ use std::ops::RangeInclusive;
 pub struct Closed<StepFnsT>(PhantomData<StepFnsT>);
 
 impl<K: Ord + Clone, StepFnsT: StepFns<K>> Interval<K, RangeInclusive<K>> for Closed<StepFnsT> {
-    ghost use Rattle.rangemap_core.specs.IntervalKinds.{closed_interval};
+    ghost use Rattle.rangemap_core.specs.engine.IntervalKinds.{closed_interval};
     ghost use Rattle.rangemap_core.specs.Ranges.{closed};
     ghost use Rattle.std.specs.Prelude.{true};
 
@@ -73,7 +73,7 @@ impl<K: Ord + Clone, StepFnsT: StepFns<K>> Interval<K, RangeInclusive<K>> for Cl
 pub struct Unstepped;
 
 impl<K: Ord + Clone> Interval<K, RangeInclusive<K>> for Unstepped {
-    ghost use Rattle.rangemap_core.specs.IntervalKinds.{closed_interval};
+    ghost use Rattle.rangemap_core.specs.engine.IntervalKinds.{closed_interval};
     ghost use Rattle.rangemap_core.specs.Ranges.{closed};
     ghost use Rattle.std.specs.Prelude.{true, ⊤};
 
@@ -117,13 +117,13 @@ impl<K: Ord + Clone> Interval<K, RangeInclusive<K>> for Unstepped {
 impl<K: Ord + Clone, StepFnsT: StepFns<K>> Kind<K, RangeInclusive<K>> for Closed<StepFnsT> {
     ghost use Rattle.rangemap_core.specs.Ranges.{closed};
     ghost use Rattle.rangemap_core.specs.Clones.{KeysCloneFaithfully};
-    ghost use Rattle.rangemap_core.specs.Edges.{edge_of, has_part};
-    ghost use Rattle.rangemap_core.specs.EdgeKinds.{closed_part, closed_placed};
+    ghost use Rattle.rangemap_core.specs.engine.Endpoints.{endpoint_of, is_before};
+    ghost use Rattle.rangemap_core.specs.engine.EndpointKinds.{closed_part, closed_placed};
     ghost use Rattle.rangemap_core.specs.Items.{IsSame};
-    ghost use Rattle.rangemap_core.specs.PlacedKinds.{closed_high};
+    ghost use Rattle.rangemap_core.specs.engine.PlacedKinds.{closed_end_place};
     ghost use Rattle.std.specs.Prelude.{◌≡◌, true, IfOk};
 
-    ghost high = { closed_high StepFnsT.after };
+    ghost end_place = { closed_end_place StepFnsT.after };
 
     ghost part_of = { closed_part StepFnsT.after StepFnsT.before };
 
@@ -133,28 +133,28 @@ impl<K: Ord + Clone, StepFnsT: StepFns<K>> Kind<K, RangeInclusive<K>> for Closed
         compare_after::<K, StepFnsT>(first.end(), second.start())
     }
 
-    fn has_part(from: Edge<'_, RangeInclusive<K>>, to: Edge<'_, RangeInclusive<K>>) -> bool
-        ensures { result ≡ has_part (closed StepFnsT.is_key K.cmp) (closed_high StepFnsT.after) (edge_of from.entry) (edge_of to.entry) }
+    fn is_before(from: Endpoint<'_, RangeInclusive<K>>, to: Endpoint<'_, RangeInclusive<K>>) -> bool
+        ensures { result ≡ is_before (closed StepFnsT.is_key K.cmp) (closed_end_place StepFnsT.after) (endpoint_of from.entry) (endpoint_of to.entry) }
     {
         known_at::<K, StepFnsT>(from);
         known_at::<K, StepFnsT>(to);
         match (from, to) {
-            (Edge::Start(from), Edge::Start(to)) => from.start().cmp(to.start()).is_lt(),
-            (Edge::Start(from), Edge::End(to)) => from.start().cmp(to.end()).is_le(),
-            (Edge::End(from), Edge::Start(to)) => {
+            (Endpoint::Start(from), Endpoint::Start(to)) => from.start().cmp(to.start()).is_lt(),
+            (Endpoint::Start(from), Endpoint::End(to)) => from.start().cmp(to.end()).is_le(),
+            (Endpoint::End(from), Endpoint::Start(to)) => {
                 compare_after::<K, StepFnsT>(from.end(), to.start()).is_lt()
             }
-            (Edge::End(from), Edge::End(to)) => from.end().cmp(to.end()).is_lt(),
+            (Endpoint::End(from), Endpoint::End(to)) => from.end().cmp(to.end()).is_lt(),
         }
     }
 
     fn part(
-        from: Edge<'_, RangeInclusive<K>>,
-        to: Edge<'_, RangeInclusive<K>>,
+        from: Endpoint<'_, RangeInclusive<K>>,
+        to: Endpoint<'_, RangeInclusive<K>>,
     ) -> Result<RangeInclusive<K>, AllocError>
-        requires has_part { has_part (closed StepFnsT.is_key K.cmp) (closed_high StepFnsT.after) (edge_of from) (edge_of to) ≡ true }
+        requires is_before { is_before (closed StepFnsT.is_key K.cmp) (closed_end_place StepFnsT.after) (endpoint_of from) (endpoint_of to) ≡ true }
         requires faithful_keys { KeysCloneFaithfully K.is_clone K.cmp }
-        ensures { IfOk result (IsSame (closed StepFnsT.is_key K.cmp) (closed_part StepFnsT.after StepFnsT.before (edge_of from.entry) (edge_of to.entry))) }
+        ensures { IfOk result (IsSame (closed StepFnsT.is_key K.cmp) (closed_part StepFnsT.after StepFnsT.before (endpoint_of from.entry) (endpoint_of to.entry))) }
     {
         known_at::<K, StepFnsT>(from);
         known_at::<K, StepFnsT>(to);
@@ -185,42 +185,42 @@ fn compare_after<K: Ord + Clone, StepFnsT: StepFns<K>>(end: &K, start: &K) -> Or
     }
 }
 
-// Does nothing, and tells that the ends of the edge's range are keys.
-fn known_at<K: Ord, StepFnsT: StepFns<K>>(edge: Edge<'_, RangeInclusive<K>>)
-    ensures { IsAskedAt (closed StepFnsT.is_key K.cmp) (edge_of edge.entry) }
+// Does nothing, and tells that the ends of the endpoint's range are keys.
+fn known_at<K: Ord, StepFnsT: StepFns<K>>(endpoint: Endpoint<'_, RangeInclusive<K>>)
+    ensures { IsAskedAt (closed StepFnsT.is_key K.cmp) (endpoint_of endpoint.entry) }
 {
-    match edge {
-        Edge::Start(range) | Edge::End(range) => {
+    match endpoint {
+        Endpoint::Start(range) | Endpoint::End(range) => {
             StepFnsT::known(range.start());
             StepFnsT::known(range.end());
         }
     }
 }
 
-// The first key behind the edge.
+// The first key behind the endpoint.
 fn first_key<K: Ord + Clone, StepFnsT: StepFns<K>>(
-    from: Edge<'_, RangeInclusive<K>>,
+    from: Endpoint<'_, RangeInclusive<K>>,
 ) -> Result<K, AllocError>
-    requires has_first { HasFirst StepFnsT.is_key K.cmp (edge_of from) }
+    requires has_first { HasFirst StepFnsT.is_key K.cmp (endpoint_of from) }
     requires faithful_keys { KeysCloneFaithfully K.is_clone K.cmp }
-    ensures { IfOk result (λ key. K.cmp (closed_first StepFnsT.after (edge_of from.entry)) key ≡ EqualWord) }
+    ensures { IfOk result (λ key. K.cmp (closed_first StepFnsT.after (endpoint_of from.entry)) key ≡ EqualWord) }
 {
     match from {
-        Edge::Start(range) => range.start().clone(),
-        Edge::End(range) => Ok(StepFnsT::add_one(range.end())),
+        Endpoint::Start(range) => range.start().clone(),
+        Endpoint::End(range) => Ok(StepFnsT::add_one(range.end())),
     }
 }
 
-// The last key before the edge.
+// The last key before the endpoint.
 fn last_key<K: Ord + Clone, StepFnsT: StepFns<K>>(
-    to: Edge<'_, RangeInclusive<K>>,
+    to: Endpoint<'_, RangeInclusive<K>>,
 ) -> Result<K, AllocError>
-    requires has_last { HasLast StepFnsT.is_key K.cmp (edge_of to) }
+    requires has_last { HasLast StepFnsT.is_key K.cmp (endpoint_of to) }
     requires faithful_keys { KeysCloneFaithfully K.is_clone K.cmp }
-    ensures { IfOk result (λ key. K.cmp (closed_last StepFnsT.before (edge_of to.entry)) key ≡ EqualWord) }
+    ensures { IfOk result (λ key. K.cmp (closed_last StepFnsT.before (endpoint_of to.entry)) key ≡ EqualWord) }
 {
     match to {
-        Edge::Start(range) => Ok(StepFnsT::sub_one(range.start())),
-        Edge::End(range) => range.end().clone(),
+        Endpoint::Start(range) => Ok(StepFnsT::sub_one(range.start())),
+        Endpoint::End(range) => range.end().clone(),
     }
 }

@@ -89,6 +89,11 @@ impl<K: Ord + Clone, V: Eq + Clone, StepFnsT: StepFns<K>, A: Allocator> RangeInc
         }
     }
 
+    /// What the memory comes from.
+    pub fn allocator(&self) -> &A {
+        self.entries.allocator()
+    }
+
     /// How many ranges are stored. It takes the same time for any map.
     pub fn len(&self) -> usize
         ensures { result ≡ length self.now }
@@ -277,7 +282,7 @@ impl<K: Ord + Clone, V: Eq + Clone, StepFnsT: StepFns<K>, A: Allocator> PartialE
     for RangeInclusiveMap<K, V, StepFnsT, A> {
     ghost use Rattle.std.specs.Cmp.{partial_equiv_from_equiv};
     ghost use Rattle.rangemap_core.specs.Ranges.{closed, same_pairs};
-    ghost use Rattle.rangemap_core.specs.Comparisons.{same_pairs_equiv};
+    ghost use Rattle.rangemap_core.specs.laws.Comparisons.{same_pairs_equiv};
 
     ghost eq = { λ left right. same_pairs (closed StepFnsT.is_key K.cmp) V.eq left right };
 
@@ -293,7 +298,7 @@ impl<K: Ord + Clone, V: Eq + Clone, StepFnsT: StepFns<K>, A: Allocator> PartialE
 impl<K: Ord + Clone, V: Eq + Clone, StepFnsT: StepFns<K>, A: Allocator> Eq
     for RangeInclusiveMap<K, V, StepFnsT, A> {
     ghost use Rattle.rangemap_core.specs.Ranges.{closed};
-    ghost use Rattle.rangemap_core.specs.Comparisons.{same_pairs_equiv};
+    ghost use Rattle.rangemap_core.specs.laws.Comparisons.{same_pairs_equiv};
 
     ghost laws = { same_pairs_equiv (closed StepFnsT.is_key K.cmp) K.total V.Eq.laws };
 }

@@ -4,7 +4,7 @@ ghost use Rattle.rangemap_core.specs.Items.{IsSame};
 ghost use Rattle.rangemap.specs.Clones.{KeysCloneFaithfully, ValuesCloneFaithfully};
 ghost use Rattle.rangemap.specs.Ranges.{IsCanonOf, IsCanonical, IsStorable, erase, override, value_at};
 
-use rangemap_core::kind::{Edge, Interval, Kind};
+use rangemap_core::kind::{Endpoint, Interval, Kind};
 use rangemap_core::ranged_map::RangedMap;
 use std::alloc::AllocError;
 
@@ -46,5 +46,5 @@ fn clone_range<M: RangedMap>(range: &M::Range) -> Result<M::Range, AllocError>
 {
     M::Kind::known(M::Kind::start(range));
     M::Kind::known(M::Kind::end(range));
-    M::Kind::part(Edge::Start(range), Edge::End(range))
+    M::Kind::part(Endpoint::Start(range), Endpoint::End(range))
 }

@@ -7,7 +7,7 @@ ghost use Rattle.rangemap_core.specs.Ranges.{AreNonEmpty, IsCanonOf, IsCanonical
 
 use super::Entries;
 use crate::into_iter::IntoIter;
-use crate::kind::{Edge, Kind};
+use crate::kind::{Endpoint, Kind};
 use std::alloc::{AllocError, Allocator};
 use std::marker::PhantomData;
 
@@ -104,6 +104,6 @@ fn clone_pair<Q: Kind<K, R>, K: Ord + Clone, R: Drop, V: Eq + Clone>(
     ensures storable { IfOk result (λ copy. IsStorable Q.kind copy.0) }
     ensures same { IfOk result (λ copy. same_pair Q.kind V.eq pair.now copy ≡ true) }
 {
-    let range = Q::part(Edge::Start(&pair.0), Edge::End(&pair.0))?;
+    let range = Q::part(Endpoint::Start(&pair.0), Endpoint::End(&pair.0))?;
     Ok((range, pair.1.clone()?))
 }

@@ -1,17 +1,17 @@
 //! Giving the keys of a range a value.
 ghost use Rattle.std.specs.Prelude.{◌≡◌, ◌+◌, ◌-◌, ◌<◌, ◌≤◌, length, true, false, Some as SomeWord, IfOk, OnOk, OnErr};
 ghost use Rattle.rangemap_core.specs.Clones.{KeysCloneFaithfully, ValuesCloneFaithfully};
-ghost use Rattle.rangemap_core.specs.Places.{Spans};
+ghost use Rattle.rangemap_core.specs.engine.Places.{Spans};
 ghost use Rattle.rangemap_core.specs.Ranges.{IsCanonOf, IsCanonical, IsStorable, override, value_at};
-ghost use Rattle.rangemap_core.specs.Shape.{shape_of};
+ghost use Rattle.rangemap_core.specs.engine.Shape.{shape_of};
 ghost use Rattle.std.specs.List.Sorted.{IsPartitionPoint};
-ghost use Rattle.rangemap_core.specs.Stretch.{are_apart, taken_or_new, IsOverlap, IsStretch, IsLeftSide, IsRightSide, IsPiece, IsTaken};
+ghost use Rattle.rangemap_core.specs.engine.Stretch.{are_apart, taken_or_new, IsOverlap, IsStretch, IsLeftSide, IsRightSide, IsPiece, IsTaken};
 
 use super::Entries;
 use super::remove::{part_after, part_before};
-use crate::kind::{Edge, Kind};
-use crate::overlapping::overlap;
-use crate::stretch::replace_stretch;
+use crate::kind::{Endpoint, Kind};
+use crate::overlapping::{Reach, overlap};
+use crate::splice::splice;
 use std::alloc::{AllocError, Allocator};
 use std::cmp::Ordering;
 
@@ -46,7 +46,7 @@ impl<Q: Kind<K, R>, K: Ord + Clone, R: Drop, V: Eq + Clone, A: Allocator> Entrie
         let left = self.left_side(start, end, &range, &value)?;
         let right = self.right_side(start, end, &range, &value)?;
         let middle = self.middle(start, end, left.is_taken, right.is_taken, range, &value)?;
-        replace_stretch(
+        splice(
             &mut self.pairs,
             start,
             end,
@@ -61,10 +61,10 @@ impl<Q: Kind<K, R>, K: Ord + Clone, R: Drop, V: Eq + Clone, A: Allocator> Entrie
     fn stretch(&self, range: &R, value: &V) -> (usize, usize)
         requires canonical { IsCanonical Q.kind V.eq self.now }
         requires range { IsStorable Q.kind range.now }
-        ensures { IsStretch (shape_of Q.kind Q.high V.eq) self.now (range.now, value.now) result.0 result.1 }
+        ensures { IsStretch (shape_of Q.kind Q.end_place V.eq) self.now (range.now, value.now) result.0 result.1 }
     {
         let pairs = self.pairs.as_slice();
-        let (from, to) = overlap::<Q, K, R, V>(pairs, range);
+        let (from, to) = overlap::<Q, K, R, V>(pairs, range, Reach::Near);
         let start = stretch_start::<Q, K, R, V>(pairs, from, to, range, value);
         let end = stretch_end::<Q, K, R, V>(pairs, from, to, range, value);
         (start, end)
@@ -79,10 +79,10 @@ impl<Q: Kind<K, R>, K: Ord + Clone, R: Drop, V: Eq + Clone, A: Allocator> Entrie
     ) -> Result<Side<R, V>, AllocError>
         requires canonical { IsCanonical Q.kind V.eq self.now }
         requires range { IsStorable Q.kind range.now }
-        requires stretch { IsStretch (shape_of Q.kind Q.high V.eq) self.now (range.now, value.now) start end }
+        requires stretch { IsStretch (shape_of Q.kind Q.end_place V.eq) self.now (range.now, value.now) start end }
         requires faithful_keys { KeysCloneFaithfully K.is_clone K.cmp }
         requires faithful_values { ValuesCloneFaithfully V.is_clone V.eq }
-        ensures side { IfOk result (λ side. IsLeftSide (shape_of Q.kind Q.high V.eq) self.now (range.now, value.now) start end side.piece side.is_taken) }
+        ensures side { IfOk result (λ side. IsLeftSide (shape_of Q.kind Q.end_place V.eq) self.now (range.now, value.now) start end side.piece side.is_taken) }
         ensures piece { IfOk result (λ side. IsPiece Q.kind V.eq start end side.piece) }
     {
         let pairs = &self.pairs;
@@ -114,10 +114,10 @@ impl<Q: Kind<K, R>, K: Ord + Clone, R: Drop, V: Eq + Clone, A: Allocator> Entrie
     ) -> Result<Side<R, V>, AllocError>
         requires canonical { IsCanonical Q.kind V.eq self.now }
         requires range { IsStorable Q.kind range.now }
-        requires stretch { IsStretch (shape_of Q.kind Q.high V.eq) self.now (range.now, value.now) start end }
+        requires stretch { IsStretch (shape_of Q.kind Q.end_place V.eq) self.now (range.now, value.now) start end }
         requires faithful_keys { KeysCloneFaithfully K.is_clone K.cmp }
         requires faithful_values { ValuesCloneFaithfully V.is_clone V.eq }
-        ensures side { IfOk result (λ side. IsRightSide (shape_of Q.kind Q.high V.eq) self.now (range.now, value.now) start end side.piece side.is_taken) }
+        ensures side { IfOk result (λ side. IsRightSide (shape_of Q.kind Q.end_place V.eq) self.now (range.now, value.now) start end side.piece side.is_taken) }
         ensures piece { IfOk result (λ side. IsPiece Q.kind V.eq start end side.piece) }
     {
         let pairs = &self.pairs;
@@ -152,9 +152,9 @@ impl<Q: Kind<K, R>, K: Ord + Clone, R: Drop, V: Eq + Clone, A: Allocator> Entrie
     ) -> Result<R, AllocError>
         requires canonical { IsCanonical Q.kind V.eq self.now }
         requires range { IsStorable Q.kind range }
-        requires taken { IsTaken (shape_of Q.kind Q.high V.eq) self.now (range, value.now) start end takes_first takes_last }
+        requires taken { IsTaken (shape_of Q.kind Q.end_place V.eq) self.now (range, value.now) start end takes_first takes_last }
         requires faithful_keys { KeysCloneFaithfully K.is_clone K.cmp }
-        ensures { IfOk result (Spans Q.kind Q.high (SomeWord (Q.kind.start (taken_or_new self.now start takes_first (range, value.now)))) (Q.high (taken_or_new self.now (end - 1) takes_last (range, value.now)))) }
+        ensures { IfOk result (Spans Q.kind Q.end_place (SomeWord (Q.kind.start (taken_or_new self.now start takes_first (range, value.now)))) (Q.end_place (taken_or_new self.now (end - 1) takes_last (range, value.now)))) }
     {
         if !takes_first && !takes_last {
             return Ok(range);
@@ -169,7 +169,7 @@ impl<Q: Kind<K, R>, K: Ord + Clone, R: Drop, V: Eq + Clone, A: Allocator> Entrie
         } else {
             &range
         };
-        Q::part(Edge::Start(first), Edge::End(last))
+        Q::part(Endpoint::Start(first), Endpoint::End(last))
     }
 }
 
@@ -183,9 +183,9 @@ fn stretch_start<Q: Kind<K, R>, K: Ord + Clone, R, V: Eq>(
 ) -> usize
     requires canonical { IsCanonical Q.kind V.eq pairs.now }
     requires range { IsStorable Q.kind range.now }
-    requires overlap { IsOverlap (shape_of Q.kind Q.high V.eq) pairs.now range.now from to }
+    requires overlap { IsOverlap (shape_of Q.kind Q.end_place V.eq) pairs.now range.now from to }
     ensures before { result ≤ from }
-    ensures point { IsPartitionPoint (λ a. are_apart (shape_of Q.kind Q.high V.eq) a (range.now, value.now) ≡ true) (λ a. are_apart (shape_of Q.kind Q.high V.eq) a (range.now, value.now) ≡ false) pairs.now result }
+    ensures point { IsPartitionPoint (λ a. are_apart (shape_of Q.kind Q.end_place V.eq) a (range.now, value.now) ≡ true) (λ a. are_apart (shape_of Q.kind Q.end_place V.eq) a (range.now, value.now) ≡ false) pairs.now result }
 {
     if from == 0 {
         return 0;
@@ -208,10 +208,10 @@ fn stretch_end<Q: Kind<K, R>, K: Ord + Clone, R, V: Eq>(
 ) -> usize
     requires canonical { IsCanonical Q.kind V.eq pairs.now }
     requires range { IsStorable Q.kind range.now }
-    requires overlap { IsOverlap (shape_of Q.kind Q.high V.eq) pairs.now range.now from to }
+    requires overlap { IsOverlap (shape_of Q.kind Q.end_place V.eq) pairs.now range.now from to }
     ensures after { to ≤ result }
     ensures bound { result ≤ length pairs.now }
-    ensures point { IsPartitionPoint (λ b. are_apart (shape_of Q.kind Q.high V.eq) (range.now, value.now) b ≡ false) (λ b. are_apart (shape_of Q.kind Q.high V.eq) (range.now, value.now) b ≡ true) pairs.now result }
+    ensures point { IsPartitionPoint (λ b. are_apart (shape_of Q.kind Q.end_place V.eq) (range.now, value.now) b ≡ false) (λ b. are_apart (shape_of Q.kind Q.end_place V.eq) (range.now, value.now) b ≡ true) pairs.now result }
 {
     if to == pairs.len() {
         return to;
@@ -233,7 +233,7 @@ fn is_apart<Q: Kind<K, R>, K: Ord + Clone, R, V: Eq>(
 ) -> bool
     requires first { IsStorable Q.kind first.now }
     requires second { IsStorable Q.kind second.now }
-    ensures { result ≡ are_apart (shape_of Q.kind Q.high V.eq) (first.now, first_value.now) (second.now, second_value.now) }
+    ensures { result ≡ are_apart (shape_of Q.kind Q.end_place V.eq) (first.now, first_value.now) (second.now, second_value.now) }
 {
     match Q::compare_end_to_start(first, second) {
         Ordering::Less => true,

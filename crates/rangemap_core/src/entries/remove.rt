@@ -3,13 +3,13 @@ ghost use Rattle.std.specs.Prelude.{◌≡◌, ◌+◌, ◌<◌, ◌≤◌, ◌+
 ghost use Rattle.std.specs.Option.{option_to_list};
 ghost use Rattle.rangemap_core.specs.Clones.{KeysCloneFaithfully, ValuesCloneFaithfully};
 ghost use Rattle.rangemap_core.specs.Ranges.{IsCanonOf, IsCanonical, IsStorable, erase, overlapped, value_at};
-ghost use Rattle.rangemap_core.specs.Shape.{shape_of};
-ghost use Rattle.rangemap_core.specs.Stretch.{Every, IsPieceBefore, IsPieceAfter};
+ghost use Rattle.rangemap_core.specs.engine.Shape.{shape_of};
+ghost use Rattle.rangemap_core.specs.engine.Stretch.{Every, IsPieceBefore, IsPieceAfter};
 
 use super::Entries;
-use crate::kind::{Edge, Kind};
-use crate::overlapping::overlap;
-use crate::stretch::replace_stretch;
+use crate::kind::{Endpoint, Kind};
+use crate::overlapping::{Reach, overlap};
+use crate::splice::splice;
 use std::alloc::{AllocError, Allocator};
 use std::cmp::Ordering;
 
@@ -30,13 +30,13 @@ impl<Q: Kind<K, R>, K: Ord + Clone, R: Drop, V: Eq + Clone, A: Allocator> Entrie
         ensures meets_nothing { overlapped Q.kind self.old range ≡ [] → IsOk result × (self.new ≡ self.old) }
     {
         let pairs = self.pairs.as_slice();
-        let (start, end) = overlap::<Q, K, R, V>(pairs, &range);
+        let (start, end) = overlap::<Q, K, R, V>(pairs, &range, Reach::Near);
         if start == end {
             return Ok(());
         }
         let left = part_before::<Q, K, R, V>(&pairs[start], &range)?;
         let right = part_after::<Q, K, R, V>(&pairs[end - 1], &range)?;
-        replace_stretch(&mut self.pairs, start, end, left, None, right)
+        splice(&mut self.pairs, start, end, left, None, right)
     }
 }
 
@@ -49,12 +49,12 @@ pub(super) fn part_before<Q: Kind<K, R>, K: Ord + Clone, R: Drop, V: Eq + Clone>
     requires range { IsStorable Q.kind range.now }
     requires faithful_keys { KeysCloneFaithfully K.is_clone K.cmp }
     requires faithful_values { ValuesCloneFaithfully V.is_clone V.eq }
-    ensures piece { IfOk result (IsPieceBefore (shape_of Q.kind Q.high V.eq) pair.now range.now) }
+    ensures piece { IfOk result (IsPieceBefore (shape_of Q.kind Q.end_place V.eq) pair.now range.now) }
     ensures storable { IfOk result (λ piece. Every (λ a. IsStorable Q.kind a.0) (option_to_list piece)) }
 {
     match Q::compare_keys(Q::start(&pair.0), Q::start(range)) {
         Ordering::Less => {
-            let part = Q::part(Edge::Start(&pair.0), Edge::Start(range))?;
+            let part = Q::part(Endpoint::Start(&pair.0), Endpoint::Start(range))?;
             Ok(Some((part, pair.1.clone()?)))
         }
         _ => Ok(None),
@@ -70,12 +70,12 @@ pub(super) fn part_after<Q: Kind<K, R>, K: Ord + Clone, R: Drop, V: Eq + Clone>(
     requires range { IsStorable Q.kind range.now }
     requires faithful_keys { KeysCloneFaithfully K.is_clone K.cmp }
     requires faithful_values { ValuesCloneFaithfully V.is_clone V.eq }
-    ensures piece { IfOk result (IsPieceAfter (shape_of Q.kind Q.high V.eq) pair.now range.now) }
+    ensures piece { IfOk result (IsPieceAfter (shape_of Q.kind Q.end_place V.eq) pair.now range.now) }
     ensures storable { IfOk result (λ piece. Every (λ a. IsStorable Q.kind a.0) (option_to_list piece)) }
 {
     match Q::compare_keys(Q::end(range), Q::end(&pair.0)) {
         Ordering::Less => {
-            let part = Q::part(Edge::End(range), Edge::End(&pair.0))?;
+            let part = Q::part(Endpoint::End(range), Endpoint::End(&pair.0))?;
             Ok(Some((part, pair.1.clone()?)))
         }
         _ => Ok(None),

@@ -45,7 +45,7 @@ impl<K: Ord + Clone, V: Eq + Clone, A: Allocator> RangeMap<K, V, A> {
     ///     listed (half_open nat_cmp) array_into_iter_items h.2 it _ h.0 (refl, (refl, tt))
     /// ```
     ///
-    /// `listed` stands in `Rattle.rangemap.proofs.Incoming`. Of a vector it takes `into_iter_items` and `h.3`; an iterator that
+    /// `listed` stands in `Rattle.rangemap.proofs.IncomingLemmas`. Of a vector it takes `into_iter_items` and `h.3`; an iterator that
     /// owns the pairs of a map is answered by `owned` and `canonical_non_empty`, which stand beside it.
     ///
     /// `Err` says that an insert was refused, as there. The items before that one are inserted and stay; it and those after

@@ -1,6 +1,6 @@
 use Rattle.rangemap_core.specs.Ranges.{closed}
-use Rattle.rangemap_core.specs.EdgeKinds.{closed_placed}
-use Rattle.rangemap_core.proofs.Unique.{alike_from_same, equal_pairs}
+use Rattle.rangemap_core.specs.engine.EndpointKinds.{closed_placed}
+use Rattle.rangemap_core.proofs.UniquenessLemmas.{alike_from_same, equal_pairs}
 use Rattle.rangemap.proofs.laws.closed_lists_are_unique.Goals as goal
 
 pub returns : goal.returns

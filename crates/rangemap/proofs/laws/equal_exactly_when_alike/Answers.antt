@@ -1,5 +1,5 @@
 use Rattle.std.proofs.Common.{◌∙◌}
-use Rattle.rangemap_core.proofs.Unique.{alike_from_same, equal_pairs}
+use Rattle.rangemap_core.proofs.UniquenessLemmas.{alike_from_same, equal_pairs}
 use Rattle.rangemap.proofs.laws.equal_exactly_when_alike.Goals as goal
 
 pub returns-clause-equal : goal.returns-clause-equal

@@ -1,7 +1,7 @@
 use Rattle.std.proofs.Common.{map, subst, Some, ap, ◌∙◌}
 use Rattle.rangemap_core.specs.Items.{GivesRange}
-use Rattle.rangemap_core.proofs.SameEnds.{same_gaps, take_all, take_one}
-use Rattle.rangemap.proofs.Partings.{parted}
+use Rattle.rangemap_core.proofs.SameRangeLemmas.{same_gaps, take_all, take_one}
+use Rattle.rangemap.proofs.GapLemmas.{parted}
 use Rattle.rangemap.proofs.laws.gaps_and_covered_keys_make_up_a_range.Goals as goal
 
 pub loop-gap-preserved : goal.loop-gap-preserved

@@ -1,4 +1,4 @@
-use Rattle.rangemap_core.proofs.SameEnds.{IsTakenSoFar}
+use Rattle.rangemap_core.proofs.SameRangeLemmas.{IsTakenSoFar}
 use Rattle.rangemap.proofs.laws.gaps_and_covered_keys_make_up_a_range.Given as goal
 
 abbrev pub invariant-loop-gap : goal.invariant-loop-gap

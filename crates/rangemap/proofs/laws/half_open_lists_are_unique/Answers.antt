@@ -1,6 +1,6 @@
 use Rattle.rangemap_core.specs.Ranges.{half_open}
-use Rattle.rangemap_core.specs.EdgeKinds.{half_open_placed}
-use Rattle.rangemap_core.proofs.Unique.{alike_from_same, equal_pairs}
+use Rattle.rangemap_core.specs.engine.EndpointKinds.{half_open_placed}
+use Rattle.rangemap_core.proofs.UniquenessLemmas.{alike_from_same, equal_pairs}
 use Rattle.rangemap.proofs.laws.half_open_lists_are_unique.Goals as goal
 
 pub returns : goal.returns

@@ -1,7 +1,7 @@
 use Rattle.std.proofs.lemmas.Result.{on_ok_weaker}
 use Rattle.rangemap_core.specs.Ranges.{override, value_at}
-use Rattle.rangemap_core.proofs.Canon.{override_of}
-use Rattle.rangemap.proofs.Equal.{equal_after_both}
+use Rattle.rangemap_core.proofs.CanonLemmas.{override_of}
+use Rattle.rangemap.proofs.EqualityLemmas.{equal_after_both}
 use Rattle.rangemap.proofs.laws.inserts_commute.Goals as goal
 
 pub returns-clause-forth : goal.returns-clause-forth

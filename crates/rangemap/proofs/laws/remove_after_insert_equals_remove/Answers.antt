@@ -1,7 +1,7 @@
 use Rattle.std.proofs.lemmas.Result.{on_ok_weaker}
 use Rattle.rangemap_core.specs.Ranges.{override, value_at}
-use Rattle.rangemap_core.proofs.Canon.{erase_of}
-use Rattle.rangemap.proofs.Equal.{equal_after_remove}
+use Rattle.rangemap_core.proofs.CanonLemmas.{erase_of}
+use Rattle.rangemap.proofs.EqualityLemmas.{equal_after_remove}
 use Rattle.rangemap.proofs.laws.remove_after_insert_equals_remove.Goals as goal
 
 pub returns-clause-equal : goal.returns-clause-equal

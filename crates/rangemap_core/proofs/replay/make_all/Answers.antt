@@ -2,7 +2,7 @@ use Rattle.std.proofs.Common.{arith, subst, ◌∙◌}
 use Rattle.std.proofs.lemmas.Grind.{common_steps}
 use Rattle.std.proofs.IntoIterSteps.{All-taken}
 use Rattle.rangemap_core.specs.Runs.{MakesEach}
-use Rattle.rangemap_core.proofs.Replays.{MakesEach-last}
+use Rattle.rangemap_core.proofs.ReplayLemmas.{MakesEach-last}
 use Rattle.rangemap_core.proofs.replay.make_all.Goals as goal
 
 pub loop-call-preserved : goal.loop-call-preserved

@@ -1,6 +1,6 @@
 use Rattle.std.proofs.lemmas.Result.{IfOk-weaker}
 use Rattle.rangemap_core.specs.Histories.{HasNonEmptyRanges}
-use Rattle.rangemap_core.proofs.Replays.{allowed_each, made_all}
+use Rattle.rangemap_core.proofs.ReplayLemmas.{allowed_each, made_all}
 use Rattle.rangemap_core.proofs.replay.replay.Goals as goal
 
 pub make_calls-requires : goal.make_calls-requires

@@ -1,6 +1,6 @@
 use Rattle.std.proofs.lemmas.Result.{IfOk-weaker}
 use Rattle.rangemap_core.specs.Histories.{HasNonEmptyRanges, call_of}
-use Rattle.rangemap_core.proofs.Replays.{allowed_each, made_in_turn}
+use Rattle.rangemap_core.proofs.ReplayLemmas.{allowed_each, made_in_turn}
 use Rattle.rangemap_core.proofs.replay.replay_changes.Goals as goal
 
 pub make_calls-requires : goal.make_calls-requires

@@ -1,7 +1,7 @@
 use Rattle.std.proofs.Common.{◌≡◌, Some}
-use Rattle.rangemap_core.specs.Shape.{starts_of}
-use Rattle.rangemap_core.proofs.Bridge.{S, places, to_spaced}
-use Rattle.rangemap_core.proofs.Searches.{starts_parted, starts_of_parted, point_of_starts}
+use Rattle.rangemap_core.specs.engine.Shape.{starts_of}
+use Rattle.rangemap_core.proofs.PlaceLemmas.{S, places, to_spaced}
+use Rattle.rangemap_core.proofs.SearchLemmas.{starts_parted, starts_of_parted, point_of_starts}
 use Rattle.rangemap_core.proofs.search.starts_up_to.Goals as goal
 
 pub count_up_to-count-requires-clause-rising : goal.count_up_to-count-requires-clause-rising

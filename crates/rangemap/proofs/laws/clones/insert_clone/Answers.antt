@@ -1,6 +1,6 @@
 use Rattle.std.proofs.Common.{◌∙◌}
 use Rattle.std.proofs.lemmas.Result.{on_ok_weaker}
-use Rattle.rangemap.proofs.Equal.{override_by_clone}
+use Rattle.rangemap.proofs.EqualityLemmas.{override_by_clone}
 use Rattle.rangemap.proofs.laws.clones.insert_clone.Goals as goal
 
 pub returns-clause-ok : goal.returns-clause-ok

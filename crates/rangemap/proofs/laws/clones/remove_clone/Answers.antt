@@ -1,5 +1,5 @@
 use Rattle.std.proofs.lemmas.Result.{on_ok_weaker}
-use Rattle.rangemap.proofs.Equal.{erase_by_clone}
+use Rattle.rangemap.proofs.EqualityLemmas.{erase_by_clone}
 use Rattle.rangemap.proofs.laws.clones.remove_clone.Goals as goal
 
 pub returns-clause-ok : goal.returns-clause-ok

@@ -2,9 +2,9 @@ use Rattle.std.proofs.Common.{arith, List, ◌∷◌, [], ◌∙◌, take, subst
 use Rattle.std.proofs.lemmas.Grind.{common_steps}
 use Rattle.std.proofs.lemmas.List.{take_all, take_more}
 use Rattle.rangemap_core.specs.Ranges.{IsCanonOf, value_at}
-use Rattle.rangemap_core.proofs.Bridge.{storable_here}
-use Rattle.rangemap_core.proofs.Copies.{copy_is_canon, same_pairs-last}
-use Rattle.rangemap_core.proofs.Lists.{Every-append}
+use Rattle.rangemap_core.proofs.PlaceLemmas.{storable_here}
+use Rattle.rangemap_core.proofs.EqualListLemmas.{copy_is_canon, same_pairs-last}
+use Rattle.rangemap_core.proofs.ListLemmas.{Every-append}
 use Rattle.rangemap_core.proofs.entries.Entries.clone.Goals as goal
 
 pub clone_pair-requires-clause-stored : goal.clone_pair-requires-clause-stored

@@ -1,6 +1,6 @@
 use Rattle.std.proofs.Common.{◌≡◌, ◌≤◌, true, length, take, vec_len, vec_capacity}
 use Rattle.rangemap_core.specs.Ranges.{IsCanonical, IsStorable, same_pairs}
-use Rattle.rangemap_core.specs.Stretch.{Every}
+use Rattle.rangemap_core.specs.engine.Stretch.{Every}
 use Rattle.rangemap_core.proofs.entries.Entries.clone.Given as goal
 
 abbrev pub invariant-loop-pair : goal.invariant-loop-pair

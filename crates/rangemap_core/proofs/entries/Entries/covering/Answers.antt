@@ -1,7 +1,7 @@
 use Rattle.std.proofs.Common.{sym, arith, ◌≡◌, ◌+◌, ◌-◌, ◌∙◌, get_or, Some}
 use Rattle.rangemap_core.specs.Ranges.{IsCanonical}
-use Rattle.rangemap_core.proofs.Bridge.{S, places, to_spaced, all_storable, storable_here, covering_is, holds_is}
-use Rattle.rangemap_core.proofs.Searches.{covering_none, covering_if, covering_unless}
+use Rattle.rangemap_core.proofs.PlaceLemmas.{S, places, to_spaced, all_storable, storable_here, covering_is, holds_is}
+use Rattle.rangemap_core.proofs.SearchLemmas.{covering_none, covering_if, covering_unless}
 use Rattle.rangemap_core.proofs.entries.Entries.covering.Goals as goal
 
 pub returns-then-count-eq0-clause-pair : goal.returns-then-count-eq0-clause-pair

@@ -1,6 +1,6 @@
 use Rattle.std.proofs.Common.{subst}
-use Rattle.rangemap_core.proofs.Incoming.{at_turn}
-use Rattle.rangemap_core.proofs.Canon.{Overrides-last, Overrides-none}
+use Rattle.rangemap_core.proofs.IncomingLemmas.{at_turn}
+use Rattle.rangemap_core.proofs.CanonLemmas.{Overrides-last, Overrides-none}
 use Rattle.rangemap_core.proofs.entries.Entries.extend.Goals as goal
 
 pub loop-range-init : goal.loop-range-init

@@ -3,7 +3,7 @@ use Rattle.std.proofs.IntoIterSteps.{All-taken}
 use Rattle.std.proofs.lemmas.Result.{IfOk-weaker}
 use Rattle.rangemap_core.specs.Ranges.{IsCanonOf, nothing, override_all}
 use Rattle.std.specs.Vec.Iter.{into_iter_items}
-use Rattle.rangemap_core.proofs.Incoming.{listed}
+use Rattle.rangemap_core.proofs.IncomingLemmas.{listed}
 use Rattle.rangemap_core.proofs.entries.Entries.from_array.Goals as goal
 
 pub from_iter-requires-clause-non_empty : goal.from_iter-requires-clause-non_empty

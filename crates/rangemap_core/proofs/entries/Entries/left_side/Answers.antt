@@ -1,6 +1,6 @@
 use Rattle.std.proofs.Common.{arith, ap, sym, true≢false, ◌∙◌, ◌≡◌, ◌<◌, get_or, is_lt}
-use Rattle.rangemap_core.proofs.Bridge.{S, places, to_spaced, storable_here}
-use Rattle.rangemap_core.proofs.Sides.{left_empty, left_of_equal, left_of_other}
+use Rattle.rangemap_core.proofs.PlaceLemmas.{S, places, to_spaced, storable_here}
+use Rattle.rangemap_core.proofs.InsertSideLemmas.{left_empty, left_of_equal, left_of_other}
 use Rattle.rangemap_core.proofs.entries.Entries.left_side.Goals as goal
 
 pub returns-then-start-end-clause-side : goal.returns-then-start-end-clause-side

@@ -1,13 +1,13 @@
 use Rattle.std.proofs.Common.{arith, ap, ◌-◌, ◌≡◌}
-use Rattle.rangemap_core.specs.Stretch.{taken_or_new}
-use Rattle.rangemap_core.specs.Edges.{AtStart, AtEnd, asked}
-use Rattle.rangemap_core.proofs.Bridge.{all_storable}
-use Rattle.rangemap_core.proofs.Pieces.{answered_spans, has_middle, new_is, taken_is, taken_storable}
+use Rattle.rangemap_core.specs.engine.Stretch.{taken_or_new}
+use Rattle.rangemap_core.specs.engine.Endpoints.{AtStart, AtEnd, asked}
+use Rattle.rangemap_core.proofs.PlaceLemmas.{all_storable}
+use Rattle.rangemap_core.proofs.EndpointLemmas.{answered_spans, has_middle, new_is, taken_is, taken_storable}
 use Rattle.rangemap_core.proofs.entries.Entries.middle.Goals as goal
 use Rattle.rangemap_core.proofs.entries.Entries.middle.Goals.{then-takes_first, else-takes_first, then-takes_last, else-takes_last}
 
-pub part-requires-clause-has_part : goal.part-requires-clause-has_part
-part-requires-clause-has_part g c =
+pub part-requires-clause-is_before : goal.part-requires-clause-is_before
+part-requires-clause-is_before g c =
     let p = g.met.Q.Kind.placed in
     let eq = g.V.PartialEq.eq in
     let xs = c.args.self.now in

@@ -1,11 +1,11 @@
 use Rattle.std.proofs.Common.{arith, ◌≡◌, ◌∙◌, ◌-◌, OnOk, List, ◌++◌, take, drop}
 use Rattle.std.specs.Option.{option_to_list}
 use Rattle.rangemap_core.specs.Ranges.{IsCanonOf, erase, value_at}
-use Rattle.rangemap_core.specs.Stretch.{IsOverlap}
-use Rattle.rangemap_core.proofs.Bridge.{S, places, to_spaced, storable_here}
-use Rattle.rangemap_core.proofs.Removes.{unchanged_is_canon, pieces_are_canon, meets_none}
-use Rattle.rangemap_core.proofs.Rests.{left_rest, right_rest}
-use Rattle.rangemap_core.proofs.Sides.{on_ok}
+use Rattle.rangemap_core.specs.engine.Stretch.{IsOverlap}
+use Rattle.rangemap_core.proofs.PlaceLemmas.{S, places, to_spaced, storable_here}
+use Rattle.rangemap_core.proofs.RemoveLemmas.{unchanged_is_canon, pieces_are_canon, meets_none}
+use Rattle.rangemap_core.proofs.RestLemmas.{left_rest, right_rest}
+use Rattle.rangemap_core.proofs.InsertSideLemmas.{on_ok}
 use Rattle.rangemap_core.proofs.entries.Entries.remove.Goals as goal
 
 pub returns-then-start-end-clause-ok : goal.returns-then-start-end-clause-ok
@@ -89,8 +89,8 @@ returns-clause-ok g c =
     let spaced = to_spaced p eq xs c.requires.canonical in
     let full = p.non_empty _ c.requires.range in
     let replaced = take start xs ++ (option_to_list left ++ option_to_list right) ++ drop end xs in
-    let ok : OnOk c.replace_stretch.result (c.replace_stretch.new.list.items ≡ replaced) = rw (← c.self.view_is) c.replace_stretch.ensures.ok in
-    on_ok (λ (new : List (g.row.R.Denot × g.row.V.Denot)). IsCanonOf k eq (erase k (value_at k xs) c.args.range) new) c.replace_stretch.result c.replace_stretch.new.list.items replaced ok (pieces_are_canon p eq e xs c.requires.canonical c.args.range c.requires.range start end found left right
+    let ok : OnOk c.splice.result (c.splice.new.list.items ≡ replaced) = rw (← c.self.view_is) c.splice.ensures.ok in
+    on_ok (λ (new : List (g.row.R.Denot × g.row.V.Denot)). IsCanonOf k eq (erase k (value_at k xs) c.args.range) new) c.splice.result c.splice.new.list.items replaced ok (pieces_are_canon p eq e xs c.requires.canonical c.args.range c.requires.range start end found left right
     (left_rest (S p eq) (places p eq) e xs spaced c.args.range full start end found c.index-pairs-start.result (omega (arith, found.start_le_end)) (rw (← same) c.index-pairs-start.is) left c.in_ok-left.ensures.piece)
     (right_rest (S p eq) (places p eq) e xs spaced c.args.range full start end found c.index-pairs-end.result (omega (arith, found.start_le_end)) (rw (← same) c.index-pairs-end.is) right c.in_ok-right.ensures.piece)
     c.in_ok-left.ensures.storable c.in_ok-right.ensures.storable)

@@ -1,6 +1,6 @@
 use Rattle.std.proofs.Common.{arith, ap, sym, true≢false, ◌∙◌, ◌≡◌, ◌<◌, ◌-◌, get_or, is_lt}
-use Rattle.rangemap_core.proofs.Bridge.{S, places, to_spaced, storable_here}
-use Rattle.rangemap_core.proofs.Sides.{right_empty, right_of_equal, right_of_other}
+use Rattle.rangemap_core.proofs.PlaceLemmas.{S, places, to_spaced, storable_here}
+use Rattle.rangemap_core.proofs.InsertSideLemmas.{right_empty, right_of_equal, right_of_other}
 use Rattle.rangemap_core.proofs.entries.Entries.right_side.Goals as goal
 
 pub returns-then-start-end-clause-side : goal.returns-then-start-end-clause-side
@@ -32,7 +32,7 @@ returns-then-eq-clause-side g c =
     let more : c.args.start < c.args.end = omega (arith, c.requires.stretch.start_le_end) in
     let is : c.index-last.result.now ≡ get_or xs (c.args.end - 1) c.index-last.result.now = rw (← c.self.view_is) c.index-last.ensures in
     let stored = storable_here p eq c.args.self.now c.requires.canonical (c.args.end - 1) c.index-last.result.now (omega (arith, c.requires.stretch.start_le_end, c.requires.stretch.in_bounds)) (rw (← c.self.view_is) c.index-last.ensures) in
-    let ends : c.compare_keys.result ≡ s.order (s.high c.args.range.now) (s.high c.index-last.result.now.0) = c.compare_keys.ensures ∙ (λ i. k.cmp (c.end.ensures i) (c.end-then-eq.ensures i)) ∙ p.ends _ _ c.requires.range stored in
+    let ends : c.compare_keys.result ≡ s.order (s.end_place c.args.range.now) (s.end_place c.index-last.result.now.0) = c.compare_keys.ensures ∙ (λ i. k.cmp (c.end.ensures i) (c.end-then-eq.ensures i)) ∙ p.ends _ _ c.requires.range stored in
     right_of_equal s o e xs spaced pair full c.args.start c.args.end c.requires.stretch c.index-last.result.now more is (sym c.eq.ensures ∙ c.if-eq.true) c.is_lt.result (c.is_lt.ensures ∙ ap is_lt ends)
 
 pub part_after-requires-clause-pair : goal.part_after-requires-clause-pair

@@ -1,8 +1,8 @@
 use Rattle.std.proofs.Common.{◌∙◌, ap, is_lt}
-use Rattle.rangemap_core.specs.Orders.{eq_turn}
-use Rattle.rangemap_core.specs.Edges.{AtStart, AtEnd, asked}
-use Rattle.rangemap_core.proofs.Copies.{to_same}
-use Rattle.rangemap_core.proofs.Pieces.{part_spans}
+use Rattle.rangemap_core.specs.laws.Orders.{eq_turn}
+use Rattle.rangemap_core.specs.engine.Endpoints.{AtStart, AtEnd, asked}
+use Rattle.rangemap_core.proofs.EqualListLemmas.{to_same}
+use Rattle.rangemap_core.proofs.EndpointLemmas.{part_spans}
 use Rattle.rangemap_core.proofs.entries.collect.clone_pair.Goals as goal
 
 pub returns-clause-same : goal.returns-clause-same

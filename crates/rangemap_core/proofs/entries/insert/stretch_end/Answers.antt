@@ -1,8 +1,8 @@
 use Rattle.std.proofs.Common.{arith, ap, sym, ◌∙◌, ◌≡◌, ◌+◌, get_or}
 use Rattle.std.proofs.lemmas.List.{get_or_default}
-use Rattle.rangemap_core.specs.Stretch.{are_apart}
-use Rattle.rangemap_core.proofs.Bridge.{S, places, to_spaced, storable_here}
-use Rattle.rangemap_core.proofs.Sides.{end_point}
+use Rattle.rangemap_core.specs.engine.Stretch.{are_apart}
+use Rattle.rangemap_core.proofs.PlaceLemmas.{S, places, to_spaced, storable_here}
+use Rattle.rangemap_core.proofs.InsertSideLemmas.{end_point}
 use Rattle.rangemap_core.proofs.entries.insert.stretch_end.Goals as goal
 
 pub is_apart-requires-clause-second : goal.is_apart-requires-clause-second

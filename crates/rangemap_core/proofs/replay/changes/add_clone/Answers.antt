@@ -1,4 +1,4 @@
-use Rattle.rangemap_core.proofs.Replays.{clone_here}
+use Rattle.rangemap_core.proofs.ReplayLemmas.{clone_here}
 use Rattle.rangemap_core.proofs.replay.changes.add_clone.Goals as goal
 
 pub returns-clause-made : goal.returns-clause-made

@@ -2,8 +2,8 @@ use Rattle.std.proofs.Common.{subst, ◌∙◌}
 use Rattle.std.proofs.IntoIterSteps.{All-taken}
 use Rattle.std.specs.Vec.Iter.{into_iter_items}
 use Rattle.rangemap_core.specs.Ranges.{IsCanonOf, nothing, override_all}
-use Rattle.rangemap_core.proofs.Incoming.{listed}
-use Rattle.rangemap_core.proofs.Replays.{from_iter_made}
+use Rattle.rangemap_core.proofs.IncomingLemmas.{listed}
+use Rattle.rangemap_core.proofs.ReplayLemmas.{from_iter_made}
 use Rattle.rangemap_core.proofs.replay.changes.add_from_iter.Goals as goal
 
 pub from_iter-requires-clause-non_empty : goal.from_iter-requires-clause-non_empty

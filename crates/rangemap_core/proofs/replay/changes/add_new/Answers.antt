@@ -1,4 +1,4 @@
-use Rattle.rangemap_core.proofs.Replays.{new_made}
+use Rattle.rangemap_core.proofs.ReplayLemmas.{new_made}
 use Rattle.rangemap_core.proofs.replay.changes.add_new.Goals as goal
 
 pub returns-clause-made : goal.returns-clause-made

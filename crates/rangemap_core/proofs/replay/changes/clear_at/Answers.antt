@@ -1,4 +1,4 @@
-use Rattle.rangemap_core.proofs.Replays.{clear_here, clear_past}
+use Rattle.rangemap_core.proofs.ReplayLemmas.{clear_here, clear_past}
 use Rattle.rangemap_core.proofs.replay.changes.clear_at.Goals as goal
 
 pub returns-in-None-clause-made : goal.returns-in-None-clause-made

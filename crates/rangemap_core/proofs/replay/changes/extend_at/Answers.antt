@@ -2,8 +2,8 @@ use Rattle.std.proofs.Common.{ap, ◌∙◌, length, take}
 use Rattle.std.proofs.IntoIterSteps.{All-taken}
 use Rattle.std.proofs.lemmas.Result.{MatchResult-weaker}
 use Rattle.std.specs.Vec.Iter.{into_iter_items}
-use Rattle.rangemap_core.proofs.Incoming.{listed, taken_front}
-use Rattle.rangemap_core.proofs.Replays.{extend_here, extend_past}
+use Rattle.rangemap_core.proofs.IncomingLemmas.{listed, taken_front}
+use Rattle.rangemap_core.proofs.ReplayLemmas.{extend_here, extend_past}
 use Rattle.rangemap_core.proofs.replay.changes.extend_at.Goals as goal
 
 pub extend-requires-clause-non_empty : goal.extend-requires-clause-non_empty

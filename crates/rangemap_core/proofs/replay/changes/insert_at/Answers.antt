@@ -1,4 +1,4 @@
-use Rattle.rangemap_core.proofs.Replays.{insert_here}
+use Rattle.rangemap_core.proofs.ReplayLemmas.{insert_here}
 use Rattle.rangemap_core.proofs.replay.changes.insert_at.Goals as goal
 
 pub returns-in-Some-clause-made : goal.returns-in-Some-clause-made

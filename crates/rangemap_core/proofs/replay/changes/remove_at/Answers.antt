@@ -1,5 +1,5 @@
 use Rattle.std.proofs.Common.{subst}
-use Rattle.rangemap_core.proofs.Replays.{remove_here, remove_past}
+use Rattle.rangemap_core.proofs.ReplayLemmas.{remove_here, remove_past}
 use Rattle.rangemap_core.proofs.replay.changes.remove_at.Goals as goal
 
 pub returns-in-None-clause-made : goal.returns-in-None-clause-made

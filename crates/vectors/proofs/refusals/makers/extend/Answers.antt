@@ -1,6 +1,6 @@
 use Rattle.std.specs.Vec.Iter.{into_iter_items}
 use Rattle.rangemap.specs.Ranges.{half_open}
-use Rattle.rangemap.proofs.Incoming.{listed}
+use Rattle.rangemap.proofs.IncomingLemmas.{listed}
 use Rattle.vectors.proofs.refusals.makers.extend.Goals as goal
 
 pub extend-requires-clause-non_empty : goal.extend-requires-clause-non_empty
