@@ -44,6 +44,10 @@ fn make_rust_crate(folder: &Path) {
         .args([
             "-C",
             "opt-level=3",
+            "-C",
+            "target-cpu=x86-64-v2",
+            "-C",
+            "embed-bitcode=yes",
             "--cap-lints",
             "allow",
             "--out-dir",

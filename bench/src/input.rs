@@ -37,19 +37,20 @@ pub fn in_order(count: usize) -> Vec<Entry> {
     (0..count as u64).map(entry).collect()
 }
 
-/// The same ranges in a random order.
-pub fn shuffled(count: usize) -> Vec<Entry> {
+/// The same ranges in a random order, another for each seed.
+pub fn shuffled(count: usize, seed: u64) -> Vec<Entry> {
     let mut entries = in_order(count);
-    let mut random = Random(count as u64 ^ 77);
+    let mut random = Random(count as u64 ^ 77 ^ (seed << 32));
     for at in (1..entries.len()).rev() {
         entries.swap(at, random.below(at as u64 + 1) as usize);
     }
     entries
 }
 
-/// `2 * count` ranges with few values, in a random order over so few keys that about `count` stand in the end.
-pub fn overlapping(count: usize) -> Vec<Entry> {
-    let mut random = Random(count as u64 ^ 4242);
+/// `2 * count` ranges with few values, in a random order over so few keys that about `count` stand in the end; others for
+/// each seed.
+pub fn overlapping(count: usize, seed: u64) -> Vec<Entry> {
+    let mut random = Random(count as u64 ^ 4242 ^ (seed << 32));
     let length = 1000;
     let keys = (count as u64 * length / 2).max(2 * length);
     let entry = |_| {

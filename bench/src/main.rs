@@ -5,6 +5,7 @@
 // By name, since Cargo doesn't know of it: build.rs makes it.
 extern crate rangemap;
 
+mod clock;
 mod input;
 mod measure;
 mod rattle_side;

@@ -77,15 +77,21 @@ fn at_first(target: f64, size: usize) -> Option<f64> {
 }
 
 fn appends(size: usize) -> Case {
-    unasked(|side| side.inserts, in_order(size))
+    unasked(|side| side.inserts, vec![in_order(size)])
 }
 
 fn disjoint_inserts(size: usize) -> Case {
-    unasked(|side| side.inserts, shuffled(size))
+    unasked(|side| side.inserts, many(size, shuffled))
 }
 
 fn overlapping_inserts(size: usize) -> Case {
-    unasked(|side| side.inserts, overlapping(size))
+    unasked(|side| side.inserts, many(size, overlapping))
+}
+
+// Lists of the size, each of another seed: as many as make some thousands of entries.
+fn many(size: usize, list: fn(usize, u64) -> Vec<Entry>) -> Vec<Vec<Entry>> {
+    let count = (4_000 / size).max(1) as u64;
+    (0..count).map(|seed| list(size, seed)).collect()
 }
 
 fn lookups(size: usize) -> Case {
@@ -93,7 +99,7 @@ fn lookups(size: usize) -> Case {
 }
 
 fn iterations(size: usize) -> Case {
-    unasked(|side| side.iterations, in_order(size))
+    unasked(|side| side.iterations, vec![in_order(size)])
 }
 
 fn removals(size: usize) -> Case {
@@ -109,27 +115,27 @@ fn gaps(size: usize) -> Case {
 }
 
 fn clones(size: usize) -> Case {
-    unasked(|side| side.clones, in_order(size))
+    unasked(|side| side.clones, vec![in_order(size)])
 }
 
 fn comparisons(size: usize) -> Case {
-    unasked(|side| side.comparisons, in_order(size))
+    unasked(|side| side.comparisons, vec![in_order(size)])
 }
 
 fn asked(size: usize, run: fn(&Side) -> Run, queries: Vec<Query>) -> Case {
     Case {
         run,
-        entries: in_order(size),
+        lists: vec![in_order(size)],
         operations: queries.len(),
         queries,
     }
 }
 
-fn unasked(run: fn(&Side) -> Run, entries: Vec<Entry>) -> Case {
+fn unasked(run: fn(&Side) -> Run, lists: Vec<Vec<Entry>>) -> Case {
     Case {
         run,
-        operations: entries.len(),
-        entries,
+        operations: lists.iter().map(Vec::len).sum(),
+        lists,
         queries: vec![],
     }
 }
