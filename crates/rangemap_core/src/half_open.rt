@@ -79,7 +79,10 @@ impl<K: Ord + Clone> Kind<K, Range<K>> for HalfOpen {
         key_at(from).cmp(key_at(to)).is_lt()
     }
 
-    fn part(from: Endpoint<'_, Range<K>>, to: Endpoint<'_, Range<K>>) -> Result<Range<K>, AllocError>
+    fn part(
+        from: Endpoint<'_, Range<K>>,
+        to: Endpoint<'_, Range<K>>,
+    ) -> Result<Range<K>, AllocError>
         requires is_before { is_before (half_open K.cmp) half_open_end_place (endpoint_of from) (endpoint_of to) ≡ true }
         requires faithful_keys { KeysCloneFaithfully K.is_clone K.cmp }
         ensures { IfOk result (IsSame (half_open K.cmp) (half_open_part (endpoint_of from.entry) (endpoint_of to.entry))) }

@@ -12,13 +12,13 @@ pub mod into_iter;
 pub mod iter;
 pub mod kind;
 pub mod map;
-mod partition_point;
 pub mod overlapping;
+mod partition_point;
 mod probe;
 pub mod ranged_map;
 pub mod replay;
 mod search;
-pub mod std_ext;
 mod splice;
+pub mod std_ext;
 
 pub use map::RangeMap;

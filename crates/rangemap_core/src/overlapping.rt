@@ -12,7 +12,7 @@ ghost use Rattle.rangemap_core.specs.engine.Stretch.{IsOverlap, ends_by, starts_
 
 use crate::iter::Iter;
 use crate::kind::{Endpoint, Kind};
-use crate::partition_point::{Test, partition_point_near, partition_point_from};
+use crate::partition_point::{Test, partition_point_from, partition_point_near};
 use crate::search::starts_up_to;
 use std::iter::{DoubleEndedIterator, Iterator};
 use std::marker::{Model, PhantomData};

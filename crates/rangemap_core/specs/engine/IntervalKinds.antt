@@ -1,7 +1,6 @@
 -- Half-open and closed ranges are intervals, whatever values are keys.
-use Rattle.std.proofs.Common.{◌≡◌, true, false, refl, sym, ap, ◌∙◌, true≢false, Ordering, Less, Equal, Greater, is_lt, is_le}
+use Rattle.std.proofs.Common.{◌≡◌, true, false, refl, ap, true≢false, Ordering, Less, Equal, Greater, is_lt, is_le}
 use Rattle.std.specs.Cmp.{IsTotalOrder}
-use Rattle.std.specs.Ordering.{ordering_reverse}
 use Rattle.rangemap_core.specs.Ranges.{closed, half_open}
 use Rattle.rangemap_core.specs.engine.Intervals.{IsInterval}
 use Rattle.rangemap_core.specs.laws.Orders.{not_lt, le_not_lt, turn}
