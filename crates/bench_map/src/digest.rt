@@ -1,17 +1,35 @@
 //! Numbers that tell what a map answers from other answers.
-ghost use Rattle.std.specs.Iterator.{IsFinite};
+ghost use Rattle.std.specs.Prelude.{◌<◌};
 
+use rangemap::ranged_map::{ReadsGaps, ReadsPairs};
 use std::alloc::AllocError;
 use std::ops::{Range, RangeInclusive};
 
 /// A range of keys, told by its first key and the one behind its last.
 pub trait Keys: Drop {
+    /// What a map asks of a range that is inserted or removed.
+    ghost IsNonEmpty: { Self → Type 0 };
+
+    /// The range from its first key up to the one behind its last.
+    fn up_to(first: u64, behind: u64) -> Self
+        ensures { first < behind → IsNonEmpty result };
+
     fn first(&self) -> u64;
 
     fn behind(&self) -> u64;
 }
 
 impl Keys for Range<u64> {
+    ghost use Rattle.std.specs.Ordering.{nat_cmp};
+    ghost use Rattle.rangemap.specs.Ranges.{half_open};
+
+    ghost IsNonEmpty = { (half_open nat_cmp).IsNonEmpty };
+
+    #[inline(always)]
+    fn up_to(first: u64, behind: u64) -> Range<u64> {
+        first..behind
+    }
+
     #[inline(always)]
     fn first(&self) -> u64 {
         self.start
@@ -24,6 +42,17 @@ impl Keys for Range<u64> {
 }
 
 impl Keys for RangeInclusive<u64> {
+    ghost use Rattle.std.specs.Prelude.{⊤};
+    ghost use Rattle.std.specs.Ordering.{nat_cmp};
+    ghost use Rattle.rangemap.specs.Ranges.{closed};
+
+    ghost IsNonEmpty = { (closed (λ _. ⊤) nat_cmp).IsNonEmpty };
+
+    #[inline(always)]
+    fn up_to(first: u64, behind: u64) -> RangeInclusive<u64> {
+        first..=behind.wrapping_sub(1)
+    }
+
     #[inline(always)]
     fn first(&self) -> u64 {
         *self.start()
@@ -55,47 +84,41 @@ pub fn followed_by(digest: u64, next: u64) -> u64 {
         .wrapping_add(next)
 }
 
-/// The numbers of the pairs, mixed by exclusive or, which is as little work for a pair as can be.
-#[inline(always)]
-pub fn mix_of_pairs<'a, R: Keys + 'a, Pairs: Iterator<Item = (&'a R, &'a u32)> + Drop>(
-    pairs: Pairs,
-) -> u64
-    requires can { Pairs.can_next pairs }
-    requires ends { IsFinite (Pairs.remaining pairs) }
-{
-    let mut mix = 0u64;
-    for (range, value) in pairs {
-        mix ^= of_pair(range, *value);
-    }
-    mix
+/// The numbers of pairs or of gaps, mixed by exclusive or, which is as little work for each as can
+/// be.
+#[derive(Drop)]
+pub struct Mix {
+    /// What was mixed so far.
+    pub mix: u64,
 }
 
-/// A digest of the pairs in their order.
-#[inline(always)]
-pub fn digest_of_pairs<'a, R: Keys + 'a, Pairs: Iterator<Item = (&'a R, &'a u32)> + Drop>(
-    pairs: Pairs,
-) -> u64
-    requires can { Pairs.can_next pairs }
-    requires ends { IsFinite (Pairs.remaining pairs) }
-{
-    let mut digest = 0u64;
-    for (range, value) in pairs {
-        digest = followed_by(digest, of_pair(range, *value));
+impl<R: Keys> ReadsPairs<R, u32> for Mix {
+    #[inline(always)]
+    fn pair(&mut self, range: &R, value: &u32) -> Result<(), AllocError> {
+        self.mix ^= of_pair(range, *value);
+        Ok(())
     }
-    digest
 }
 
-/// The numbers of the gaps, mixed in the same way.
-#[inline(always)]
-pub fn mix_of_gaps<R: Keys, Gaps: Iterator<Item = Result<R, AllocError>> + Drop>(
-    gaps: Gaps,
-) -> Result<u64, AllocError>
-    requires can { Gaps.can_next gaps }
-    requires ends { IsFinite (Gaps.remaining gaps) }
-{
-    let mut mix = 0u64;
-    for gap in gaps {
-        mix ^= of_range(&gap?);
+impl<R: Keys> ReadsGaps<R> for Mix {
+    #[inline(always)]
+    fn gap(&mut self, gap: R) -> Result<(), AllocError> {
+        self.mix ^= of_range(&gap);
+        Ok(())
     }
-    Ok(mix)
+}
+
+/// A digest of pairs in their order.
+#[derive(Drop)]
+pub struct Digest {
+    /// The digest of those so far.
+    pub digest: u64,
+}
+
+impl<R: Keys> ReadsPairs<R, u32> for Digest {
+    #[inline(always)]
+    fn pair(&mut self, range: &R, value: &u32) -> Result<(), AllocError> {
+        self.digest = followed_by(self.digest, of_pair(range, *value));
+        Ok(())
+    }
 }

@@ -1,8 +1,7 @@
 //! The calls that a timing program makes.
 
-use crate::closed::ClosedStore;
-use crate::half_open::HalfOpenStore;
 use crate::input::{Entry, Query};
+use crate::store::{ClosedStore, HalfOpenStore};
 use crate::workloads;
 use std::alloc::{AllocError, Global};
 

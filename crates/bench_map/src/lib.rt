@@ -1,16 +1,16 @@
-//! Whole workloads over the maps, each inside one call, for a timing program that links this library.
+//! Whole workloads over the maps, each inside one call, for a timing program that links this
+//! library.
 //!
-//! Each call makes a map of `entries`, does its work `rounds` times and answers a digest of all that the map answered. The
-//! program in `bench/` makes the same calls of the Rust crate, and compares both the times and the digests. So what is
-//! proved of these calls is that they are safe and return; what they answer is tested, by the digests.
+//! Each call makes a map of `entries`, does its work `rounds` times and answers a digest of all
+//! that the map answered. The program in `bench/` makes the same calls of the Rust crate, and
+//! compares both the times and the digests. So what is proved of these calls is that they are safe
+//! and return; what they answer is tested, by the digests.
 //!
 //! `u64::MAX` is the answer where memory was refused.
 #![tactic(auto)]
 
-pub mod closed;
 mod digest;
 pub mod exports;
-pub mod half_open;
 pub mod input;
 pub mod store;
 #[cfg(test)]

@@ -1,35 +1,26 @@
-//! What the workloads ask of a map.
-ghost use Rattle.std.specs.Prelude.{◌<◌};
+//! The maps that the workloads run over.
 
-use std::alloc::{AllocError, Global};
+use crate::digest::Keys;
+use rangemap::ranged_map::{ClonesItself, RangedMap};
+use rangemap::{RangeInclusiveMap, RangeMap};
+use std::alloc::Global;
 
-/// A map from ranges of `u64` keys to `u32` values. The keys of a range go from `start` up to, and without, `end`.
-pub trait Store: Drop {
-    fn empty(alloc: Global) -> Self;
+/// A map from ranges of `u64` keys to `u32` values.
+pub trait Store: RangedMap<Key = u64, Range: Keys, Value = u32, Alloc = Global> + ClonesItself {
+    /// A range with a key in it is what it asks for.
+    ghost takes: { (range : Self.Range) → Self.Range.IsNonEmpty range → Self.Kind.kind.IsNonEmpty range };
+}
 
-    fn len(&self) -> usize;
+/// The map over half-open ranges.
+pub type HalfOpenStore = RangeMap<u64, u32, Global>;
 
-    fn insert(&mut self, start: u64, end: u64, value: u32) -> Result<(), AllocError>
-        requires { start < end };
+/// The map over closed ranges.
+pub type ClosedStore = RangeInclusiveMap<u64, u32, u64, Global>;
 
-    fn remove(&mut self, start: u64, end: u64) -> Result<(), AllocError>
-        requires { start < end };
+impl Store for HalfOpenStore {
+    ghost takes = { λ range non_empty. non_empty };
+}
 
-    fn value_at(&self, key: u64) -> Option<u32>;
-
-    fn copy(&self) -> Result<Self, AllocError>;
-
-    fn equals(&self, other: &Self) -> bool;
-
-    /// The digests of all pairs, mixed by exclusive or, which is as little work for a pair as can be.
-    fn mix(&self) -> u64;
-
-    /// A digest of all pairs in their order.
-    fn digest(&self) -> u64;
-
-    /// The digests of the pairs that overlap the range, mixed in the same way.
-    fn mix_of_overlapping(&self, start: u64, end: u64) -> u64;
-
-    /// The digests of the gaps in the range, mixed in the same way.
-    fn mix_of_gaps(&self, start: u64, end: u64) -> Result<u64, AllocError>;
+impl Store for ClosedStore {
+    ghost takes = { λ range non_empty. non_empty };
 }

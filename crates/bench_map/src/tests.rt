@@ -1,10 +1,8 @@
 //! Each workload once, over two pairs.
 
-use crate::closed::ClosedStore;
 use crate::digest::followed_by;
-use crate::half_open::HalfOpenStore;
 use crate::input::{Entry, Query};
-use crate::store::Store;
+use crate::store::{ClosedStore, HalfOpenStore, Store};
 use crate::workloads;
 use std::process::Abort;
 use std::test::Fail;

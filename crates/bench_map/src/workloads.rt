@@ -1,6 +1,6 @@
 //! The workloads, over any map.
 
-use crate::digest::followed_by;
+use crate::digest::{Digest, Keys, Mix, followed_by};
 use crate::input::{Entry, Query};
 use crate::store::Store;
 use std::alloc::{AllocError, Global};
@@ -10,10 +10,17 @@ fn filled<S: Store>(alloc: Global, entries: &[Entry]) -> Result<S, AllocError> {
     let mut map = S::empty(alloc);
     for entry in entries {
         if entry.start < entry.end {
-            map.insert(entry.start, entry.end, entry.value)?;
+            map.insert(S::Range::up_to(entry.start, entry.end), entry.value)?;
         }
     }
     Ok(map)
+}
+
+// The digest of the pairs in their order.
+fn digest_of<S: Store>(map: &S) -> Result<u64, AllocError> {
+    let mut all = Digest { digest: 0 };
+    map.read_all(&mut all)?;
+    Ok(all.digest)
 }
 
 /// The digest of all pairs, in each round.
@@ -25,7 +32,7 @@ pub fn contents<S: Store>(
     let map: S = filled(alloc, entries)?;
     let mut digest = 0u64;
     for _ in 0..rounds {
-        digest = followed_by(digest, map.digest());
+        digest = followed_by(digest, digest_of(&map)?);
     }
     Ok(digest)
 }
@@ -58,8 +65,8 @@ pub fn lookups<S: Store>(
 fn values_sum<S: Store>(map: &S, queries: &[Query]) -> u64 {
     let mut sum = 0u64;
     for query in queries {
-        if let Some(value) = map.value_at(query.start) {
-            sum = sum.wrapping_add(u64::from(value));
+        if let Some(value) = map.get(&query.start) {
+            sum = sum.wrapping_add(u64::from(*value));
         }
     }
     sum
@@ -74,7 +81,9 @@ pub fn iterations<S: Store>(
     let map: S = filled(alloc, entries)?;
     let mut digest = 0u64;
     for _ in 0..rounds {
-        digest = followed_by(digest, map.mix());
+        let mut all = Mix { mix: 0 };
+        map.read_all(&mut all)?;
+        digest = followed_by(digest, all.mix);
     }
     Ok(digest)
 }
@@ -90,17 +99,17 @@ pub fn removals<S: Store>(
     let mut digest = 0u64;
     for _ in 0..rounds {
         let rest = without(&map, queries)?;
-        digest = followed_by(digest, rest.digest());
+        digest = followed_by(digest, digest_of(&rest)?);
     }
     Ok(digest)
 }
 
 // A clone from which the queries are removed.
 fn without<S: Store>(map: &S, queries: &[Query]) -> Result<S, AllocError> {
-    let mut rest = map.copy()?;
+    let mut rest = map.clone()?;
     for query in queries {
         if query.start < query.end {
-            rest.remove(query.start, query.end)?;
+            rest.remove(S::Range::up_to(query.start, query.end))?;
         }
     }
     Ok(rest)
@@ -116,17 +125,19 @@ pub fn overlaps<S: Store>(
     let map: S = filled(alloc, entries)?;
     let mut digest = 0u64;
     for _ in 0..rounds {
-        digest = followed_by(digest, overlaps_sum(&map, queries));
+        digest = followed_by(digest, overlaps_sum(&map, queries)?);
     }
     Ok(digest)
 }
 
-fn overlaps_sum<S: Store>(map: &S, queries: &[Query]) -> u64 {
+fn overlaps_sum<S: Store>(map: &S, queries: &[Query]) -> Result<u64, AllocError> {
     let mut sum = 0u64;
     for query in queries {
-        sum = sum.wrapping_add(map.mix_of_overlapping(query.start, query.end));
+        let mut met = Mix { mix: 0 };
+        map.read_overlapping(&S::Range::up_to(query.start, query.end), &mut met)?;
+        sum = sum.wrapping_add(met.mix);
     }
-    sum
+    Ok(sum)
 }
 
 /// In each round the sum of the mixes of the gaps in each query.
@@ -147,7 +158,9 @@ pub fn gaps<S: Store>(
 fn gaps_sum<S: Store>(map: &S, queries: &[Query]) -> Result<u64, AllocError> {
     let mut sum = 0u64;
     for query in queries {
-        sum = sum.wrapping_add(map.mix_of_gaps(query.start, query.end)?);
+        let mut gaps = Mix { mix: 0 };
+        map.read_gaps(&S::Range::up_to(query.start, query.end), &mut gaps)?;
+        sum = sum.wrapping_add(gaps.mix);
     }
     Ok(sum)
 }
@@ -157,7 +170,7 @@ pub fn clones<S: Store>(alloc: Global, entries: &[Entry], rounds: u32) -> Result
     let map: S = filled(alloc, entries)?;
     let mut digest = 0u64;
     for _ in 0..rounds {
-        let copy = map.copy()?;
+        let copy = map.clone()?;
         digest = followed_by(digest, copy.len() as u64);
     }
     Ok(digest)
@@ -170,12 +183,12 @@ pub fn comparisons<S: Store>(
     rounds: u32,
 ) -> Result<u64, AllocError> {
     let map: S = filled(alloc, entries)?;
-    let first = map.copy()?;
-    let second = map.copy()?;
+    let first = map.clone()?;
+    let second = map.clone()?;
     let mut digest = 0u64;
     for round in 0..rounds {
         let other = if round % 2 == 0 { &first } else { &second };
-        digest = followed_by(digest, u64::from(map.equals(other)));
+        digest = followed_by(digest, u64::from(map == *other));
     }
     Ok(digest)
 }

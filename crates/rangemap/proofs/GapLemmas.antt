@@ -18,7 +18,7 @@ together_tests : (h c : Bool) → ((h && not c) || (h && c)) ≡ h
 together_tests h c = grind (arith, nat_tests)
 
 -- a key is covered by the pairs where their ranges cover it
-covered_is : {K X V : Type 0} (k : RangeKind K X) (list : List (X × V)) (x : K) → covers k (map (λ p. p.0) list) x ≡ is_some (covering k list x)
+pub covered_is : {K X V : Type 0} (k : RangeKind K X) (list : List (X × V)) (x : K) → covers k (map (λ p. p.0) list) x ≡ is_some (covering k list x)
 covered_is k [] x = refl
 covered_is k (a ∷ list) x = go (covered_is k list x) (k.holds a.0 x)
   where

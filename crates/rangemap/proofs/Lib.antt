@@ -1,3 +1,12 @@
 pub mod EqualityLemmas
 pub mod GapLemmas
+pub mod MeetLemmas
+pub mod ReplayLemmas
 pub use Rattle.rangemap_core.proofs.IncomingLemmas
+pub mod CallerLemmas
+pub mod GapLoopLemmas
+pub mod NumberLemmas
+pub mod SetLemmas
+pub mod SetRoundTripLemmas
+pub mod OperatorLemmas
+pub mod SetReplayLemmas

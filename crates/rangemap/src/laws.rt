@@ -1,9 +1,15 @@
 //! What holds of every map, as contracts that the check has proved.
 //!
-//! A function here that takes maps makes the calls that its law speaks of, and its contract says what they leave; one that
-//! takes nothing states a fact about lists of ranges. It serves every map of the library: what a map is to it is said by
-//! `RangedMap`. Where a law makes calls it holds if all of them are accepted: want of memory is answered as
-//! `Err(AllocError)`, and then the law says nothing.
+//! A function here that takes maps makes the calls that its law speaks of, and its contract says
+//! what they leave; one that takes nothing states a fact about lists of ranges. It serves every map
+//! of the library: what a map is to it is said by `RangedMap`.
+//!
+//! A law holds where all of its calls are accepted. `Err(AllocError)` says that one was refused.
+//! What the maps hold is left open then: the calls before the refused one were made, and each left
+//! what its own contract says.
+//!
+//! A contract speaks of what is held, not of how often it was written. So a law can't tell one
+//! insert from two equal ones; that the calls are made once is read in the bodies.
 ghost use Rattle.std.specs.Prelude.{◌≡◌, ◌↔◌, ◌&&◌, true, false, is_some, map, IsTrue, IfOk, List, Some as SomeWord, None as NoneWord, OnOk};
 ghost use Rattle.std.specs.Option.{option_eq};
 ghost use Rattle.std.specs.declared.ops.Range.{Range as RangeOf};
@@ -13,15 +19,23 @@ ghost use Rattle.rangemap.specs.Parted.{IsParted};
 ghost use Rattle.rangemap.specs.Ranges.{Alike, AreGaps, IsCanonOf, IsCanonical, closed, covering, erase, half_open, override, same_pairs, value_at};
 
 mod clones;
+pub mod comparisons;
 pub mod definitions;
+pub mod iterators;
+pub mod overlaps;
+pub mod round_trips;
+pub mod set_round_trips;
+pub mod sets;
+pub mod texts;
 
+use crate::ranged_map::{LeavesGaps, RangedMap};
 use clones::{insert_clone, remove_clone};
-use rangemap_core::ranged_map::{LeavesGaps, RangedMap};
 use rangemap_core::std_ext::StepFns;
 use std::alloc::{AllocError, Allocator};
 
-/// Canonical lists of half-open ranges, over any order, are equal pair by pair exactly when their point functions are alike. So
-/// a point function has at most one canonical list, and which calls led to it can't be seen.
+/// Canonical lists of half-open ranges, over any order, are equal pair by pair exactly when their
+/// point functions are alike. So a point function has at most one canonical list, and which calls
+/// led to it can't be seen.
 pub fn half_open_lists_are_unique<K: Ord, V: Eq>()
     ensures { (left right : List (RangeOf K × V))
         → IsCanonical (half_open K.cmp) V.eq left
@@ -30,7 +44,8 @@ pub fn half_open_lists_are_unique<K: Ord, V: Eq>()
         ↔ Alike (half_open K.cmp) V.eq (value_at (half_open K.cmp) left) (value_at (half_open K.cmp) right)) }
 {}
 
-/// The same of closed ranges, over any order whose keys have neighbours, which is what the steps tell.
+/// The same of closed ranges, over any order whose keys have neighbours, which is what the steps
+/// tell.
 pub fn closed_lists_are_unique<K: Ord, V: Eq, StepFnsT: StepFns<K>>()
     ensures { (left right : List (RangeInclusiveOf K × V))
         → IsCanonical (closed StepFnsT.is_key K.cmp) V.eq left
@@ -39,7 +54,8 @@ pub fn closed_lists_are_unique<K: Ord, V: Eq, StepFnsT: StepFns<K>>()
         ↔ Alike (closed StepFnsT.is_key K.cmp) V.eq (value_at (closed StepFnsT.is_key K.cmp) left) (value_at (closed StepFnsT.is_key K.cmp) right)) }
 {}
 
-/// Two maps are equal exactly when they give alike answers at every key. The answer is that of `==`.
+/// Two maps are equal exactly when they give alike answers at every key. The answer is that of
+/// `==`.
 pub fn equal_exactly_when_alike<M: RangedMap>(left: &M, right: &M) -> bool
     ensures equal { result ≡ same_pairs M.Kind.kind M.Value.eq (M.pairs left.now) (M.pairs right.now) }
     ensures alike { IsTrue result ↔ Alike M.Kind.kind M.Value.eq (value_at M.Kind.kind (M.pairs left.now)) (value_at M.Kind.kind (M.pairs right.now)) }
@@ -49,8 +65,8 @@ pub fn equal_exactly_when_alike<M: RangedMap>(left: &M, right: &M) -> bool
     left == right
 }
 
-/// After an insert each key of the range has the value, and any other key is covered exactly as before, with an equal
-/// value.
+/// After an insert each key of the range has the value, and any other key is covered exactly as
+/// before, with an equal value.
 pub fn insert_changes_its_range_alone<M: RangedMap>(
     map: &mut M,
     range: M::Range,
@@ -66,7 +82,8 @@ pub fn insert_changes_its_range_alone<M: RangedMap>(
     map.insert(range, value)
 }
 
-/// After a remove no key of the range is covered, and any other key is covered exactly as before, with an equal value.
+/// After a remove no key of the range is covered, and any other key is covered exactly as before,
+/// with an equal value.
 pub fn remove_changes_its_range_alone<M: RangedMap>(
     map: &mut M,
     range: M::Range,
@@ -81,8 +98,8 @@ pub fn remove_changes_its_range_alone<M: RangedMap>(
     map.remove(range)
 }
 
-/// The same insert twice leaves what it leaves once: given two equal maps, it inserts into `once` a single time and into
-/// `twice` two times, and they are equal again.
+/// The same insert twice leaves what it leaves once: given two equal maps, it inserts into `once` a
+/// single time and into `twice` two times, and they are equal again.
 pub fn insert_twice_equals_once<M: RangedMap>(
     once: &mut M,
     twice: &mut M,
@@ -102,8 +119,8 @@ pub fn insert_twice_equals_once<M: RangedMap>(
     insert_clone(twice, range, value)
 }
 
-/// Inserts on ranges with no common point commute: given two equal maps, it makes both inserts into each, in the one order
-/// and in the other, and the maps are equal again.
+/// Inserts on ranges with no common point commute: given two equal maps, it makes both inserts into
+/// each, in the one order and in the other, and the maps are equal again.
 pub fn inserts_commute<M: RangedMap>(
     forth: &mut M,
     back: &mut M,
@@ -126,8 +143,8 @@ pub fn inserts_commute<M: RangedMap>(
     insert_clone(back, first.0, first.1)
 }
 
-/// A remove takes back the insert before it: given two equal maps, it inserts into `changed` and removes the range again,
-/// removes it from `removed` alone, and the maps are equal again.
+/// A remove takes back the insert before it: given two equal maps, it inserts into `changed` and
+/// removes the range again, removes it from `removed` alone, and the maps are equal again.
 pub fn remove_after_insert_equals_remove<M: RangedMap>(
     changed: &mut M,
     removed: &mut M,
@@ -147,11 +164,12 @@ pub fn remove_after_insert_equals_remove<M: RangedMap>(
     remove_clone(removed, range)
 }
 
-/// Gaps and covered keys make up a range: the gaps of `outer_range` and what `stored` covers of it share no key, and together
-/// they have all its keys. No gap is empty, and no two touch.
+/// Gaps and covered keys make up a range: the gaps of `outer_range` and what `stored` covers of it
+/// share no key, and together they have all its keys. No gap is empty, and no two touch.
 ///
-/// Answers the gaps, in a vector with the allocator. It errs where there is no memory for them. It costs time in the
-/// logarithm of the ranges stored, and in the number of those that overlap the range.
+/// Answers the gaps, in a vector with the allocator. It errs where there is no memory for them. It
+/// costs time in the logarithm of the ranges stored, and in the number of those that overlap the
+/// range.
 pub fn gaps_and_covered_keys_make_up_a_range<M: LeavesGaps, B: Allocator>(
     alloc: B,
     stored: &M,

@@ -1,11 +1,25 @@
-//! Maps whose keys are stored as ranges.
+//! Maps and sets whose keys are stored as ranges.
 //!
-//! This is the crate that users name. `map` has the map over half-open ranges, `inclusive_map` that over closed ones, whose
-//! keys have steps (`StepLite`, `StepFns`), `laws` what holds of every map, and `ranged_map` what code over any map asks of it.
+//! This is the crate that users name. `map` and `set` have the containers of half-open ranges,
+//! `inclusive_map` and `inclusive_set` those of closed ones, whose keys have steps (`StepLite`,
+//! `StepFns`). `laws` says what holds of every container, and `ranged_map` what code over any of
+//! them asks of it.
 #![tactic(auto)]
 
+mod calls;
+pub mod inclusive_map;
+pub mod inclusive_set;
 pub mod laws;
+mod macros;
+pub mod map;
+pub mod ranged_map;
+pub mod ranged_set;
+mod replay;
+pub mod set;
 
+pub use inclusive_map::RangeInclusiveMap;
+pub use inclusive_set::RangeInclusiveSet;
+pub use map::RangeMap;
 pub use rangemap_core::std_ext::{StepFns, StepLite};
-pub use rangemap_core::{RangeMap, half_open, kind, map, ranged_map};
-pub use rangemap_maps::{RangeInclusiveMap, closed, inclusive_map};
+pub use rangemap_forms::json::{Form, Part, ReadError, WriteError};
+pub use set::RangeSet;

@@ -7,7 +7,7 @@ use Rattle.std.specs.List.Sorted.{IsPartitionPoint}
 use Rattle.std.specs.declared.cmp.Ordering.TheVariants.{Less, Equal, Greater}
 use Rattle.std.specs.Ordering.{is_lt, is_gt}
 use Rattle.std.specs.Cmp.{IsTotalOrder, IsEquivalence}
-use Rattle.rangemap_core.specs.engine.Shape.{Shape, IsApart, IsSpaced, IsPlaceOverride}
+use Rattle.rangemap_core.specs.engine.Shape.{PassesUpTo, Shape, IsApart, IsSpaced, IsPlaceOverride}
 use Rattle.rangemap_core.specs.engine.Stretch.{Every, are_apart, apart_by, IsOverlap, IsPieceBefore, IsPieceAfter, IsStretch, IsLeftPart, IsRightPart, taken_or_new, IsLeftSide, IsRightSide}
 use Rattle.rangemap_core.proofs.PlaceOrderLemmas.{less_from, not_lt_ge, lt_le, le_trans, lt_le_trans, le_lt_trans, lt_or_le}
 use Rattle.rangemap_core.proofs.ListLemmas.{Every-map, IsApart-from_lt, IsSpaced-right}
@@ -36,7 +36,7 @@ module _ {G P V : Type 0} (s : Shape G P V) (o : IsTotalOrder s.order) where
     ends_before i d l = not_lt_ge o (s.start_place pair.0) (s.end_place (get_or xs i d).0) (grind (arith, ov.ended.0 i d (omega arith) l))
 
     pub start_point : (n : ℕ) → n ≤ from → from ≤ n + 1 → ((d : G × V) → n < from → are_apart s (get_or xs n d) pair ≡ false) → ((d : G × V) → n ≡ from → 0 < from → are_apart s (get_or xs (from - 1) d) pair ≡ true)
-        → IsPartitionPoint (λ a. are_apart s a pair ≡ true) (λ a. are_apart s a pair ≡ false) xs n
+        → PassesUpTo (λ a. are_apart s a pair) xs n
     start_point n l m joined apart = (passes, fails)
       where
         passes : (i : ℕ) (d : G × V) → 0 ≤ i → i < n → are_apart s (get_or xs i d) pair ≡ true
@@ -212,11 +212,6 @@ module _ {G P V : Type 0} (s : Shape G P V) (o : IsTotalOrder s.order) (e : IsEq
 
     pub replaced_overrides : IsPlaceOverride s xs (take start xs ++ (option_to_list left ++ (m, pair.1) ∷ option_to_list right) ++ drop end xs) pair
     replaced_overrides = rw regrouped (joined_overrides s o e xs _ _ pair.0 m pair.1 (is_left.part m starts_tie) (is_right.part m ends_tie) full)
-
--- what a call leaves where it says what its success and its failure leave
-pub by_result : {T E X : Type 0} (Q : List X → Type 0) (r : Result T E) (old new replaced : List X) → OnOk r (new ≡ replaced) → OnErr r (new ≡ old) → Q replaced → Q old → Q new
-by_result Q (Ok u) old new replaced h k made kept = subst Q (sym h) made
-by_result Q (Err f) old new replaced h k made kept = subst Q (sym k) kept
 
 pub on_ok : {T E X : Type 0} (Q : List X → Type 0) (r : Result T E) (new replaced : List X) → OnOk r (new ≡ replaced) → Q replaced → OnOk r (Q new)
 on_ok Q (Ok u) new replaced h made = subst Q (sym h) made

@@ -3,14 +3,13 @@ use Rattle.std.specs.Ordering.{is_gt}
 use Rattle.std.proofs.Common.{◌≡◌, ℕ, zero, suc, ◌+◌, ◌-◌, ◌<◌, ◌≤◌, length, arith, List, [], ◌∷◌, take, drop, get_or, Bool, true, false, cond, not, ◌&&◌, Option, Some, refl, sym, ap, ◌∙◌, Ordering, Less, Equal, Greater, is_lt, is_le, length-drop, true≢false}
 use Rattle.std.specs.List.{filter, take_while}
 use Rattle.std.proofs.lemmas.List.Sums.{take_while-cons}
-use Rattle.std.specs.List.Sorted.{IsPartitionPoint}
 use Rattle.std.specs.Cmp.{IsTotalOrder}
 use Rattle.std.proofs.lemmas.List.{get_or-drop}
 use Rattle.rangemap_core.specs.Ranges.{RangeKind, IsStorable, IsCanonical, overlapped}
 use Rattle.rangemap_core.specs.engine.Places.{place_cmp}
 use Rattle.rangemap_core.specs.engine.PlacedKinds.{place_total}
 use Rattle.rangemap_core.specs.laws.Orders.{Less-Equal, turn, lt_lt, lt_le, not_lt}
-use Rattle.rangemap_core.specs.engine.Shape.{starts_by_key}
+use Rattle.rangemap_core.specs.engine.Shape.{PassesUpTo, starts_by_key}
 use Rattle.rangemap_core.proofs.PlaceLemmas.{S, places, to_spaced, all_storable}
 use Rattle.rangemap_core.proofs.PlaceOrderLemmas.{le_trans, not_lt_ge}
 use Rattle.rangemap_core.proofs.SearchLemmas.{Every-at, apart_at, start_places_rise}
@@ -78,8 +77,7 @@ module _ {K X V : Type 0} {k : RangeKind K X} {end_place : X → Option K} {part
 
   module _ (q : X) where
     -- of the pairs that start no later than q does, all but the last end before it starts
-    pub ended_but_the_last : (list : List (X × V)) (near : ℕ) → IsCanonical k eq list → near ≤ length list
-        → IsPartitionPoint (λ a. starts_by_key k (k.start q) a ≡ true) (λ a. starts_by_key k (k.start q) a ≡ false) list near
+    pub ended_but_the_last : (list : List (X × V)) (near : ℕ) → IsCanonical k eq list → near ≤ length list → PassesUpTo (starts_by_key k (k.start q)) list near
         → (i : ℕ) (d : X × V) → 0 ≤ i → i < near - 1 → ends_by (S p eq) q (get_or list i d) ≡ true
     ended_but_the_last list near can le point i d z l =
         let a = (get_or list i d).0 in
@@ -91,8 +89,7 @@ module _ {K X V : Type 0} {k : RangeKind K X} {end_place : X → Option K} {part
         ap not below
 
     -- and none of the others does
-    pub not_ended_behind : (list : List (X × V)) (near : ℕ) → IsCanonical k eq list
-        → IsPartitionPoint (λ a. starts_by_key k (k.start q) a ≡ true) (λ a. starts_by_key k (k.start q) a ≡ false) list near
+    pub not_ended_behind : (list : List (X × V)) (near : ℕ) → IsCanonical k eq list → PassesUpTo (starts_by_key k (k.start q)) list near
         → (i : ℕ) (d : X × V) → near ≤ i → i < length list → ends_by (S p eq) q (get_or list i d) ≡ false
     not_ended_behind list near can point i d le l =
         let e = (get_or list i d).0 in
@@ -100,8 +97,7 @@ module _ {K X V : Type 0} {k : RangeKind K X} {end_place : X → Option K} {part
         ap (λ r. not (is_lt r)) (lt_lt o {a = Some (k.start q)} {b = Some (k.start e)} {c = end_place e} up (p.non_empty e (stored_at list can i d l)))
 
     -- of the pairs that start no later than the key of q's end, all but the last start before q ends
-    pub begun_but_the_last : IsAsked k q → (list : List (X × V)) (near : ℕ) → IsCanonical k eq list → near ≤ length list
-        → IsPartitionPoint (λ a. starts_by_key k (k.end q) a ≡ true) (λ a. starts_by_key k (k.end q) a ≡ false) list near
+    pub begun_but_the_last : IsAsked k q → (list : List (X × V)) (near : ℕ) → IsCanonical k eq list → near ≤ length list → PassesUpTo (starts_by_key k (k.end q)) list near
         → (i : ℕ) (d : X × V) → 0 ≤ i → i < near - 1 → starts_within (S p eq) q (get_or list i d) ≡ true
     begun_but_the_last asked list near can le point i d z l =
         let a = (get_or list i d).0 in
@@ -112,8 +108,7 @@ module _ {K X V : Type 0} {k : RangeKind K X} {end_place : X → Option K} {part
         p.away_from_end q (k.start a) asked (stored_at list can i d (omega arith)).start_is_key (Less-Equal before) ∙ ap is_lt before
 
     -- and none of the others does
-    pub not_begun_behind : IsAsked k q → (list : List (X × V)) (near : ℕ) → IsCanonical k eq list
-        → IsPartitionPoint (λ a. starts_by_key k (k.end q) a ≡ true) (λ a. starts_by_key k (k.end q) a ≡ false) list near
+    pub not_begun_behind : IsAsked k q → (list : List (X × V)) (near : ℕ) → IsCanonical k eq list → PassesUpTo (starts_by_key k (k.end q)) list near
         → (i : ℕ) (d : X × V) → near ≤ i → i < length list → starts_within (S p eq) q (get_or list i d) ≡ false
     not_begun_behind asked list near can point i d le l =
         let e = (get_or list i d).0 in
@@ -140,7 +135,7 @@ module _ {K X V : Type 0} {k : RangeKind K X} {end_place : X → Option K} {part
 
     -- from where the first partition point is, what overlaps are the first pairs, which start before q ends
     pub begun : IsAsked k q → (list : List (X × V)) (from : ℕ) → IsCanonical k eq list
-        → IsPartitionPoint (λ a. ends_by (S p eq) q a ≡ true) (λ a. ends_by (S p eq) q a ≡ false) list from
+        → PassesUpTo (ends_by (S p eq) q) list from
         → take_while (starts_before k end_place q) (drop from list) ≡ overlapped k list q
     begun asked list from can first =
         let f = λ (a : X × V). k.meets q a.0 in

@@ -1,15 +1,15 @@
 -- What a remove leaves: the canonical list of the erased function.
-use Rattle.std.proofs.Common.{arith, ◌≡◌, ℕ, zero, suc, ◌<◌, List, [], ◌∷◌, ◌++◌, length, take, drop, get_or, Option, append_assoc, Less, sym, ap, ◌∙◌, subst, refl, Bool, true, false, ◌&&◌, cond, filter, true≢false, is_lt}
+use Rattle.std.proofs.Common.{arith, ◌≡◌, ℕ, zero, suc, ◌-◌, ◌<◌, List, [], ◌∷◌, ◌++◌, length, take, drop, get_or, Option, append_assoc, Less, sym, ap, ◌∙◌, subst, refl, Bool, true, false, ◌&&◌, cond, filter, true≢false, is_lt}
 use Rattle.std.proofs.lemmas.List.{take-append-drop, get_or_default}
 use Rattle.std.specs.Option.{option_to_list}
 use Rattle.std.specs.Cmp.{IsEquivalence}
 use Rattle.rangemap_core.specs.engine.Endpoints.{IsPlaced, EndpointOf, asked}
 use Rattle.rangemap_core.specs.Ranges.{RangeKind, IsStorable, IsCanonical, value_at, erase, overlapped, IsCanonOf}
-use Rattle.rangemap_core.specs.engine.Stretch.{IsOverlap, IsLeftRest, IsRightRest}
+use Rattle.rangemap_core.specs.engine.Stretch.{IsOverlap, IsLeftRest, IsPieceAfter, IsPieceBefore, IsRightRest}
 use Rattle.rangemap_core.proofs.PlaceLemmas.{S, places, AreStorable, all_storable, storable_here, to_spaced, to_erase}
 use Rattle.rangemap_core.proofs.InsertLemmas.{Every-taken, Every-dropped}
 use Rattle.rangemap_core.proofs.ListLemmas.{Every-append}
-use Rattle.rangemap_core.proofs.RestLemmas.{nothing_left, nothing_right, rests_spaced, rests_erase, overlaps_first}
+use Rattle.rangemap_core.proofs.RestLemmas.{left_rest, nothing_left, nothing_right, overlaps_first, rests_erase, rests_spaced, right_rest}
 
 filtered_none : {X : Type 0} (test : X → Bool) (xs : List X) → filter test xs ≡ [] → (i : ℕ) (d : X) → i < length xs → test (get_or xs i d) ≡ true → ⊥
 filtered_none test [] h i d l t = absurd (omega arith)
@@ -40,7 +40,7 @@ module _ {K X V : Type 0} {k : RangeKind K X} {end_place : X → Option K} {part
       (nothing_right (S p eq) (places p eq) e xs (to_spaced p eq xs c) r (p.non_empty r stored) start end ov h)
       (Every-taken _ start xs (all_storable p eq xs c)) (Every-dropped _ end xs (all_storable p eq xs c)))
 
-  pub pieces_are_canon : (left right : Option (X × V)) → IsLeftRest (S p eq) xs (take start xs ++ option_to_list left) r → IsRightRest (S p eq) xs (option_to_list right ++ drop end xs) r
+  pieces_are_canon : (left right : Option (X × V)) → IsLeftRest (S p eq) xs (take start xs ++ option_to_list left) r → IsRightRest (S p eq) xs (option_to_list right ++ drop end xs) r
       → AreStorable p eq (option_to_list left) → AreStorable p eq (option_to_list right)
       → IsCanonOf k eq (erase k (value_at k xs) r) (take start xs ++ (option_to_list left ++ option_to_list right) ++ drop end xs)
   pieces_are_canon left right is_left is_right l m =
@@ -50,6 +50,17 @@ module _ {K X V : Type 0} {k : RangeKind K X} {end_place : X → Option K} {part
     where
       regrouped : (take start xs ++ option_to_list left) ++ (option_to_list right ++ drop end xs) ≡ take start xs ++ (option_to_list left ++ option_to_list right) ++ drop end xs
       regrouped = simp append_assoc
+
+  -- the first pair that overlaps r is cut down to what lies before it, and the last to what lies after it
+  pub cut_is_canon : start < end → (a b : X × V) → a ≡ get_or xs start a → b ≡ get_or xs (end - 1) b → (left right : Option (X × V))
+      → IsPieceBefore (S p eq) a r left → IsPieceAfter (S p eq) b r right → AreStorable p eq (option_to_list left) → AreStorable p eq (option_to_list right)
+      → IsCanonOf k eq (erase k (value_at k xs) r) (take start xs ++ (option_to_list left ++ option_to_list right) ++ drop end xs)
+  cut_is_canon some a b first last left right is_left is_right l m =
+      let spaced = to_spaced p eq xs c in
+      let full = p.non_empty r stored in
+      pieces_are_canon left right
+      (left_rest (S p eq) (places p eq) e xs spaced r full start end ov a some first left is_left)
+      (right_rest (S p eq) (places p eq) e xs spaced r full start end ov b some last right is_right) l m
 
   -- where a pair of the list overlaps r, the query finds it
   pub meets_none : overlapped k xs r ≡ [] → start < end → ⊥

@@ -1,10 +1,10 @@
 pub mod Ranges
 pub use Rattle.rangemap_steps.specs.Steps
+pub mod Touch
 pub mod Clones
 pub mod Incoming
-pub mod Histories
-pub mod MapHistories
-pub mod Runs
+pub mod ListOrder
+pub mod Hashes
 pub mod Items
 pub mod engine
 pub mod laws

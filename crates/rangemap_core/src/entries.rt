@@ -1,36 +1,58 @@
-//! A canonical list of pairs of a range and a value, for any kind of range. Each map is a thin wrapper of one.
+//! A canonical list of pairs of a range and a value, for any kind of range. Each map is a thin
+//! wrapper of one.
 //!
-//! The pairs stand in one vector, in order. Whatever looks for a key or for a place to change goes by `search`, which halves and
-//! sees stored starts alone; whether the range that it finds has the key is told by that range's end. A change makes every
-//! clone and all room that it needs before it touches the list, so that one that is refused leaves all as it was.
-ghost use Rattle.std.specs.Prelude.{◌≡◌, ◌*◌, ◌^◌, ◌<◌, ◌≤◌, [], length, map, nat_eq};
-ghost use Rattle.std.specs.Option.{option_copied, option_map};
-ghost use Rattle.rangemap_core.specs.Ranges.{AreGaps, IsCanonical, covering, value_at};
+//! The pairs stand in one vector, in order. Whatever looks for a key or for a place to change goes
+//! by `search`, which halves and sees stored starts alone; whether the range that it finds has the
+//! key is told by that range's end. A change makes every clone and all room that it needs before it
+//! touches the list, so that one that is refused leaves all as it was.
+ghost use Rattle.std.specs.Prelude.{◌≡◌, ◌*◌, ◌^◌, ◌<◌, ◌≤◌, [], length, map, nat_eq, nat_lt};
+ghost use Rattle.std.specs.Option.{option_copied};
+ghost use Rattle.rangemap_core.specs.Ranges.{AreGaps, IsCanonical, covering, overlapped};
+ghost use Rattle.rangemap_core.specs.engine.Shape.{shape_of};
+ghost use Rattle.rangemap_core.specs.engine.Stretch.{IsOverlap};
 
 use crate::gaps::Gaps;
+use crate::iter::Iter;
 use crate::kind::Kind;
-use crate::search::starts_up_to;
+use crate::overlapping::{Overlapping, Reach, overlap, overlaps};
+use crate::probe::Probe;
+use crate::search::count_up_to;
 use std::alloc::Allocator;
 use std::marker::{Model, PhantomData};
 
 mod collect;
 mod compare;
+mod hash;
 mod insert;
 mod remove;
-#[cfg(test)]
-mod tests;
 
-/// Pairs of a range and a value, in order. `Q` is the kind of range `R` over keys `K`. Contracts see the list of the pairs.
+/// Pairs of a range and a value, in order. `Q` is the kind of range `R` over keys `K`. Contracts
+/// see the list of the pairs.
 ///
-/// The list is canonical: no range shares a key with another, and no two that touch have equal values. Each map keeps that as
-/// its invariant, and the methods here ask for it and leave it. (Were it kept here, this type would need the bound on `Q`, and
-/// the checker covers no call that hands over by value what holds a type with such a bound.)
+/// The list is canonical: no range shares a key with another, and no two that touch have equal
+/// values. Each map keeps that as its invariant, and the methods here ask for it and leave it.
+/// (Were it kept here, this type would need the bound on `Q`, and the checker covers no call that
+/// hands over by value what holds a type with such a bound.)
+///
+/// Of *n* pairs, *k* meet the range that a call is given:
+///
+/// | Call | Time | Memory |
+/// |---|---|---|
+/// | `new`, `len`, `is_empty`, `allocator`, `as_slice`, `iter`, `into_iter` | *O*(1) | none |
+/// | `covering`, `overlaps` | *O*(log *n*) | none |
+/// | `overlapping`, `gaps` | *O*(log *n*), and *O*(*k*) for all items | none; clones for a gap |
+/// | `insert`, `remove` | *O*(log *n* + *k*), and *O*(*n*) to move pairs | growth, clones |
+/// | `extend`, `from_iter`, `from_array` | that of an `insert` for each item | growth, clones |
+/// | `clear` | *O*(*n*), as each drop | none; the room is kept |
+/// | `clone` | *O*(*n*) | one list, clones |
+/// | `==` | *O*(*n*), *O*(1) where the numbers differ | none |
 pub struct Entries<Q, K, R, V, A: Allocator> {
     pairs: Vec<(R, V), A>,
     kind: PhantomData<(Q, K)>,
 }
 
-// By hand: of a derived drop the checker says nothing yet where a key borrows, since no field names the key's lifetime.
+// By hand: of a derived drop the checker says nothing yet where a key borrows, since no field names
+// the key's lifetime.
 impl<Q, K, R: Drop, V: Drop, A: Allocator> Drop for Entries<Q, K, R, V, A> {
     fn drop(self) {
         let Entries { pairs: _, kind: _ } = self;
@@ -46,7 +68,7 @@ impl<Q, K, R, V, A: Allocator> Model for Entries<Q, K, R, V, A> {
 }
 
 impl<Q: Kind<K, R>, K: Ord + Clone, R, V: Eq, A: Allocator> Entries<Q, K, R, V, A> {
-    /// No pairs. This takes no memory: `alloc` is kept for what the list grows to.
+    /// Returns a list of no pairs, which takes no memory: `alloc` is kept for what it grows to.
     pub fn new(alloc: A) -> Self
         ensures { result ≡ [] }
     {
@@ -56,37 +78,45 @@ impl<Q: Kind<K, R>, K: Ord + Clone, R, V: Eq, A: Allocator> Entries<Q, K, R, V, 
         }
     }
 
-    /// How many pairs there are. It takes the same time for any list.
+    /// Returns the number of pairs.
     pub fn len(&self) -> usize
         ensures { result ≡ length self.now }
     {
         self.pairs.len()
     }
 
-    /// Whether there are no pairs.
+    /// Returns whether there are no pairs.
     pub fn is_empty(&self) -> bool
         ensures { result ≡ nat_eq (length self.now) 0 }
     {
         self.pairs.is_empty()
     }
 
-    /// What the memory comes from.
+    /// Returns what the memory comes from.
     pub fn allocator(&self) -> &A {
         self.pairs.allocator()
     }
 
-    /// The pairs, in order, where they stand.
+    /// Returns the pairs, in order, where they stand.
     pub fn as_slice(&self) -> &[(R, V)]
         ensures { result.now ≡ self.now }
     {
         &self.pairs
     }
 
-    /// The pair whose range has the key, if there is one, and how many starts were asked for to find it. Every lookup is this
-    /// call.
+    /// Returns the pairs, in order, from both ends.
+    pub fn iter(&self) -> Iter<'_, R, V>
+        ensures { result ≡ self.now }
+    {
+        Iter::over(self.as_slice())
+    }
+
+    /// Returns the pair whose range has the key, if there is one, and how many starts were asked
+    /// for to find it. Every lookup is one call of this.
     ///
-    /// Of n pairs it asks for no start where n is 0, and else for one more than n can be halved: 1 of 1, 4 of 8, 10 of 1000.
-    /// Then it looks at one pair.
+    /// The search is handed the starts alone, through a `Probe` that counts. Of *n* pairs it asks
+    /// for no start where *n* is 0, and else for one more than *n* can be halved: 1 of 1, 4 of 8,
+    /// 10 of 1000. Then the end of one pair is looked at.
     pub fn covering(&self, key: &K) -> (Option<&(R, V)>, usize)
         requires { IsCanonical Q.kind V.eq self.now }
         ensures pair { option_copied result.0 ≡ covering Q.kind self.now key.now }
@@ -96,7 +126,9 @@ impl<Q: Kind<K, R>, K: Ord + Clone, R, V: Eq, A: Allocator> Entries<Q, K, R, V, 
     {
         Q::known(key);
         let pairs = self.pairs.as_slice();
-        let (count, asked) = starts_up_to::<Q, K, R, V>(pairs, key);
+        let mut probe: Probe<'_, Q, K, R, V> = Probe::new(pairs);
+        let count = count_up_to(&mut probe, key);
+        let asked = probe.asked();
         if count == 0 {
             return (None, asked);
         }
@@ -108,18 +140,33 @@ impl<Q: Kind<K, R>, K: Ord + Clone, R, V: Eq, A: Allocator> Entries<Q, K, R, V, 
         }
     }
 
-    /// The value at the key, if a range has it: that of the pair that `covering` answers, at the same cost.
-    pub fn get(&self, key: &K) -> Option<&V>
+    // The places of the pairs that overlap a range which is to be changed: from the first up to the
+    // second.
+    fn overlap(&self, range: &R) -> (usize, usize)
         requires { IsCanonical Q.kind V.eq self.now }
-        ensures { option_copied result ≡ value_at Q.kind self.now key.now }
+        ensures { IsOverlap (shape_of Q.kind Q.end_place V.eq) self.now range.now result.0 result.1 }
     {
-        match self.covering(key).0 {
-            Some(pair) => Some(&pair.1),
-            None => None,
-        }
+        overlap::<Q, K, R, V>(self.as_slice(), range, Reach::Near)
     }
 
-    /// The parts of the range that no pair covers, in order, for any range. It searches once, and takes no memory.
+    /// Returns the pairs that overlap the query, which may be empty or reversed, in order and from
+    /// both ends.
+    pub fn overlapping<'a>(&'a self, query: &'a R) -> Overlapping<'a, R, V>
+        requires { IsCanonical Q.kind V.eq self.now }
+        ensures { result ≡ overlapped Q.kind self.now query.now }
+    {
+        Overlapping::new::<Q, K>(self.as_slice(), query)
+    }
+
+    /// Returns whether a pair overlaps the query.
+    pub fn overlaps(&self, query: &R) -> bool
+        requires { IsCanonical Q.kind V.eq self.now }
+        ensures { result ≡ nat_lt 0 (length (overlapped Q.kind self.now query.now)) }
+    {
+        overlaps::<Q, K, R, V>(self.as_slice(), query)
+    }
+
+    /// Returns the parts of the range that no pair covers, in order, for any range.
     pub fn gaps<'a>(&'a self, outer_range: &'a R) -> Gaps<'a, Q, K, R, V>
         requires { IsCanonical Q.kind V.eq self.now }
         ensures { AreGaps Q.kind (map (λ pair. pair.0) self.now) outer_range.now result }
@@ -129,7 +176,7 @@ impl<Q: Kind<K, R>, K: Ord + Clone, R, V: Eq, A: Allocator> Entries<Q, K, R, V, 
 }
 
 impl<Q: Kind<K, R>, K: Ord + Clone, R: Drop, V: Eq + Drop, A: Allocator> Entries<Q, K, R, V, A> {
-    /// Lets all pairs go, and keeps the memory that they stood in. It takes time by their number.
+    /// Drops all pairs, and keeps the memory that they stood in.
     pub fn clear(&mut self)
         ensures { self.new ≡ [] }
     {

@@ -6,7 +6,7 @@ ghost use Rattle.rangemap_core.specs.Clones.{KeysCloneFaithfully};
 ghost use Rattle.rangemap_core.specs.Items.{GivesRange, TakesRange};
 ghost use Rattle.rangemap_core.specs.Ranges.{AreGaps, IsCanonical};
 
-use crate::kind::{Endpoint, Kind};
+use crate::kind::{Endpoint, Kind, known_ends};
 use crate::overlapping::{overlapping_tail, split_begun};
 use std::alloc::AllocError;
 use std::iter::Iterator;
@@ -17,7 +17,8 @@ use std::marker::{Model, PhantomData};
 pub struct Gaps<'a, Q: Kind<K, R>, K: Ord + Clone, R, V> {
     // Where the next gap may start: the start of the outer range, or the end of a stored one.
     from: Endpoint<'a, R>,
-    // The pairs behind it. Those that overlap the outer range come first: they start before it ends.
+    // The pairs behind it. Those that overlap the outer range come first: they start before it
+    // ends.
     pairs: &'a [(R, V)],
     outer_range: &'a R,
     is_done: bool,
@@ -34,15 +35,14 @@ impl<'a, Q: Kind<K, R>, K: Ord + Clone, R, V> Model for Gaps<'a, Q, K, R, V> {
 }
 
 impl<'a, Q: Kind<K, R>, K: Ord + Clone, R, V> Gaps<'a, Q, K, R, V> {
-    /// The gaps that a canonical list leaves in the range, which may be empty or reversed.
-    pub fn new(pairs: &'a [(R, V)], outer_range: &'a R) -> Self
+    /// Returns the gaps that a canonical list leaves in the range, which may be empty or reversed.
+    pub(crate) fn new(pairs: &'a [(R, V)], outer_range: &'a R) -> Self
     where
         V: Eq,
         requires { IsCanonical Q.kind V.eq pairs.now }
         ensures { AreGaps Q.kind (map (λ pair. pair.0) pairs.now) outer_range.now result }
     {
-        Q::known(Q::start(outer_range));
-        Q::known(Q::end(outer_range));
+        known_ends::<Q, K, R>(outer_range);
         Gaps {
             from: Endpoint::Start(outer_range),
             pairs: overlapping_tail::<Q, K, R, V>(pairs, outer_range),
@@ -52,7 +52,11 @@ impl<'a, Q: Kind<K, R>, K: Ord + Clone, R, V> Gaps<'a, Q, K, R, V> {
         }
     }
 
-    /// The next gap, made of clones. Where a clone is refused, nothing changes.
+    /// Returns the next gap, made of clones.
+    ///
+    /// # Errors
+    ///
+    /// A clone was refused. Nothing changed then, so the same gap may be asked for again.
     pub fn try_next(&mut self) -> Result<Option<R>, AllocError>
         requires { KeysCloneFaithfully K.is_clone K.cmp }
         ensures ok { IfOk result (λ item. TakesRange Q.kind self.old item self.new) }

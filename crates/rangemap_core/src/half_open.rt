@@ -4,7 +4,7 @@ ghost use Rattle.rangemap_core.specs.engine.Endpoints.{endpoint_of};
 ghost use Rattle.rangemap_core.specs.engine.EndpointKinds.{half_open_key};
 
 use crate::kind::{Endpoint, Interval, Kind};
-use crate::std_ext::compare_end_to_start;
+use crate::std_ext::{Touch, touch_test};
 use std::alloc::AllocError;
 use std::cmp::Ordering;
 use std::ops::Range;
@@ -69,8 +69,8 @@ impl<K: Ord + Clone> Kind<K, Range<K>> for HalfOpen {
 
     ghost placed = { half_open_placed K.total };
 
-    fn compare_end_to_start(first: &Range<K>, second: &Range<K>) -> Ordering {
-        compare_end_to_start(first, second)
+    fn touch_test(first: &Range<K>, second: &Range<K>) -> Touch {
+        touch_test(first, second)
     }
 
     fn is_before(from: Endpoint<'_, Range<K>>, to: Endpoint<'_, Range<K>>) -> bool

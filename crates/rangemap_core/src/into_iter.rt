@@ -9,8 +9,8 @@ use std::iter::{DoubleEndedIterator, Iterator};
 use std::marker::Model;
 use std::vec;
 
-/// The pairs of a range and a value that are still to come, from both ends. It owns them, and drops those that are not taken.
-/// Once an end has answered none, both ends do from then on.
+/// The pairs of a range and a value that are still to come, from both ends. It owns them, and drops
+/// those that are not taken. Once an end has answered none, both ends do from then on.
 #[derive(Drop)]
 pub struct IntoIter<R, V, A: Allocator> {
     pairs: vec::IntoIter<(R, V), A>,
@@ -26,8 +26,8 @@ impl<R, V, A: Allocator> Model for IntoIter<R, V, A> {
 }
 
 impl<R, V, A: Allocator> IntoIter<R, V, A> {
-    /// Over the pairs of a list. It takes no memory.
-    pub fn over(pairs: Vec<(R, V), A>) -> IntoIter<R, V, A>
+    /// Returns the pairs of a list, none of which was taken yet.
+    pub(crate) fn over(pairs: Vec<(R, V), A>) -> IntoIter<R, V, A>
         ensures { result ≡ pairs.items }
     {
         IntoIter {

@@ -1,17 +1,16 @@
 //! The pairs that overlap a range, from both ends.
 ghost use Rattle.std.specs.Prelude.{◌≡◌, ◌<◌, ◌-◌, ◌≤◌, ◌∷◌, [], IfSome, MatchOption, None as NoneWord, true, false, drop, length, nat_lt, take, take_while};
 ghost use Rattle.std.specs.List.{AllWithin};
-ghost use Rattle.std.specs.List.Sorted.{IsPartitionPoint};
 ghost use Rattle.std.specs.Iterator.{UpTo, at_most};
 ghost use Rattle.std.specs.Iterator.SizeHint.{IsWithinCount};
 ghost use Rattle.std.specs.Map.Iter.{TakesFirst, TakesLast, deref_pair};
 ghost use Rattle.rangemap_core.specs.engine.Endpoints.{starts_before};
 ghost use Rattle.rangemap_core.specs.Ranges.{IsCanonical, overlapped};
-ghost use Rattle.rangemap_core.specs.engine.Shape.{shape_of};
+ghost use Rattle.rangemap_core.specs.engine.Shape.{PassesUpTo, shape_of};
 ghost use Rattle.rangemap_core.specs.engine.Stretch.{IsOverlap, ends_by, starts_within};
 
 use crate::iter::Iter;
-use crate::kind::{Endpoint, Kind};
+use crate::kind::{Endpoint, Kind, known_ends};
 use crate::partition_point::{Test, partition_point_from, partition_point_near};
 use crate::search::starts_up_to;
 use std::iter::{DoubleEndedIterator, Iterator};
@@ -32,8 +31,9 @@ impl<'a, R, V> Model for Overlapping<'a, R, V> {
 }
 
 impl<'a, R, V: Eq> Overlapping<'a, R, V> {
-    /// The pairs of a canonical list that overlap the query, which may be empty or reversed.
-    pub fn new<Q: Kind<K, R>, K: Ord + Clone>(pairs: &'a [(R, V)], query: &R) -> Self
+    /// Returns the pairs of a canonical list that overlap the query, which may be empty or
+    /// reversed.
+    pub(crate) fn new<Q: Kind<K, R>, K: Ord + Clone>(pairs: &'a [(R, V)], query: &R) -> Self
         requires { IsCanonical Q.kind V.eq pairs.now }
         ensures { result ≡ overlapped Q.kind pairs.now query.now }
     {
@@ -72,8 +72,8 @@ impl<'a, R, V> DoubleEndedIterator for Overlapping<'a, R, V> {
     }
 }
 
-/// Whether a pair of a canonical list overlaps the query.
-pub fn overlaps<Q: Kind<K, R>, K: Ord + Clone, R, V: Eq>(pairs: &[(R, V)], query: &R) -> bool
+/// Returns whether a pair of a canonical list overlaps the query.
+pub(crate) fn overlaps<Q: Kind<K, R>, K: Ord + Clone, R, V: Eq>(pairs: &[(R, V)], query: &R) -> bool
     requires { IsCanonical Q.kind V.eq pairs.now }
     ensures { result ≡ nat_lt 0 (length (overlapped Q.kind pairs.now query.now)) }
 {
@@ -81,8 +81,8 @@ pub fn overlaps<Q: Kind<K, R>, K: Ord + Clone, R, V: Eq>(pairs: &[(R, V)], query
     split_begun::<Q, K, R, V>(tail, query).is_some()
 }
 
-// The pairs of a canonical list from the first that overlaps the query on. Of these the ones that overlap it come first: those
-// that start before it ends.
+// The pairs of a canonical list from the first that overlaps the query on. Of these the ones that
+// overlap it come first: those that start before it ends.
 pub(crate) fn overlapping_tail<'a, Q: Kind<K, R>, K: Ord + Clone, R, V: Eq>(
     pairs: &'a [(R, V)],
     query: &R,
@@ -90,8 +90,7 @@ pub(crate) fn overlapping_tail<'a, Q: Kind<K, R>, K: Ord + Clone, R, V: Eq>(
     requires { IsCanonical Q.kind V.eq pairs.now }
     ensures { take_while (starts_before Q.kind Q.end_place query.now) result.now ≡ overlapped Q.kind pairs.now query.now }
 {
-    Q::known(Q::start(query));
-    Q::known(Q::end(query));
+    known_ends::<Q, K, R>(query);
     &pairs[overlap_start::<Q, K, R, V>(pairs, query)..]
 }
 
@@ -112,15 +111,15 @@ pub(crate) fn split_begun<'a, Q: Kind<K, R>, K: Ord + Clone, R, V>(
 }
 
 /// How far the end of an overlap is thought to be from its start.
-pub enum Reach {
+pub(crate) enum Reach {
     /// A few pairs, as with most changes: the end is looked for pair by pair first.
     Near,
     /// Any number of pairs, as with queries: the end is searched for at once.
     Far,
 }
 
-/// The places of the pairs that overlap the query: from the first up to the second.
-pub fn overlap<Q: Kind<K, R>, K: Ord + Clone, R, V: Eq>(
+/// Returns the places of the pairs that overlap the query: from the first up to the second.
+pub(crate) fn overlap<Q: Kind<K, R>, K: Ord + Clone, R, V: Eq>(
     pairs: &[(R, V)],
     query: &R,
     reach: Reach,
@@ -129,26 +128,25 @@ pub fn overlap<Q: Kind<K, R>, K: Ord + Clone, R, V: Eq>(
     ensures found { IsOverlap (shape_of Q.kind Q.end_place V.eq) pairs.now query.now result.0 result.1 }
     ensures part { take (result.1 - result.0) (drop result.0 pairs.now) ≡ overlapped Q.kind pairs.now query.now }
 {
-    Q::known(Q::start(query));
-    Q::known(Q::end(query));
+    known_ends::<Q, K, R>(query);
     let start = overlap_start::<Q, K, R, V>(pairs, query);
     (start, overlap_end::<Q, K, R, V>(pairs, query, start, reach))
 }
 
 // The place of the first pair that ends after the query starts.
 //
-// Of the pairs that start no later than the query, only the last can reach past its start: a search among the starts and one
-// look find the place.
+// Of the pairs that start no later than the query, only the last can reach past its start: a search
+// among the starts and one look find the place.
 fn overlap_start<Q: Kind<K, R>, K: Ord + Clone, R, V: Eq>(pairs: &[(R, V)], query: &R) -> usize
     requires { IsCanonical Q.kind V.eq pairs.now }
     ensures bound { result ≤ length pairs.now }
-    ensures point { IsPartitionPoint (λ a. ends_by (shape_of Q.kind Q.end_place V.eq) query.now a ≡ true) (λ a. ends_by (shape_of Q.kind Q.end_place V.eq) query.now a ≡ false) pairs.now result }
+    ensures point { PassesUpTo (ends_by (shape_of Q.kind Q.end_place V.eq) query.now) pairs.now result }
 {
     let ended: EndsBefore<'_, Q, K, R> = EndsBefore {
         query,
         kind: PhantomData,
     };
-    let (near_start, _) = starts_up_to::<Q, K, R, V>(pairs, Q::start(query));
+    let near_start = starts_up_to::<Q, K, R, V>(pairs, Q::start(query));
     partition_point_near(pairs, &ended, near_start)
 }
 
@@ -201,8 +199,9 @@ fn near_end<Q: Kind<K, R>, K: Ord + Clone, R, V: Eq>(
 
 // The end of an overlap, by a search.
 //
-// Of the pairs that start no later than the query's end, only the last can start there, and it overlaps only where the end is a
-// point of the query. So a search among the starts and one look find the end.
+// Of the pairs that start no later than the query's end, only the last can start there, and it
+// overlaps only where the end is a point of the query. So a search among the starts and one look
+// find the end.
 fn searched_end<Q: Kind<K, R>, K: Ord + Clone, R, V: Eq>(
     pairs: &[(R, V)],
     query: &R,
@@ -215,13 +214,12 @@ fn searched_end<Q: Kind<K, R>, K: Ord + Clone, R, V: Eq>(
     ensures begun { AllWithin (λ b. starts_within (shape_of Q.kind Q.end_place V.eq) query.now b ≡ true) pairs.now start result }
     ensures later { AllWithin (λ b. starts_within (shape_of Q.kind Q.end_place V.eq) query.now b ≡ false) pairs.now result (length pairs.now) }
 {
-    Q::known(Q::start(query));
-    Q::known(Q::end(query));
+    known_ends::<Q, K, R>(query);
     let begun: StartsBefore<'_, Q, K, R> = StartsBefore {
         query,
         kind: PhantomData,
     };
-    let (near_end, _) = starts_up_to::<Q, K, R, V>(pairs, Q::end(query));
+    let near_end = starts_up_to::<Q, K, R, V>(pairs, Q::end(query));
     partition_point_near(pairs, &begun, near_end).max(start)
 }
 

@@ -1,7 +1,8 @@
 //! The place in a list where a test stops to pass, looked for from a place near it.
 ghost use Rattle.std.specs.Prelude.{◌≡◌, ◌-◌, ◌<◌, ◌≤◌, Bool, true, false, length};
 ghost use Rattle.std.specs.List.{All, AllWithin};
-ghost use Rattle.std.specs.List.Sorted.{IsPartitionPoint, IsPartitionedBy};
+ghost use Rattle.std.specs.List.Sorted.{IsPartitionedBy};
+ghost use Rattle.rangemap_core.specs.engine.Shape.{PassesUpTo};
 
 /// A test of values.
 pub trait Test<X> {
@@ -16,17 +17,17 @@ pub trait Test<X> {
         ensures { result ≡ passes self.now x.now };
 }
 
-/// How many values of the list pass, where that is `near` or one less.
+/// Returns how many values of the list pass, where that is `near` or one less.
 ///
-/// It takes one look, and compiles to no branch on it: where a query begins one is as likely as the other, so a branch would be
-/// guessed wrong every other time.
+/// It takes one look, and compiles to no branch on it: where a query begins one is as likely as the
+/// other, so a branch would be guessed wrong every other time.
 pub fn partition_point_near<X, T: Test<X>>(list: &[X], test: &T, near: usize) -> usize
     requires applies { All (T.applies test.now) list.now }
     requires in_bounds { near ≤ length list.now }
     requires passed { AllWithin (λ x. T.passes test.now x ≡ true) list.now 0 (near - 1) }
     requires failed { AllWithin (λ x. T.passes test.now x ≡ false) list.now near (length list.now) }
     ensures bound { result ≤ length list.now }
-    ensures point { IsPartitionPoint (λ x. T.passes test.now x ≡ true) (λ x. T.passes test.now x ≡ false) list.now result }
+    ensures point { PassesUpTo (T.passes test.now) list.now result }
 {
     if near == 0 {
         return 0;
@@ -34,7 +35,7 @@ pub fn partition_point_near<X, T: Test<X>>(list: &[X], test: &T, near: usize) ->
     near - usize::from(!test.test(&list[near - 1]))
 }
 
-/// How far on from a place the values pass.
+/// Returns how far on from a place the values pass.
 pub fn partition_point_from<X, T: Test<X>>(list: &[X], test: &T, from: usize) -> usize
     requires parted { IsPartitionedBy (T.passes test.now) list.now }
     requires applies { All (T.applies test.now) list.now }

@@ -1,7 +1,8 @@
 //! Stored starts, lent one at a time and counted.
 //!
-//! A search that is given a `Probe` and a key sees nothing else of the list: neither an end, nor a value, nor a start
-//! that it did not ask for. So what the probe counted is all that the search has seen.
+//! A search that is given a `Probe` and a key sees nothing else of the list: neither an end, nor a
+//! value, nor a start that it did not ask for. So what the probe counted is all that the search has
+//! seen.
 ghost use Rattle.std.specs.Prelude.{◌≡◌, ◌+◌, ◌^◌, ◌<◌, length, slice_get};
 ghost use Rattle.rangemap_core.specs.engine.Shape.{starts_of};
 
@@ -26,7 +27,7 @@ impl<'a, Q: Kind<K, R>, K: Ord + Clone, R, V> Model for Probe<'a, Q, K, R, V> {
 }
 
 impl<'a, Q: Kind<K, R>, K: Ord + Clone, R, V> Probe<'a, Q, K, R, V> {
-    /// The starts of the pairs, of which none was asked for yet.
+    /// Returns the starts of the pairs, of which none was asked for yet.
     pub fn new(pairs: &'a [(R, V)]) -> Self
         ensures starts { result.0 ≡ starts_of Q.kind pairs.now }
         ensures fresh { result.1 ≡ 0 }
@@ -38,7 +39,7 @@ impl<'a, Q: Kind<K, R>, K: Ord + Clone, R, V> Probe<'a, Q, K, R, V> {
         }
     }
 
-    /// How many starts are stored. This asks for none.
+    /// Returns how many starts are stored. This asks for none.
     pub fn len(&self) -> usize
         ensures len { result ≡ length self.now.0 }
         ensures fits { result < 2 ^ 64 }
@@ -58,7 +59,7 @@ impl<'a, Q: Kind<K, R>, K: Ord + Clone, R, V> Probe<'a, Q, K, R, V> {
         start_of::<Q, K, R, V>(self.pairs, at)
     }
 
-    /// How many starts were asked for.
+    /// Returns how many starts were asked for.
     pub fn asked(&self) -> usize
         ensures { result ≡ self.now.1 }
     {

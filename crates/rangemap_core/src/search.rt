@@ -1,39 +1,32 @@
 //! The search for a key among stored starts, by halving.
 ghost use Rattle.std.specs.Prelude.{◌≡◌, ◌+◌, ◌*◌, ◌^◌, ◌<◌, ◌≤◌, true, false, length};
 ghost use Rattle.std.specs.List.{All};
-ghost use Rattle.std.specs.List.Sorted.{IsPartitionPoint, IsPartitionedBy};
+ghost use Rattle.std.specs.List.Sorted.{IsPartitionedBy};
 ghost use Rattle.rangemap_core.specs.Ranges.{IsCanonical};
-ghost use Rattle.rangemap_core.specs.engine.Shape.{is_up_to, starts_by_key};
+ghost use Rattle.rangemap_core.specs.engine.Shape.{PassesUpTo, is_up_to, starts_by_key};
 
 use crate::kind::Kind;
 use crate::probe::Probe;
 use std::cmp::Ordering;
 
-/// How many of the pairs start no later than the key, and how many starts were asked for to tell. The last of these
-/// pairs, if there is one, stands one place before the count, and no other pair can have the key.
-///
-/// The pairs are a canonical list. Of n pairs none is asked for where n is 0, and else 1 more than the number of times that n
-/// can be halved.
+/// Returns how many of the pairs of a canonical list start no later than the key.
 pub fn starts_up_to<'a, Q: Kind<K, R>, K: Ord + Clone + 'a, R: 'a, V: Eq + 'a>(
     pairs: &'a [(R, V)],
     key: &K,
-) -> (usize, usize)
+) -> usize
     requires { IsCanonical Q.kind V.eq pairs.now }
-    ensures bound { result.0 ≤ length pairs.now }
-    ensures point { IsPartitionPoint (λ pair. starts_by_key Q.kind key.now pair ≡ true) (λ pair. starts_by_key Q.kind key.now pair ≡ false) pairs.now result.0 }
-    ensures none_asked { length pairs.now ≡ 0 → result.1 ≡ 0 }
-    ensures asked { 0 < length pairs.now → 1 ≤ result.1 }
-    ensures few_asked { 0 < length pairs.now → 2 ^ result.1 ≤ 2 * length pairs.now }
+    ensures bound { result ≤ length pairs.now }
+    ensures point { PassesUpTo (starts_by_key Q.kind key.now) pairs.now result }
 {
     let mut probe: Probe<'a, Q, K, R, V> = Probe::new(pairs);
-    let count = count_up_to(&mut probe, key);
-    (count, probe.asked())
+    count_up_to(&mut probe, key)
 }
 
-/// How many starts are not after the key. The probe is fresh, and counts what is asked.
+/// Returns how many starts are not after the key. The probe is fresh, and counts what is asked.
 ///
-/// The count is made of powers of two, from the greatest that is no more than the number of starts down to 1: each is added
-/// where the start before the sum is not after the key. That takes one ask for each power.
+/// The count is made of powers of two, from the greatest that is no more than the number of starts
+/// down to 1: each is added where the start before the sum is not after the key. That takes one ask
+/// for each power.
 pub fn count_up_to<'a, Q: Kind<K, R>, K: Ord + Clone + 'a, R, V>(
     probe: &mut Probe<'a, Q, K, R, V>,
     key: &K,
@@ -42,7 +35,7 @@ pub fn count_up_to<'a, Q: Kind<K, R>, K: Ord + Clone + 'a, R, V>(
     requires fresh { probe.old.1 ≡ 0 }
     ensures starts { probe.new.0 ≡ probe.old.0 }
     ensures bound { result ≤ length probe.old.0 }
-    ensures point { IsPartitionPoint (λ start. is_up_to Q.kind.cmp key.now start ≡ true) (λ start. is_up_to Q.kind.cmp key.now start ≡ false) probe.old.0 result }
+    ensures point { PassesUpTo (is_up_to Q.kind.cmp key.now) probe.old.0 result }
     ensures none_asked { length probe.old.0 ≡ 0 → probe.new.1 ≡ 0 }
     ensures asked { 0 < length probe.old.0 → 1 ≤ probe.new.1 }
     ensures few_asked { 0 < length probe.old.0 → 2 ^ probe.new.1 ≤ 2 * length probe.old.0 }
@@ -60,9 +53,10 @@ pub fn count_up_to<'a, Q: Kind<K, R>, K: Ord + Clone + 'a, R, V>(
     let mut half = whole;
     'halves: while 1 < half {
         half /= 2;
-        // This never turns. In a loop that has no other within, LLVM makes a branch of the conditional move below.
+        // This never turns. In a loop that has no other within, LLVM makes a branch of the
+        // conditional move below.
         'fits: while len < base + half {
-            half /= 2;
+            half >>= 1;
         }
         let next = base + half;
         if is_up_to::<Q, K, R>(probe.start(next - 1), key) {

@@ -6,9 +6,13 @@ use std::alloc::{AllocError, Allocator};
 
 /// Puts the values in the place of those from `start` up to `end`, in order.
 ///
-/// All memory is taken before the first change: `Err` says that the vector had to grow and could not, and then it is as
-/// it was. The values that stand behind the stretch are moved at most once, all together, and not at all where as many
-/// values come as go.
+/// The values that stand behind the stretch are moved at most once, all together, and not at all
+/// where as many values come as go.
+///
+/// # Errors
+///
+/// The vector had to grow and could not. All memory is taken before the first change, so nothing
+/// changed then.
 pub fn splice<T: Drop, A: Allocator>(
     list: &mut Vec<T, A>,
     start: usize,
@@ -38,7 +42,8 @@ pub fn splice<T: Drop, A: Allocator>(
 // How many values the first block has room for.
 const FIRST: usize = 12;
 
-// Room for up to three more values. The first block is made larger than these need, and none is made where nothing is added.
+// Room for up to three more values. The first block is made larger than these need, and none is
+// made where nothing is added.
 fn make_room<T, A: Allocator>(list: &mut Vec<T, A>, more: usize) -> Result<(), AllocError>
     requires { more ≤ 3 }
     ensures items { list.new.items ≡ list.old.items }
@@ -64,7 +69,8 @@ fn count<T>(option: &Option<T>) -> usize
     }
 }
 
-// Puts the value over the one at `at`, or where the stretch ends there, behind all others. Answers where the next one goes.
+// Puts the value over the one at `at`, or where the stretch ends there, behind all others. Answers
+// where the next one goes.
 fn put<T: Drop, A: Allocator>(
     list: &mut Vec<T, A>,
     at: usize,
@@ -101,7 +107,8 @@ fn rotate_tail<T, A: Allocator>(list: &mut Vec<T, A>, from: usize, count: usize)
     list[from..].rotate_right(count);
 }
 
-// Takes out the values from `start` up to `end`, if there are any: those behind them are moved once, all together.
+// Takes out the values from `start` up to `end`, if there are any: those behind them are moved
+// once, all together.
 fn cut<T: Drop, A: Allocator>(list: &mut Vec<T, A>, start: usize, end: usize)
     requires start_le_end { start ≤ end }
     requires in_bounds { end ≤ vec_len list.old }

@@ -1,5 +1,5 @@
 -- Edges of closed ranges: what the code compares in place of places, and that there is a key where it steps to one.
-use Rattle.std.proofs.Common.{◌≡◌, true, false, Option, Some, None, ◌∙◌, ap, sym, subst, refl, Ordering, Less, Equal, Greater, is_lt, is_le}
+use Rattle.std.proofs.Common.{◌≡◌, true, false, Option, Some, None, ◌∙◌, ap, sym, subst, refl, true≢false, Ordering, Less, Equal, Greater, is_lt, is_le}
 use Rattle.std.specs.Cmp.{IsTotalOrder}
 use Rattle.std.specs.declared.ops.RangeInclusive.{RangeInclusive}
 use Rattle.std.specs.Range.{range_inclusive_start, range_inclusive_end, range_inclusive_exhausted}
@@ -8,9 +8,12 @@ use Rattle.rangemap_core.specs.Items.{IsSame}
 use Rattle.rangemap_core.specs.Steps.{GivesSuccessors, GivesPredecessors}
 use Rattle.rangemap_core.specs.engine.Places.{place_cmp}
 use Rattle.rangemap_core.specs.laws.Orders.{eq_le, eq_turn, le_eq}
-use Rattle.rangemap_core.specs.engine.PlacedKinds.{After, closed_end_place, ends_as_places, holds_by}
+use Rattle.rangemap_core.specs.engine.EndpointKinds.{lt_is}
+use Rattle.rangemap_maps.specs.ClosedPlaces.{After, after_le, after_le_from, closed_end_place, ends_as_places, holds_by, tied_touches, touches_tied}
 use Rattle.rangemap_core.specs.engine.Endpoints.{EndpointOf, AtStart, AtEnd, IsAsked, IsAskedAt, is_before}
-use Rattle.rangemap_core.specs.engine.EndpointKinds.{closed_placed, closed_first, closed_last, closed_part, lt_is}
+use Rattle.rangemap_maps.specs.ClosedEndpoints.{closed_placed, closed_first, closed_last, closed_part}
+use Rattle.rangemap_core.specs.Touch.{IsTouch}
+use Rattle.rangemap_core.specs.declared.std_ext.Touch.TheVariants.{Apart, Touching, NotBefore}
 use Rattle.rangemap_maps.specs.Steppable.{HasFirst, HasLast}
 
 module _ {K : Type 0} (is_key : K → Type 0) (cmp : K → K → Ordering) (o : IsTotalOrder cmp) (after before : K → Option K)
@@ -42,6 +45,33 @@ module _ {K : Type 0} (is_key : K → Type 0) (cmp : K → K → Ordering) (o : 
       ∙ ap is_lt (ends_as_places is_key cmp o (range_inclusive_end r) (range_inclusive_end s) r-asked.end_is_key s-asked.end_is_key (after (range_inclusive_end r)) (after (range_inclusive_end s))
       (follows (range_inclusive_end r) r-asked.end_is_key) (follows (range_inclusive_end s) s-asked.end_is_key) (cmp (range_inclusive_end r) (range_inclusive_end s)) refl)
       ∙ sym (ap (λ f. is_before (closed is_key cmp) (closed_end_place after) f to) h ∙ ap (is_before (closed is_key cmp) (closed_end_place after) (AtEnd r)) i)
+
+  -- from an end up to a start, as the touch test tells it
+  module _ (r s : RangeInclusive K) (a : IsAsked (closed is_key cmp) r) (b : IsAsked (closed is_key cmp) s) where
+    abbrev ends_at : Ordering
+    ends_at = place_cmp cmp (after (range_inclusive_end r)) (Some (range_inclusive_start s))
+
+    next : After is_key cmp o (range_inclusive_end r) (after (range_inclusive_end r))
+    next = follows (range_inclusive_end r) a.end_is_key
+
+    pub apart_is_before : IsTouch (closed is_key cmp) r s Apart → true ≡ is_lt ends_at
+    apart_is_before h = go ends_at refl (after_le is_key cmp o (range_inclusive_end r) (range_inclusive_start s) b.start_is_key h.0 (after (range_inclusive_end r)) next)
+      where
+        go : (t : Ordering) → ends_at ≡ t → is_le t ≡ true → true ≡ is_lt t
+        go Less e l = refl
+        go Equal e l = absurd (h.1 (h.0, tied_touches is_key cmp o (range_inclusive_end r) (range_inclusive_start s) (after (range_inclusive_end r)) next e))
+        go Greater e l = absurd (true≢false (sym l))
+
+    pub touching_is_not_before : IsTouch (closed is_key cmp) r s Touching → false ≡ is_lt ends_at
+    touching_is_not_before h = sym (ap is_lt (touches_tied is_key cmp o (range_inclusive_end r) (range_inclusive_start s) b.start_is_key (after (range_inclusive_end r)) next h.1.0 h.1.1))
+
+    pub behind_is_not_before : IsTouch (closed is_key cmp) r s NotBefore → false ≡ is_lt ends_at
+    behind_is_not_before h = go ends_at refl
+      where
+        go : (t : Ordering) → ends_at ≡ t → false ≡ is_lt t
+        go Less e = absurd (h (after_le_from is_key cmp o (range_inclusive_end r) (range_inclusive_start s) (after (range_inclusive_end r)) next (ap is_le e)))
+        go Equal e = refl
+        go Greater e = refl
 
   -- a part that starts behind an end starts at a key
   pub has_first : (from to : EndpointOf (RangeInclusive K)) → IsKeyed from → is_part from to → HasFirst is_key cmp from

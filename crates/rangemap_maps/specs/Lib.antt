@@ -1,1 +1,4 @@
 pub mod Steppable
+pub mod ClosedPlaces
+pub mod ClosedEndpoints
+pub mod ClosedIntervals

@@ -1,20 +1,20 @@
 //! Closed ranges as a kind.
 //!
-//! A step is asked of a key only where a greater or smaller key was seen, which is a condition of the step: so nothing here
-//! steps past the last key of a type.
-ghost use Rattle.std.specs.Prelude.{◌≡◌, ◌&&◌, IfOk, Some as SomeWord};
+//! A step is asked of a key only where a greater or smaller key was seen, which is a condition of
+//! the step: so nothing here steps past the last key of a type.
+ghost use Rattle.std.specs.Prelude.{◌≡◌, ◌&&◌, IfOk};
 ghost use Rattle.std.specs.Ordering.{is_le};
 ghost use Rattle.std.specs.Range.{range_inclusive_start, range_inclusive_end};
 ghost use Rattle.std.specs.declared.cmp.Ordering.TheVariants.{Equal as EqualWord};
 ghost use Rattle.rangemap_core.specs.Clones.{KeysCloneFaithfully};
-ghost use Rattle.rangemap_core.specs.engine.Endpoints.{IsAskedAt, endpoint_of};
-ghost use Rattle.rangemap_core.specs.engine.EndpointKinds.{closed_first, closed_last};
-ghost use Rattle.rangemap_core.specs.engine.Places.{place_cmp};
+ghost use Rattle.rangemap_core.specs.engine.Endpoints.{AtEnd, AtStart, IsAsked, IsAskedAt, endpoint_of, is_before};
+ghost use Rattle.rangemap_maps.specs.ClosedEndpoints.{closed_first, closed_last};
+ghost use Rattle.rangemap_maps.specs.ClosedPlaces.{closed_end_place};
 ghost use Rattle.rangemap_core.specs.Ranges.{closed};
 ghost use Rattle.rangemap_maps.specs.Steppable.{HasFirst, HasLast};
 
-use rangemap_core::kind::{Endpoint, Interval, Kind};
-use rangemap_core::std_ext::StepFns;
+use rangemap_core::kind::{Endpoint, Interval, Kind, known_ends};
+use rangemap_core::std_ext::{StepFns, Touch, touch_test_inclusive};
 use std::alloc::AllocError;
 use std::cmp::Ordering;
 use std::marker::PhantomData;
@@ -24,7 +24,7 @@ use std::ops::RangeInclusive;
 pub struct Closed<StepFnsT>(PhantomData<StepFnsT>);
 
 impl<K: Ord + Clone, StepFnsT: StepFns<K>> Interval<K, RangeInclusive<K>> for Closed<StepFnsT> {
-    ghost use Rattle.rangemap_core.specs.engine.IntervalKinds.{closed_interval};
+    ghost use Rattle.rangemap_maps.specs.ClosedIntervals.{closed_interval};
     ghost use Rattle.rangemap_core.specs.Ranges.{closed};
     ghost use Rattle.std.specs.Prelude.{true};
 
@@ -73,7 +73,7 @@ impl<K: Ord + Clone, StepFnsT: StepFns<K>> Interval<K, RangeInclusive<K>> for Cl
 pub struct Unstepped;
 
 impl<K: Ord + Clone> Interval<K, RangeInclusive<K>> for Unstepped {
-    ghost use Rattle.rangemap_core.specs.engine.IntervalKinds.{closed_interval};
+    ghost use Rattle.rangemap_maps.specs.ClosedIntervals.{closed_interval};
     ghost use Rattle.rangemap_core.specs.Ranges.{closed};
     ghost use Rattle.std.specs.Prelude.{true, ⊤};
 
@@ -118,9 +118,9 @@ impl<K: Ord + Clone, StepFnsT: StepFns<K>> Kind<K, RangeInclusive<K>> for Closed
     ghost use Rattle.rangemap_core.specs.Ranges.{closed};
     ghost use Rattle.rangemap_core.specs.Clones.{KeysCloneFaithfully};
     ghost use Rattle.rangemap_core.specs.engine.Endpoints.{endpoint_of, is_before};
-    ghost use Rattle.rangemap_core.specs.engine.EndpointKinds.{closed_part, closed_placed};
+    ghost use Rattle.rangemap_maps.specs.ClosedEndpoints.{closed_part, closed_placed};
     ghost use Rattle.rangemap_core.specs.Items.{IsSame};
-    ghost use Rattle.rangemap_core.specs.engine.PlacedKinds.{closed_end_place};
+    ghost use Rattle.rangemap_maps.specs.ClosedPlaces.{closed_end_place};
     ghost use Rattle.std.specs.Prelude.{◌≡◌, true, IfOk};
 
     ghost end_place = { closed_end_place StepFnsT.after };
@@ -129,8 +129,8 @@ impl<K: Ord + Clone, StepFnsT: StepFns<K>> Kind<K, RangeInclusive<K>> for Closed
 
     ghost placed = { closed_placed StepFnsT.is_key K.cmp K.total StepFnsT.after StepFnsT.before StepFnsT.follows StepFnsT.precedes };
 
-    fn compare_end_to_start(first: &RangeInclusive<K>, second: &RangeInclusive<K>) -> Ordering {
-        compare_after::<K, StepFnsT>(first.end(), second.start())
+    fn touch_test(first: &RangeInclusive<K>, second: &RangeInclusive<K>) -> Touch {
+        touch_test_inclusive::<K, StepFnsT>(first, second)
     }
 
     fn is_before(from: Endpoint<'_, RangeInclusive<K>>, to: Endpoint<'_, RangeInclusive<K>>) -> bool
@@ -141,9 +141,7 @@ impl<K: Ord + Clone, StepFnsT: StepFns<K>> Kind<K, RangeInclusive<K>> for Closed
         match (from, to) {
             (Endpoint::Start(from), Endpoint::Start(to)) => from.start().cmp(to.start()).is_lt(),
             (Endpoint::Start(from), Endpoint::End(to)) => from.start().cmp(to.end()).is_le(),
-            (Endpoint::End(from), Endpoint::Start(to)) => {
-                compare_after::<K, StepFnsT>(from.end(), to.start()).is_lt()
-            }
+            (Endpoint::End(from), Endpoint::Start(to)) => { is_apart::<K, StepFnsT>(from, to) }
             (Endpoint::End(from), Endpoint::End(to)) => from.end().cmp(to.end()).is_lt(),
         }
     }
@@ -173,26 +171,29 @@ fn has_key<K: Ord>(range: &RangeInclusive<K>, key: &K) -> bool
     range.start().cmp(key).is_le() && key.cmp(range.end()).is_le()
 }
 
-// How the place after the one key lies to that before the other: equal where no key lies between.
-fn compare_after<K: Ord + Clone, StepFnsT: StepFns<K>>(end: &K, start: &K) -> Ordering
-    ensures { result ≡ place_cmp K.cmp (StepFnsT.after end.now) (SomeWord start.now) }
+// Whether the first range lies wholly before the second, with a key between.
+fn is_apart<K: Ord + Clone, StepFnsT: StepFns<K>>(
+    first: &RangeInclusive<K>,
+    second: &RangeInclusive<K>,
+) -> bool
+    requires first { IsAsked (closed StepFnsT.is_key K.cmp) first.now }
+    requires second { IsAsked (closed StepFnsT.is_key K.cmp) second.now }
+    ensures { result ≡ is_before (closed StepFnsT.is_key K.cmp) (closed_end_place StepFnsT.after) (AtEnd first.now) (AtStart second.now) }
 {
-    StepFnsT::known(end);
-    StepFnsT::known(start);
-    match end.cmp(start) {
-        Ordering::Less => StepFnsT::add_one(end).cmp(start),
-        _ => Ordering::Greater,
+    match touch_test_inclusive::<K, StepFnsT>(first, second) {
+        Touch::Apart => true,
+        Touch::Touching => false,
+        Touch::NotBefore => false,
     }
 }
 
 // Does nothing, and tells that the ends of the endpoint's range are keys.
-fn known_at<K: Ord, StepFnsT: StepFns<K>>(endpoint: Endpoint<'_, RangeInclusive<K>>)
+fn known_at<K: Ord + Clone, StepFnsT: StepFns<K>>(endpoint: Endpoint<'_, RangeInclusive<K>>)
     ensures { IsAskedAt (closed StepFnsT.is_key K.cmp) (endpoint_of endpoint.entry) }
 {
     match endpoint {
         Endpoint::Start(range) | Endpoint::End(range) => {
-            StepFnsT::known(range.start());
-            StepFnsT::known(range.end());
+            known_ends::<Closed<StepFnsT>, K, RangeInclusive<K>>(range)
         }
     }
 }

@@ -1,7 +1,8 @@
 //! A map whose keys are closed ranges.
 //!
-//! It does what `rangemap_core::map::RangeMap` does, over `a..=b`: two ranges touch where no key lies between them, which is
-//! told by the steps of the keys. `StepFnsT` is the type whose steps they are: mostly the key type itself.
+//! It does what `map::RangeMap` does, over `a..=b`: two ranges touch where no key
+//! lies between them, which is told by the steps of the keys. `StepFnsT` is the type whose steps
+//! they are: mostly the key type itself.
 ghost use Rattle.std.specs.Prelude.{◌≡◌, IsTrue, true, false, ◌≤◌, ◌+◌, [], ◌-◌, length, slice_get, is_some, map, nat_eq, nat_lt, IsOk, OnOk, OnErr};
 ghost use Rattle.std.specs.Option.{option_copied, option_map};
 ghost use Rattle.std.specs.Ordering.{is_le};
@@ -12,22 +13,15 @@ ghost use Rattle.rangemap_core.specs.Ranges.{AreGaps, IsCanonOf, IsCanonical, co
 use crate::closed::Closed;
 use rangemap_core::entries::Entries;
 use rangemap_core::std_ext::{StepFns, StepLite};
-use rangemap_core::{calls, gaps, into_iter, iter, overlapping};
+use rangemap_core::{gaps, into_iter, iter, overlapping};
 use std::alloc::{AllocError, Allocator};
 use std::marker::Model;
 use std::ops::RangeInclusive;
 
 mod collect;
-mod history;
-mod ranged;
-
-pub use history::{replay, replay_with_step_fns};
-
-/// A call that makes a map or changes the one at a place of a list.
-pub type Call<K, V, A> = calls::Call<RangeInclusive<K>, V, A>;
-
-/// A call that a map over any steps has: those of `Call` but the two that take pairs.
-pub type Change<K, V> = calls::Change<RangeInclusive<K>, V>;
+mod compare;
+mod json;
+mod text;
 
 /// The pairs of a map, from both ends.
 pub type Iter<'a, K, V> = iter::Iter<'a, RangeInclusive<K>, V>;
@@ -43,8 +37,26 @@ pub type Gaps<'a, K, V, StepFnsT> = gaps::Gaps<'a, Closed<StepFnsT>, K, RangeInc
 
 /// A map of disjoint closed ranges to values, which joins ranges that touch and have equal values.
 ///
-/// The pairs stand in one sorted vector. What a call costs is said by n, the number of stored ranges, and k, the number of those
-/// that the call's range meets. A step of a key takes the same time always.
+/// The pairs stand in one sorted vector. Of *n* stored ranges, *k* meet the range that a call is
+/// given:
+///
+/// | Call | Time | Memory |
+/// |---|---|---|
+/// | `new`, `new_with_step_fns`, `allocator`, `len`, `is_empty` | *O*(1) | none |
+/// | `first_range_value`, `last_range_value` | *O*(1) | none |
+/// | `iter`, `into_iter` | *O*(1), and for each item | none |
+/// | `get`, `get_key_value`, `contains_key` | *O*(log *n*) | none |
+/// | `overlaps` | *O*(log *n*) | none |
+/// | `overlapping`, `gaps` | *O*(log *n*), and *O*(*k*) for all items | none; clones for a gap |
+/// | `insert`, `remove` | *O*(log *n* + *k*), and *O*(*n*) to move pairs | growth, clones |
+/// | `extend`, `from_iter`, `from` | that of an `insert` for each item | growth, clones |
+/// | `clear` | *O*(*n*), as each drop | none; the room is kept |
+/// | `clone` | *O*(*n*) | one list, clones |
+/// | `==` | *O*(*n*), *O*(1) where the numbers differ | none |
+///
+/// A lookup asks for at most log2(*n*) + 1 of the stored starts and looks at one pair. An `insert`
+/// makes at most two clones of a value, and one behind all others moves nothing. A key is stepped
+/// on only where a greater one is at hand, and back only where a smaller one is.
 #[derive(Drop)]
 pub struct RangeInclusiveMap<K: Ord + Clone, V: Eq + Clone, StepFnsT: StepFns<K>, A: Allocator> {
     entries: Entries<Closed<StepFnsT>, K, RangeInclusive<K>, V, A>,
@@ -64,8 +76,7 @@ impl<K: Ord + Clone, V: Eq + Clone, StepFnsT: StepFns<K>, A: Allocator> Model
 }
 
 impl<K: StepLite + Clone, V: Eq + Clone, A: Allocator> RangeInclusiveMap<K, V, K, A> {
-    /// The empty map over the key type's own steps, whose memory will come from `alloc`. It takes none yet, and
-    /// the same time always.
+    /// Returns the empty map over the key type's own steps, whose memory will come from `alloc`.
     pub fn new(alloc: A) -> Self
         ensures { result ≡ [] }
     {
@@ -79,8 +90,7 @@ impl<K: Ord + Clone, V: Eq + Clone, StepFnsT: StepFns<K>, A: Allocator> RangeInc
     StepFnsT,
     A,
 > {
-    /// The empty map over the steps of `StepFnsT`, whose memory will come from `alloc`. It takes none yet, and
-    /// the same time always.
+    /// Returns the empty map over the steps of `StepFnsT`, whose memory will come from `alloc`.
     pub fn new_with_step_fns(alloc: A) -> Self
         ensures { result ≡ [] }
     {
@@ -89,68 +99,64 @@ impl<K: Ord + Clone, V: Eq + Clone, StepFnsT: StepFns<K>, A: Allocator> RangeInc
         }
     }
 
-    /// What the memory comes from.
+    /// Returns what the memory comes from.
     pub fn allocator(&self) -> &A {
         self.entries.allocator()
     }
 
-    /// How many ranges are stored. It takes the same time for any map.
+    /// Returns the number of stored ranges.
     pub fn len(&self) -> usize
         ensures { result ≡ length self.now }
     {
         self.entries.len()
     }
 
-    /// Whether none is stored. It takes the same time for any map.
+    /// Returns whether no range is stored.
     pub fn is_empty(&self) -> bool
         ensures { result ≡ nat_eq (length self.now) 0 }
     {
         self.entries.is_empty()
     }
 
-    /// Takes every key out. The memory is kept for later inserts. It takes time in n.
+    /// Takes every key out. The memory is kept for later inserts.
     pub fn clear(&mut self)
         ensures { self.new ≡ [] }
     {
         self.entries.clear();
     }
 
-    /// The stored pairs, in order, from both ends. It takes no memory, and the same time for any map, as does each pair taken
-    /// from it.
+    /// Returns the stored pairs, in order, from both ends.
     pub fn iter(&self) -> Iter<'_, K, V>
         ensures all { result ≡ self.now }
         ensures canonical { IsCanonical (closed StepFnsT.is_key K.cmp) V.eq self.now }
     {
-        iter::Iter::over(self.entries.as_slice())
+        self.entries.iter()
     }
 
-    /// The value of the stored range that has the key, if there is one.
-    ///
-    /// It looks at about log2(n) + 1 of the stored starts, and at one pair.
+    /// Returns the value of the stored range that has the key, if there is one.
     pub fn get(&self, key: &K) -> Option<&V>
         ensures { option_copied result ≡ value_at (closed StepFnsT.is_key K.cmp) self.now key.now }
     {
-        self.entries.get(key)
+        let pair = self.entries.covering(key).0?;
+        Some(&pair.1)
     }
 
-    /// The stored range that has the key, and its value, if there is one. It costs what `get` does.
+    /// Returns the stored range that has the key, and its value, if there is one.
     pub fn get_key_value(&self, key: &K) -> Option<(&RangeInclusive<K>, &V)>
         ensures { option_map (λ pair. (pair.0.now, pair.1.now)) result ≡ covering (closed StepFnsT.is_key K.cmp) self.now key.now }
     {
-        match self.entries.covering(key).0 {
-            Some(pair) => Some((&pair.0, &pair.1)),
-            None => None,
-        }
+        let pair = self.entries.covering(key).0?;
+        Some((&pair.0, &pair.1))
     }
 
-    /// Whether a stored range has the key. It costs what `get` does.
+    /// Returns whether a stored range has the key.
     pub fn contains_key(&self, key: &K) -> bool
         ensures { result ≡ is_some (covering (closed StepFnsT.is_key K.cmp) self.now key.now) }
     {
         self.entries.covering(key).0.is_some()
     }
 
-    /// The first stored range and its value, if there is one. It takes the same time for any map.
+    /// Returns the first stored range and its value, if there is one.
     pub fn first_range_value(&self) -> Option<(&RangeInclusive<K>, &V)>
         ensures { option_map (λ pair. (pair.0.now, pair.1.now)) result ≡ slice_get self.now 0 }
     {
@@ -160,7 +166,7 @@ impl<K: Ord + Clone, V: Eq + Clone, StepFnsT: StepFns<K>, A: Allocator> RangeInc
         }
     }
 
-    /// The last stored range and its value, if there is one. It takes the same time for any map.
+    /// Returns the last stored range and its value, if there is one.
     pub fn last_range_value(&self) -> Option<(&RangeInclusive<K>, &V)>
         ensures { option_map (λ pair. (pair.0.now, pair.1.now)) result ≡ slice_get self.now (length self.now - 1) }
     {
@@ -170,38 +176,41 @@ impl<K: Ord + Clone, V: Eq + Clone, StepFnsT: StepFns<K>, A: Allocator> RangeInc
         }
     }
 
-    /// The pairs that end no sooner than `range` starts and start no later than it ends, in order.
+    /// Returns the pairs that end no sooner than `range` starts and start no later than it ends, in
+    /// order.
     ///
-    /// Nothing is asked of `range`, of which the two ends alone are read. A reversed one whose ends lie inside one stored
-    /// range meets that range. It takes time in log(n) and no memory, and each of the k pairs taken from it the same time for
-    /// any map.
+    /// Nothing is asked of `range`, of which the two ends alone are read. A reversed one whose ends
+    /// lie inside one stored range meets that range.
+    ///
+    /// # Examples
     ///
     /// ```text
     /// let map = RangeInclusiveMap::from(alloc, [(0..=2u32, 'a'), (3..=4, 'b'), (8..=9, 'c')])?;
     /// let mut found = map.overlapping(&(1..=7));
-    /// // found.next() is Some((&(0..=2), &'a')), found.next_back() is Some((&(3..=4), &'b')), and then both are None
+    /// // found.next() is Some((&(0..=2), &'a')), found.next_back() is Some((&(3..=4), &'b')),
+    /// // and then both are None
     /// ```
     pub fn overlapping<'a>(&'a self, range: &'a RangeInclusive<K>) -> Overlapping<'a, K, V>
         ensures { result ≡ overlapped (closed StepFnsT.is_key K.cmp) self.now range.now }
     {
-        overlapping::Overlapping::new::<Closed<StepFnsT>, K>(self.entries.as_slice(), range)
+        self.entries.overlapping(range)
     }
 
-    /// Whether `overlapping` has an item for the range. It takes time in log(n) and no memory.
+    /// Returns whether `overlapping` has an item for the range.
     pub fn overlaps(&self, range: &RangeInclusive<K>) -> bool
         ensures { result ≡ nat_lt 0 (length (overlapped (closed StepFnsT.is_key K.cmp) self.now range.now)) }
     {
-        overlapping::overlaps::<Closed<StepFnsT>, K, RangeInclusive<K>, V>(
-            self.entries.as_slice(),
-            range,
-        )
+        self.entries.overlaps(range)
     }
 
-    /// The parts of `outer_range` that no stored range covers, in order. Between two stored ranges that touch there is none.
+    /// Returns the parts of `outer_range` that no stored range covers, in order.
     ///
-    /// Nothing is asked of `outer_range`, of which the two ends alone are read. A reversed one has no gaps; one of a single
-    /// key that isn't covered has itself. It takes time in log(n) and no memory; a gap is made of clones and steps when it is
-    /// asked for, and the clones may be refused. To take all of them takes time in k.
+    /// Between two stored ranges that touch there is none. Nothing is asked of `outer_range`, of
+    /// which the two ends alone are read: a reversed one has no gaps, and one of a single key that
+    /// isn't covered has itself. A gap is made of clones and steps when it is asked for, and the
+    /// clones may be refused.
+    ///
+    /// # Examples
     ///
     /// ```text
     /// let map = RangeInclusiveMap::from(alloc, [(0..=9u8, 'a'), (250..=255, 'b')])?;
@@ -216,20 +225,22 @@ impl<K: Ord + Clone, V: Eq + Clone, StepFnsT: StepFns<K>, A: Allocator> RangeInc
 
     /// Gives every key of `range` the `value`, whatever it had before.
     ///
-    /// What stays of stored ranges to the left and right of it keeps its value. Stored ranges that it overlaps or touches and
-    /// that have an equal value become one range with it, which carries the new value. The map grows by at most two ranges.
+    /// What stays of stored ranges to the left and right of it keeps its value. Stored ranges that
+    /// it overlaps or touches and that have an equal value become one range with it, which carries
+    /// the new value. The map grows by at most two ranges.
     ///
-    /// The caller sees to it that the range is not empty, which says two things: that its start is at most its end, and that
-    /// it wasn't iterated to its end. (`is_empty` of the range tests both.) A clone of a key or value has to equal its
-    /// original, which holds for std's types.
+    /// # Requires
     ///
-    /// `Err` says that the growth of the map, or a clone of a key or value, was refused: then the map is as it was, and the
-    /// range and the value are dropped.
+    /// The range is not empty, which says two things: its start is at most its end, and it wasn't
+    /// iterated to its end. (`is_empty` of the range tests both.) A clone of a key or value equals
+    /// its original, which holds for std's types.
     ///
-    /// It takes a search by halving, and a second one where k is above four: time in log(n). It makes at most two clones of a
-    /// value, takes time in k to drop what goes, and moves each stored pair behind the range at most once, which takes time in
-    /// their number. An insert behind all others moves none. A key is stepped on only where a greater one is at hand, and back
-    /// only where a smaller one is.
+    /// # Errors
+    ///
+    /// The growth of the map, or a clone of a key or value, was refused: then the map is as it was,
+    /// and the range and the value are dropped.
+    ///
+    /// # Examples
     ///
     /// ```text
     /// let mut map = RangeInclusiveMap::new(alloc);
@@ -252,11 +263,21 @@ impl<K: Ord + Clone, V: Eq + Clone, StepFnsT: StepFns<K>, A: Allocator> RangeInc
         self.entries.insert(range, value)
     }
 
-    /// Takes every key of `range` out. Stored ranges that are partly covered are cut; one that reaches past both ends
-    /// becomes two, so the map grows by at most one range.
+    /// Takes every key of `range` out.
     ///
-    /// The conditions, and what `Err` says, are those of `insert`. Where no stored range overlaps the given one, it takes no
-    /// memory, succeeds and changes nothing. It costs what `insert` does, and time in log(n) alone where it meets nothing.
+    /// Stored ranges that are partly covered are cut; one that reaches past both ends becomes two,
+    /// so the map grows by at most one range.
+    ///
+    /// # Requires
+    ///
+    /// What `insert` does.
+    ///
+    /// # Errors
+    ///
+    /// As for `insert`. Where no stored range overlaps the given one, the call takes no memory,
+    /// succeeds and changes nothing.
+    ///
+    /// # Examples
     ///
     /// ```text
     /// map.insert(0..=9u32, 'a')?;
@@ -276,29 +297,4 @@ impl<K: Ord + Clone, V: Eq + Clone, StepFnsT: StepFns<K>, A: Allocator> RangeInc
         StepFnsT::known(range.end());
         self.entries.remove(range)
     }
-}
-
-impl<K: Ord + Clone, V: Eq + Clone, StepFnsT: StepFns<K>, A: Allocator> PartialEq
-    for RangeInclusiveMap<K, V, StepFnsT, A> {
-    ghost use Rattle.std.specs.Cmp.{partial_equiv_from_equiv};
-    ghost use Rattle.rangemap_core.specs.Ranges.{closed, same_pairs};
-    ghost use Rattle.rangemap_core.specs.laws.Comparisons.{same_pairs_equiv};
-
-    ghost eq = { λ left right. same_pairs (closed StepFnsT.is_key K.cmp) V.eq left right };
-
-    ghost laws = { partial_equiv_from_equiv (same_pairs_equiv (closed StepFnsT.is_key K.cmp) K.total V.Eq.laws) };
-
-    /// Whether the maps have equal pairs. It compares the numbers of ranges first, and then takes time in n at most: it stops at
-    /// the first two pairs that differ.
-    fn eq(&self, other: &Self) -> bool {
-        self.entries == other.entries
-    }
-}
-
-impl<K: Ord + Clone, V: Eq + Clone, StepFnsT: StepFns<K>, A: Allocator> Eq
-    for RangeInclusiveMap<K, V, StepFnsT, A> {
-    ghost use Rattle.rangemap_core.specs.Ranges.{closed};
-    ghost use Rattle.rangemap_core.specs.laws.Comparisons.{same_pairs_equiv};
-
-    ghost laws = { same_pairs_equiv (closed StepFnsT.is_key K.cmp) K.total V.Eq.laws };
 }

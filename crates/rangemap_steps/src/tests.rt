@@ -39,7 +39,8 @@ fn previous_signed_byte(key: i8, smaller: i8) -> i8
     step_down(&key, &smaller)
 }
 
-/// Whether, in each pair, one step up leads from the first key to the second, and one step down leads back.
+/// Whether, in each pair, one step up leads from the first key to the second, and one step down
+/// leads back.
 fn are_neighbours<K: StepLite + Drop>(pairs: &[(K, K)]) -> bool {
     for (lower, upper) in pairs {
         if !lower.cmp(upper).is_lt() {
@@ -164,6 +165,20 @@ fn neighbours_of_zero(rt: HostRuntime) {
     assert!(rt; are_neighbours(&[(-1i64, 0), (0, 1)]));
     assert!(rt; are_neighbours(&[(-1i128, 0), (0, 1)]));
     assert!(rt; are_neighbours(&[(-1isize, 0), (0, 1)]));
+}
+
+#[test]
+fn characters_step_over_the_surrogates(rt: HostRuntime) {
+    let pairs = [
+        ('\u{0}', '\u{1}'),
+        ('\u{D7FE}', '\u{D7FF}'),
+        ('\u{D7FF}', '\u{E000}'),
+        ('\u{E000}', '\u{E001}'),
+        ('\u{10FFFE}', '\u{10FFFF}'),
+    ];
+    assert!(rt; are_neighbours(&pairs));
+    assert_eq!(rt; step_up(&'\u{D7FF}', &'\u{10FFFF}'), '\u{E000}');
+    assert_eq!(rt; step_down(&'\u{E000}', &'\u{0}'), '\u{D7FF}');
 }
 
 #[test]

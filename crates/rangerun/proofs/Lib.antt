@@ -1,2 +1,3 @@
 -- Lemmas of the program's proofs.
 pub mod Ascii
+pub mod BookingLemmas

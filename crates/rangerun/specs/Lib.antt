@@ -1,3 +1,4 @@
 -- Definitions of the program.
+pub mod Bookings
 pub mod Commands
 pub mod Words

@@ -12,7 +12,8 @@ number_of word = digits_value 10 word
 abbrev pub IsNumber : List ℕ → Type 0
 IsNumber word = (word ≢ []) × (list_all is_ascii_digit word ≡ true) × (number_of word < 2 ^ 32)
 
--- two numbers that are the ends of a range with a key in it, which the test tells of a kind of range
+-- two numbers that are the ends of a range with a key in it, which the test tells of a kind of
+-- range
 abbrev pub AreEnds : (ℕ → ℕ → Bool) → List ℕ → List ℕ → Type 0
 AreEnds holds_key start end = IsNumber start × IsNumber end × (holds_key (number_of start) (number_of end) ≡ true)
 

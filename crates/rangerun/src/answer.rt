@@ -1,9 +1,12 @@
 //! Carrying out a command on a container, and the text of its answer.
 ghost use Rattle.std.specs.Prelude.{◌≡◌, false, OnErr};
+ghost use Rattle.rangemap.specs.Clones.{KeysCloneFaithfully, ValuesCloneFaithfully};
 ghost use Rattle.rangerun.specs.Commands.{may_change};
 
 use crate::command::Command;
 use crate::container::Container;
+use crate::listing::{write_all, write_gaps, write_item_or_none, write_json, write_overlapping};
+use crate::value::Stored;
 use std::alloc::{AllocError, Global};
 
 /// Carries out a command, and appends the line that it prints, if any, to `text`.
@@ -15,25 +18,26 @@ pub fn answer<C: Container>(
     command: Command<'_, C::Range>,
     text: &mut String,
 ) -> Result<(), AllocError>
-    ensures err { OnErr result (container.new ≡ container.old) }
-    ensures asks { may_change command.entry ≡ false → container.new ≡ container.old }
+    ensures err { OnErr result (C.pairs container.new ≡ C.pairs container.old) }
+    ensures asks { may_change command.entry ≡ false → C.pairs container.new ≡ C.pairs container.old }
 {
     match command {
         Command::Insert(span, value) => {
-            container.insert(span.range(), String::from_str(alloc, value)?)
+            container.insert(span.range(), C::Value::made_of(alloc, value)?)
         }
         Command::Remove(span) => container.remove(span.range()),
         Command::Clear => {
             container.clear();
             Ok(())
         }
-        Command::Get(key) => container.write_covering(key, text),
-        Command::First => container.write_first(text),
-        Command::Last => container.write_last(text),
-        Command::Iter => container.write_all(text),
+        Command::Get(key) => write_item_or_none(text, container.get_key_value(&key)),
+        Command::First => write_item_or_none(text, container.first_range_value()),
+        Command::Last => write_item_or_none(text, container.last_range_value()),
+        Command::Iter => write_all(text, container),
         Command::Len => writeln!(text, "{}", container.len()),
-        Command::Overlapping(range) => container.write_overlapping(&range, text),
+        Command::Overlapping(range) => write_overlapping(text, container, &range),
         Command::Overlaps(range) => writeln!(text, "{}", container.overlaps(&range)),
-        Command::Gaps(range) => container.write_gaps(&range, text),
+        Command::Gaps(range) => write_gaps(text, container, &range),
+        Command::Json => write_json(alloc, text, container),
     }
 }

@@ -9,8 +9,8 @@ use crate::words;
 /// What a line asks for, of a container of ranges `R`.
 #[derive(Debug, Drop)]
 pub enum Command<'a, R: KeyRange> {
-    /// Give the keys of a range a value.
-    Insert(Span<R>, &'a str),
+    /// Give the keys of a range a value, or no value where the container is a set.
+    Insert(Span<R>, Option<&'a str>),
     /// Take the keys of a range out.
     Remove(Span<R>),
     /// Take every key out.
@@ -31,14 +31,17 @@ pub enum Command<'a, R: KeyRange> {
     Overlaps(R),
     /// Print the parts of a range that no item has.
     Gaps(R),
+    /// Print the JSON form of the container.
+    Json,
 }
 
 impl<'a, R: KeyRange> Command<'a, R> {
-    /// Reads a line, given without its newline, as a command.
+    /// Reads a line, given without its newline, as a command on a container whose inserts have a
+    /// value or have none.
     ///
-    /// Words are divided by one space each, so an empty word is a word too. Of several faults in a line the one whose
-    /// cause has the least number is told.
-    pub fn parse(line: &'a [u8]) -> Result<Command<'a, R>, Cause> {
+    /// Words are divided by one space each, so an empty word is a word too. Of several faults in a
+    /// line the one whose cause has the least number is told.
+    pub fn parse(line: &'a [u8], has_value: bool) -> Result<Command<'a, R>, Cause> {
         let mut words = line.split(|byte| *byte == b' ');
         // No command has more than four words.
         let words = [
@@ -49,9 +52,12 @@ impl<'a, R: KeyRange> Command<'a, R> {
             words.next(),
         ];
         match words {
-            [Some(b"insert"), Some(start), Some(end), Some(value), None] => {
+            [Some(b"insert"), Some(start), Some(end), Some(value), None] if has_value => {
                 let (span, value) = parse_pair(start, end, value)?;
-                Ok(Command::Insert(span, value))
+                Ok(Command::Insert(span, Some(value)))
+            }
+            [Some(b"insert"), Some(start), Some(end), None, _] if !has_value => {
+                Ok(Command::Insert(parse_span(start, end)?, None))
             }
             [Some(b"remove"), Some(start), Some(end), None, _] => {
                 Ok(Command::Remove(parse_span(start, end)?))
@@ -62,6 +68,7 @@ impl<'a, R: KeyRange> Command<'a, R> {
             [Some(b"last"), None, _, _, _] => Ok(Command::Last),
             [Some(b"iter"), None, _, _, _] => Ok(Command::Iter),
             [Some(b"len"), None, _, _, _] => Ok(Command::Len),
+            [Some(b"json"), None, _, _, _] => Ok(Command::Json),
             [Some(b"overlapping"), Some(start), Some(end), None, _] => {
                 Ok(Command::Overlapping(parse_query(start, end)?))
             }

@@ -25,7 +25,8 @@ pub enum Cause {
 }
 
 impl Cause {
-    /// The fault of this cause at a line. Lines count from 1, and 0 stands for the time before the first.
+    /// The fault of this cause at a line. Lines count from 1, and 0 stands for the time before the
+    /// first.
     pub fn at(self, line: u64) -> Fault
         ensures { result.line ≡ line }
     {
@@ -54,7 +55,8 @@ pub struct Fault {
 }
 
 impl Fault {
-    /// The exit status that tells of this fault: 3 for a stream, 4 for memory, and 2 for what was given to the program.
+    /// The exit status that tells of this fault: 3 for a stream, 4 for memory, and 2 for what was
+    /// given to the program.
     pub fn status(self) -> u8 {
         match self.number {
             6 => 3,

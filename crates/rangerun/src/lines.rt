@@ -4,7 +4,8 @@ use crate::fault::Cause;
 use std::alloc::AllocError;
 use std::io::{BufRead, ErrorKind};
 
-/// Fetches the next line, without its newline, in place of what `line` has. False where the input has ended.
+/// Fetches the next line, without its newline, in place of what `line` has. False where the input
+/// has ended.
 ///
 /// The last line may lack its newline.
 pub fn fetch<R: BufRead>(input: &mut R, line: &mut Vec<u8>) -> Result<bool, Cause> {

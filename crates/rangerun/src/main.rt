@@ -1,17 +1,21 @@
-//! Runs the commands of standard input over a map of ranges.
+//! Runs the commands of standard input over a map or a set of ranges.
 //!
-//! `rangerun KIND` reads commands line by line, carries each out, and prints its answer before it reads the next line.
-//! It stops at the first fault, which it prints on standard error.
+//! `rangerun KIND` reads commands line by line, carries each out, and prints its answer before it
+//! reads the next line. It stops at the first fault, which it prints on standard error.
 #![tactic(auto)]
 
 mod answer;
+mod booking;
+mod calendar;
 mod command;
 mod container;
+mod desk;
 mod fault;
 mod lines;
 mod listing;
 mod range;
 mod session;
+mod value;
 mod words;
 
 use fault::{Cause, Fault};

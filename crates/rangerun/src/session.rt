@@ -3,16 +3,16 @@
 #[cfg(test)]
 mod tests;
 
-use crate::answer::answer;
-use crate::command::Command;
-use crate::container::{ClosedMap, Container, HalfOpenMap};
+use crate::calendar::Calendar;
+use crate::container::{ClosedMap, ClosedSet, HalfOpenMap, HalfOpenSet};
+use crate::desk::Desk;
 use crate::fault::{Cause, Fault};
 use crate::lines::fetch;
 use std::alloc::Global;
 use std::io::{self, BufRead, BufReader, Read, Write};
 
-/// Carries out the commands of `input` over the container that `args`, the words after the program's name, ask for,
-/// and writes each answer to `output` before it reads the next line.
+/// Carries out the commands of `input` over the container that `args`, the words after the
+/// program's name, ask for, and writes each answer to `output` before it reads the next line.
 ///
 /// Stops at the first fault. The answers of the lines before it are written then.
 pub fn run<R: Read + Drop, W: Write + Drop>(
@@ -27,12 +27,15 @@ pub fn run<R: Read + Drop, W: Write + Drop>(
     match kind.as_str() {
         "map" => run_over::<HalfOpenMap, R, W>(alloc, input, output),
         "imap" => run_over::<ClosedMap, R, W>(alloc, input, output),
+        "set" => run_over::<HalfOpenSet, R, W>(alloc, input, output),
+        "iset" => run_over::<ClosedSet, R, W>(alloc, input, output),
+        "cal" => run_over::<Calendar<Global>, R, W>(alloc, input, output),
         _ => Err(Cause::Arguments.at(0)),
     }
 }
 
 /// Carries out the commands of `input` over an empty container, as `run` does.
-fn run_over<C: Container, R: Read + Drop, W: Write + Drop>(
+fn run_over<C: Desk, R: Read + Drop, W: Write + Drop>(
     alloc: Global,
     input: R,
     mut output: W,
@@ -63,7 +66,7 @@ struct Session<C> {
     text: String,
 }
 
-impl<C: Container> Session<C> {
+impl<C: Desk> Session<C> {
     /// An empty container, and no line yet.
     fn new(alloc: Global) -> Session<C> {
         Session {
@@ -74,14 +77,15 @@ impl<C: Container> Session<C> {
         }
     }
 
-    /// Reads a line, carries out its command and writes the answer. False where there is no line left.
+    /// Reads a line, carries out its command and writes the answer. False where there is no line
+    /// left.
     fn step<R: BufRead, W: Write>(&mut self, input: &mut R, output: &mut W) -> Result<bool, Cause> {
         if !fetch(input, &mut self.line)? {
             return Ok(false);
         }
-        let command = Command::parse(&self.line)?;
         self.text.clear();
-        answer(self.alloc, &mut self.container, command, &mut self.text)?;
+        self.container
+            .carry_out(self.alloc, &self.line, &mut self.text)?;
         if write_out(output, self.text.as_bytes()).is_err() {
             return Err(Cause::Stream);
         }

@@ -8,7 +8,8 @@ ghost use Rattle.rangerun.specs.Words.{IsNumber, IsValue, number_of};
 use crate::fault::Cause;
 use std::str;
 
-/// The number that a word writes: one or more ASCII digits, of value at most `u32::MAX`, and nothing else.
+/// The number that a word writes: one or more ASCII digits, of value at most `u32::MAX`, and
+/// nothing else.
 #[tactic(auto, using(crate::proofs::Ascii::digits_are_text))]
 pub fn number(word: &[u8]) -> Result<u32, Cause>
     ensures value { OkIff result (IsNumber word.now) (number_of word.now) }

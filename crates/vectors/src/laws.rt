@@ -1,12 +1,11 @@
 //! The laws, run on maps of rows: with memory, each reaches its outcome.
 //!
-//! What is done for a law is the same for maps over either kind of range. The rows of half-open ranges stand here too.
+//! What is done for a law is the same for every container.
 ghost use Rattle.std.specs.Prelude.{◌≡◌, ◌&&◌, false};
 ghost use Rattle.rangemap.specs.Clones.{KeysCloneFaithfully, ValuesCloneFaithfully};
 
-use crate::rows::Call::{self, Insert};
-use crate::rows::{InRows, make};
-use rangemap::{RangeMap, laws};
+use crate::rows::{Call, InRows, check_row, make};
+use rangemap::laws;
 use std::alloc::{AllocGlobal, Global};
 use std::process::Abort;
 use std::test::Fail;
@@ -19,9 +18,9 @@ fn pair_of<M: InRows<Alloc = Global>, R: AllocGlobal>(
     requires faithful_keys { KeysCloneFaithfully M.Key.is_clone M.Key.cmp }
     requires faithful_values { ValuesCloneFaithfully M.Value.is_clone M.Value.eq }
 {
-    let mut left = M::new(rt.alloc());
+    let mut left = M::empty(rt.alloc());
     make(&mut left, rt.alloc(), calls)?;
-    let mut right = M::new(rt.alloc());
+    let mut right = M::empty(rt.alloc());
     make(&mut right, rt.alloc(), calls)?;
     Ok((left, right))
 }
@@ -56,10 +55,10 @@ pub fn check_insert<M: InRows<Alloc = Global>, R: AllocGlobal + Abort>(
     requires faithful_keys { KeysCloneFaithfully M.Key.is_clone M.Key.cmp }
     requires faithful_values { ValuesCloneFaithfully M.Value.is_clone M.Value.eq }
 {
-    let mut map = M::new(rt.alloc());
+    let mut map = M::empty(rt.alloc());
     make(&mut map, rt.alloc(), calls)?;
     laws::insert_changes_its_range_alone(&mut map, range, value)?;
-    map.assert_pairs(rt, pairs)
+    check_row(rt, &map, pairs)
 }
 
 /// A remove leaves the pairs, where the calls were made before.
@@ -73,10 +72,10 @@ pub fn check_remove<M: InRows<Alloc = Global>, R: AllocGlobal + Abort>(
     requires faithful_keys { KeysCloneFaithfully M.Key.is_clone M.Key.cmp }
     requires faithful_values { ValuesCloneFaithfully M.Value.is_clone M.Value.eq }
 {
-    let mut map = M::new(rt.alloc());
+    let mut map = M::empty(rt.alloc());
     make(&mut map, rt.alloc(), calls)?;
     laws::remove_changes_its_range_alone(&mut map, range)?;
-    map.assert_pairs(rt, pairs)
+    check_row(rt, &map, pairs)
 }
 
 /// An insert leaves the pairs, made once or twice.
@@ -94,8 +93,8 @@ pub fn check_twice<M: InRows<Alloc = Global>, R: AllocGlobal + Abort>(
     let (mut once, mut twice) = pair_of::<M, R>(rt, calls)?;
     assert!(rt; laws::equal_exactly_when_alike(&once, &twice));
     laws::insert_twice_equals_once(&mut once, &mut twice, range, value)?;
-    once.assert_pairs(rt, pairs)?;
-    twice.assert_pairs(rt, pairs)
+    check_row(rt, &once, pairs)?;
+    check_row(rt, &twice, pairs)
 }
 
 /// Two inserts with no common key leave the pairs, in either order.
@@ -115,8 +114,8 @@ pub fn check_commute<M: InRows<Alloc = Global>, R: AllocGlobal + Abort>(
     let (mut forth, mut back) = pair_of::<M, R>(rt, calls)?;
     assert!(rt; laws::equal_exactly_when_alike(&forth, &back));
     laws::inserts_commute(&mut forth, &mut back, first, second)?;
-    forth.assert_pairs(rt, pairs)?;
-    back.assert_pairs(rt, pairs)
+    check_row(rt, &forth, pairs)?;
+    check_row(rt, &back, pairs)
 }
 
 /// A remove leaves the pairs, whether or not its range was inserted before it.
@@ -134,12 +133,12 @@ pub fn check_taken_back<M: InRows<Alloc = Global>, R: AllocGlobal + Abort>(
     let (mut changed, mut removed) = pair_of::<M, R>(rt, calls)?;
     assert!(rt; laws::equal_exactly_when_alike(&changed, &removed));
     laws::remove_after_insert_equals_remove(&mut changed, &mut removed, range, value)?;
-    changed.assert_pairs(rt, pairs)?;
-    removed.assert_pairs(rt, pairs)
+    check_row(rt, &changed, pairs)?;
+    check_row(rt, &removed, pairs)
 }
 
 /// The gaps of the range are those of the row.
-pub fn check_gaps<M: InRows<Alloc = Global>, R: AllocGlobal + Abort>(
+pub fn check_parted<M: InRows<Alloc = Global>, R: AllocGlobal + Abort>(
     rt: &R,
     calls: &[Call<M::RowRange, M::RowValue>],
     outer_range: &M::Range,
@@ -148,58 +147,12 @@ pub fn check_gaps<M: InRows<Alloc = Global>, R: AllocGlobal + Abort>(
     requires faithful_keys { KeysCloneFaithfully M.Key.is_clone M.Key.cmp }
     requires faithful_values { ValuesCloneFaithfully M.Value.is_clone M.Value.eq }
 {
-    let mut map = M::new(rt.alloc());
+    let mut map = M::empty(rt.alloc());
     make(&mut map, rt.alloc(), calls)?;
     let gaps = laws::gaps_and_covered_keys_make_up_a_range(rt.alloc(), &map, outer_range)?;
     assert_eq!(rt; gaps.len(), expected.len());
     for (gap, row) in gaps.iter().zip(expected) {
-        M::assert_range(rt, gap, row)?;
+        assert!(rt; M::is_range(gap, row));
     }
     Ok(())
-}
-
-type Map = RangeMap<u32, char, Global>;
-
-#[test]
-fn equal_maps_are_alike(rt: HostRuntime) -> Result<(), Fail> {
-    check_alike::<Map, _>(&rt, &[Insert(0..10, 'a'), Insert(3..6, 'b')], 3..5, 'a')
-}
-
-#[test]
-fn a_change_changes_its_range_alone(rt: HostRuntime) -> Result<(), Fail> {
-    let inserted = [(0..3, 'a'), (3..6, 'b'), (6..10, 'a')];
-    check_insert::<Map, _>(&rt, &[Insert(0..10, 'a')], 3..6, 'b', &inserted)?;
-    let calls = [Insert(0..10, 'a'), Insert(3..6, 'b')];
-    check_remove::<Map, _>(&rt, &calls, 2..7, &[(0..2, 'a'), (7..10, 'a')])
-}
-
-#[test]
-fn the_same_insert_twice_equals_once(rt: HostRuntime) -> Result<(), Fail> {
-    let pairs = [(0..3, 'a'), (3..6, 'b'), (6..10, 'a')];
-    check_twice::<Map, _>(&rt, &[Insert(0..10, 'a')], &(3..6), &'b', &pairs)
-}
-
-#[test]
-fn inserts_with_no_common_key_commute(rt: HostRuntime) -> Result<(), Fail> {
-    let pairs = [(0..2, 'a'), (2..12, 'b')];
-    let (first, second) = (2..4, 4..12);
-    check_commute::<Map, _>(
-        &rt,
-        &[Insert(0..10, 'a')],
-        (&first, &'b'),
-        (&second, &'b'),
-        &pairs,
-    )
-}
-
-#[test]
-fn a_remove_takes_back_an_insert(rt: HostRuntime) -> Result<(), Fail> {
-    let pairs = [(0..3, 'a'), (6..10, 'a')];
-    check_taken_back::<Map, _>(&rt, &[Insert(0..10, 'a')], &(3..6), &'b', &pairs)
-}
-
-#[test]
-fn gaps_and_covered_keys_make_up_a_range(rt: HostRuntime) -> Result<(), Fail> {
-    let calls = [Insert(1..3, 'a'), Insert(5..7, 'b')];
-    check_gaps::<Map, _>(&rt, &calls, &(0..8), &[0..1, 3..5, 7..8])
 }

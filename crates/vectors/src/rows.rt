@@ -1,15 +1,16 @@
-//! Rows: calls on a map, and the pairs that they leave.
+//! Rows: calls on a container, what they leave and what it then answers. Each is compared by one
+//! function, for every container.
 ghost use Rattle.std.specs.Prelude.{IfOk};
+ghost use Rattle.std.specs.Iterator.{IsFinite};
 ghost use Rattle.rangemap.specs.Clones.{KeysCloneFaithfully, ValuesCloneFaithfully};
-ghost use Rattle.rangemap.specs.Ranges.{half_open};
 
-use rangemap::RangeMap;
-use rangemap::ranged_map::{LeavesGaps, RangedMap};
-use std::alloc::Global;
+use rangemap::ranged_map::{ClonesItself, LeavesGaps, RangedMap, ReadsGaps, ReadsPairs, tell_gaps};
+use std::alloc::AllocError;
 use std::fmt::Debug;
-use std::ops::Range;
 use std::process::Abort;
 use std::test::Fail;
+
+pub mod tables;
 
 /// A call that changes a map over ranges `R`.
 #[derive(Debug, Drop)]
@@ -22,8 +23,8 @@ pub enum Call<R, V> {
     Clear,
 }
 
-/// A map that rows speak of.
-pub trait InRows: LeavesGaps {
+/// A container that rows speak of.
+pub trait InRows: LeavesGaps + ClonesItself {
     /// A range as it stands in a row.
     type RowRange;
 
@@ -37,19 +38,11 @@ pub trait InRows: LeavesGaps {
     /// Makes a value of a row.
     fn value(alloc: Self::Alloc, row: &Self::RowValue) -> Result<Self::Value, Fail>;
 
-    /// Compares a range with one of a row.
-    fn assert_range<R: Abort>(
-        rt: &R,
-        range: &Self::Range,
-        row: &Self::RowRange,
-    ) -> Result<(), Fail>;
+    /// Whether a range is that of a row.
+    fn is_range(range: &Self::Range, row: &Self::RowRange) -> bool;
 
-    /// Compares the pairs of the map with those of a row.
-    fn assert_pairs<R: AllocGlobal + Abort>(
-        &self,
-        rt: &R,
-        pairs: &[(Self::RowRange, Self::RowValue)],
-    ) -> Result<(), Fail>;
+    /// Whether a value is that of a row.
+    fn is_value(value: &Self::Value, row: &Self::RowValue) -> bool;
 }
 
 /// Makes the calls of a row, in order.
@@ -76,46 +69,260 @@ where
     Ok(())
 }
 
-/// The range between two keys of a row, which has to hold a key.
-pub fn filled<K: Ord + Drop>(start: K, end: K) -> Result<Range<K>, &'static str>
-    ensures { IfOk result (λ range. (half_open K.cmp).IsNonEmpty range) }
-{
-    if start.cmp(&end).is_lt() {
-        Ok(start..end)
-    } else {
-        Err("a range of a row is empty")
+/// Pairs that are compared with those of a row, one after another.
+#[derive(Drop)]
+struct Compared<'a, M: InRows> {
+    // The row's pairs that are still to come.
+    rest: &'a [(M::RowRange, M::RowValue)],
+    are_equal: bool,
+}
+
+impl<'a, M: InRows> ReadsPairs<M::Range, M::Value> for Compared<'a, M> {
+    fn pair(&mut self, range: &M::Range, value: &M::Value) -> Result<(), AllocError> {
+        match self.rest.split_first() {
+            Some((row, rest)) => {
+                self.rest = rest;
+                self.are_equal &= M::is_range(range, &row.0) && M::is_value(value, &row.1);
+            }
+            None => self.are_equal = false,
+        }
+        Ok(())
     }
 }
 
-impl<V: Eq + Clone + Copy + Debug> InRows for RangeMap<u32, V, Global> {
-    type RowRange = Range<u32>;
+/// Ranges that are compared with those of a row, one after another.
+#[derive(Drop)]
+struct ComparedRanges<'a, M: InRows> {
+    // The row's ranges that are still to come.
+    rest: &'a [M::RowRange],
+    are_equal: bool,
+}
 
-    type RowValue = V;
-
-    fn range(_alloc: Global, row: &Range<u32>) -> Result<Range<u32>, Fail> {
-        Ok(filled(row.start, row.end)?)
-    }
-
-    fn value(_alloc: Global, row: &V) -> Result<V, Fail> {
-        Ok(*row)
-    }
-
-    fn assert_range<R: Abort>(rt: &R, range: &Range<u32>, row: &Range<u32>) -> Result<(), Fail> {
-        assert_eq!(rt; range, row);
-        Ok(())
-    }
-
-    fn assert_pairs<R: AllocGlobal + Abort>(
-        &self,
-        rt: &R,
-        pairs: &[(Range<u32>, V)],
-    ) -> Result<(), Fail> {
-        let mut found = Vec::new(rt.alloc());
-        for (range, value) in self.iter() {
-            found.push((range.start..range.end, *value))?;
+impl<'a, M: InRows> ComparedRanges<'a, M> {
+    /// Compares one more range.
+    fn compare(&mut self, range: &M::Range) {
+        match self.rest.split_first() {
+            Some((row, rest)) => {
+                self.rest = rest;
+                self.are_equal &= M::is_range(range, row);
+            }
+            None => self.are_equal = false,
         }
-        assert_eq!(rt; found.as_slice(), pairs);
-        assert_eq!(rt; self.len(), pairs.len());
+    }
+}
+
+impl<'a, M: InRows> ReadsGaps<M::Range> for ComparedRanges<'a, M> {
+    fn gap(&mut self, gap: M::Range) -> Result<(), AllocError> {
+        self.compare(&gap);
         Ok(())
     }
+}
+
+impl<'a, S: InRows<Value = ()>> ReadsPairs<S::Range, ()> for ComparedRanges<'a, S> {
+    fn pair(&mut self, range: &S::Range, _value: &()) -> Result<(), AllocError> {
+        self.compare(range);
+        Ok(())
+    }
+}
+
+/// Compares all pairs with those of a row.
+pub fn check_row<M: InRows, R: Abort>(
+    rt: &R,
+    map: &M,
+    pairs: &[(M::RowRange, M::RowValue)],
+) -> Result<(), Fail> {
+    let mut compared: Compared<'_, M> = Compared {
+        rest: pairs,
+        are_equal: true,
+    };
+    map.read_all(&mut compared)?;
+    assert!(rt; compared.are_equal, "a pair differs");
+    assert!(rt; compared.rest.is_empty(), "a pair is missing");
+    assert_eq!(rt; map.len(), pairs.len());
+    assert_eq!(rt; map.is_empty(), pairs.is_empty());
+    Ok(())
+}
+
+/// Whether what was found is the pair of a row, or nothing where there is none.
+fn is_found<M: InRows>(
+    found: Option<(&M::Range, &M::Value)>,
+    row: &Option<(M::RowRange, M::RowValue)>,
+) -> bool {
+    match (found, row) {
+        (Some((range, value)), Some(row)) => {
+            M::is_range(range, &row.0) && M::is_value(value, &row.1)
+        }
+        (found, row) => found.is_none() && row.is_none(),
+    }
+}
+
+/// A key, and the pair whose range has it, if there is one.
+pub type Found<K, R, V> = (K, Option<(R, V)>);
+
+/// Looks each key up, and compares what is found.
+pub fn check_found<M: InRows, R: Abort>(
+    rt: &R,
+    map: &M,
+    rows: &[Found<M::Key, M::RowRange, M::RowValue>],
+) -> Result<(), Fail> {
+    for (key, pair) in rows {
+        assert!(rt; is_found::<M>(map.get_key_value(key), pair));
+        assert_eq!(rt; map.contains_key(key), pair.is_some());
+    }
+    Ok(())
+}
+
+/// Compares the first and the last pair with those of a row.
+pub fn check_ends<M: InRows, R: Abort>(
+    rt: &R,
+    map: &M,
+    first: &Option<(M::RowRange, M::RowValue)>,
+    last: &Option<(M::RowRange, M::RowValue)>,
+) -> Result<(), Fail> {
+    assert!(rt;
+        is_found::<M>(map.first_range_value(), first),
+        "the first pair differs"
+    );
+    assert!(rt;
+        is_found::<M>(map.last_range_value(), last),
+        "the last pair differs"
+    );
+    Ok(())
+}
+
+/// Compares the pairs that a query overlaps with those of a row.
+pub fn check_overlapping<M: InRows, R: Abort>(
+    rt: &R,
+    map: &M,
+    query: &M::Range,
+    pairs: &[(M::RowRange, M::RowValue)],
+) -> Result<(), Fail> {
+    let mut compared: Compared<'_, M> = Compared {
+        rest: pairs,
+        are_equal: true,
+    };
+    map.read_overlapping(query, &mut compared)?;
+    assert!(rt; compared.are_equal, "a pair differs");
+    assert!(rt; compared.rest.is_empty(), "a pair is missing");
+    assert_eq!(rt; map.overlaps(query), !pairs.is_empty());
+    Ok(())
+}
+
+/// Compares the gaps in an outer range with those of a row.
+pub fn check_gaps<M: InRows, R: Abort>(
+    rt: &R,
+    map: &M,
+    outer_range: &M::Range,
+    gaps: &[M::RowRange],
+) -> Result<(), Fail>
+    requires faithful_keys { KeysCloneFaithfully M.Key.is_clone M.Key.cmp }
+{
+    let mut compared: ComparedRanges<'_, M> = ComparedRanges {
+        rest: gaps,
+        are_equal: true,
+    };
+    map.read_gaps(outer_range, &mut compared)?;
+    assert!(rt; compared.are_equal, "a gap differs");
+    assert!(rt; compared.rest.is_empty(), "a gap is missing");
+    Ok(())
+}
+
+/// Makes a set of the ranges of a row, by inserts.
+pub fn make_set<S: InRows<Value = (), RowValue = ()>>(
+    alloc: S::Alloc,
+    ranges: &[S::RowRange],
+) -> Result<S, Fail>
+where
+    S::Alloc: Copy,
+    requires { KeysCloneFaithfully S.Key.is_clone S.Key.cmp }
+{
+    let mut set = S::empty(alloc);
+    for range in ranges {
+        set.insert(S::range(alloc, range)?, ())?;
+    }
+    Ok(set)
+}
+
+/// Compares all ranges of a set with those of a row.
+pub fn check_set<S: InRows<Value = ()>, R: Abort>(
+    rt: &R,
+    set: &S,
+    ranges: &[S::RowRange],
+) -> Result<(), Fail> {
+    let mut compared: ComparedRanges<'_, S> = ComparedRanges {
+        rest: ranges,
+        are_equal: true,
+    };
+    set.read_all(&mut compared)?;
+    assert!(rt; compared.are_equal, "a range differs");
+    assert!(rt; compared.rest.is_empty(), "a range is missing");
+    assert_eq!(rt; set.len(), ranges.len());
+    assert_eq!(rt; set.is_empty(), ranges.is_empty());
+    Ok(())
+}
+
+/// Compares a set with the one that the ranges of a row make: whether both are equal.
+pub fn check_equality<S: InRows<Value = (), RowValue = ()>, R: Abort>(
+    rt: &R,
+    alloc: S::Alloc,
+    set: &S,
+    ranges: &[S::RowRange],
+    are_equal: bool,
+) -> Result<(), Fail>
+where
+    S::Alloc: Copy,
+    requires { KeysCloneFaithfully S.Key.is_clone S.Key.cmp }
+{
+    let other: S = make_set(alloc, ranges)?;
+    assert!(rt; (*set == other) == are_equal);
+    Ok(())
+}
+
+/// Compares the items of a union or an intersection with the ranges of a row.
+pub fn check_items<
+    S: InRows<Value = ()>,
+    I: Iterator<Item = Result<S::Range, AllocError>> + Drop,
+    R: Abort,
+>(rt: &R, items: I, ranges: &[S::RowRange]) -> Result<(), Fail>
+    requires can { I.can_next items }
+    requires ends { IsFinite (I.remaining items) }
+{
+    let mut compared: ComparedRanges<'_, S> = ComparedRanges {
+        rest: ranges,
+        are_equal: true,
+    };
+    tell_gaps(items, &mut compared)?;
+    assert!(rt; compared.are_equal, "an item differs");
+    assert!(rt; compared.rest.is_empty(), "an item is missing");
+    Ok(())
+}
+
+/// Compares which calls of a replay were accepted, and the maps that it left, with those of a row.
+pub fn check_replayed<M: InRows, R: Abort>(
+    rt: &R,
+    answers: (&[bool], &[bool]),
+    maps: &[M],
+    pairs: &[&[(M::RowRange, M::RowValue)]],
+) -> Result<(), Fail> {
+    assert_eq!(rt; answers.0, answers.1);
+    assert_eq!(rt; maps.len(), pairs.len());
+    for (map, pairs) in maps.iter().zip(pairs) {
+        check_row(rt, map, *pairs)?;
+    }
+    Ok(())
+}
+
+/// Compares which calls of a replay were accepted, and the sets that it left, with those of a row.
+pub fn check_replayed_sets<S: InRows<Value = ()>, R: Abort>(
+    rt: &R,
+    answers: (&[bool], &[bool]),
+    sets: &[S],
+    ranges: &[&[S::RowRange]],
+) -> Result<(), Fail> {
+    assert_eq!(rt; answers.0, answers.1);
+    assert_eq!(rt; sets.len(), ranges.len());
+    for (set, ranges) in sets.iter().zip(ranges) {
+        check_set(rt, set, *ranges)?;
+    }
+    Ok(())
 }

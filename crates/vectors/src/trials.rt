@@ -1,6 +1,7 @@
 //! Calls that are tried with each request for memory refused in its turn.
 //!
-//! What is tried takes its memory from an allocator that refuses one request. So each growth and each clone is refused once.
+//! What is tried takes its memory from an allocator that refuses one request. So each growth and
+//! each clone is refused once.
 
 use refusing::Refusing;
 use std::alloc::Global;
@@ -9,6 +10,7 @@ use std::test::Fail;
 
 pub mod gaps;
 pub mod maps;
+pub mod operations;
 pub mod replays;
 
 /// Where what is tried takes its memory from.
@@ -22,8 +24,8 @@ pub type Answer = Result<bool, Fail>;
 
 /// A call that is tried anew for each number of requests that are granted.
 pub trait Trial {
-    /// Makes the call on a heap of its own, so that the request that comes after `left` others is refused, and checks what
-    /// it leaves. Answers whether it was accepted.
+    /// Makes the call on a heap of its own, so that the request that comes after `left` others is
+    /// refused, and checks what it leaves. Answers whether it was accepted.
     fn is_accepted<R: AllocGlobal + Abort>(&self, rt: &R, heap: &Heap, left: u64) -> Answer;
 }
 

@@ -1,14 +1,15 @@
 //! Calls with clones of a range and a value, which the laws make more than once.
 ghost use Rattle.std.specs.Prelude.{IfOk, OnOk};
-ghost use Rattle.rangemap_core.specs.Items.{IsSame};
+ghost use Rattle.rangemap.specs.Items.{IsSame};
 ghost use Rattle.rangemap.specs.Clones.{KeysCloneFaithfully, ValuesCloneFaithfully};
 ghost use Rattle.rangemap.specs.Ranges.{IsCanonOf, IsCanonical, IsStorable, erase, override, value_at};
 
+use crate::ranged_map::RangedMap;
 use rangemap_core::kind::{Endpoint, Interval, Kind};
-use rangemap_core::ranged_map::RangedMap;
 use std::alloc::AllocError;
 
-/// Inserts clones of a range and a value. The map is canonical before, which the laws need of what they are lent.
+/// Inserts clones of a range and a value. The map is canonical before, which the laws need of what
+/// they are lent.
 pub fn insert_clone<M: RangedMap>(
     map: &mut M,
     range: &M::Range,

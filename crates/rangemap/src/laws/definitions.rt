@@ -4,8 +4,8 @@ ghost use Rattle.std.specs.Ordering.{nat_cmp};
 ghost use Rattle.rangemap.specs.Ranges.{AreGaps, IsCanonOf, IsCanonical, closed, covering, erase, half_open, overlapped, override, value_at};
 ghost use Rattle.rangemap.specs.Rows.{bytes, inclusive, iterated, one_pair, range, three_pairs};
 
-/// Which lists are canonical: `three_pairs` is (0..3, 1), (3..6, 2), (6..10, 1). A list is none whose ranges touch with equal
-/// values, overlap, stand in another order or are empty.
+/// Which lists are canonical: `three_pairs` is (0..3, 1), (3..6, 2), (6..10, 1). A list is none
+/// whose ranges touch with equal values, overlap, stand in another order or are empty.
 pub fn canonical_rows()
     ensures apart { IsCanonical (half_open nat_cmp) nat_eq three_pairs }
     ensures touching { ¬ (IsCanonical (half_open nat_cmp) nat_eq ((range 0 5, 1) ∷ (range 5 7, 1) ∷ [])) }
@@ -15,8 +15,8 @@ pub fn canonical_rows()
     ensures reversed { ¬ (IsCanonical (half_open nat_cmp) nat_eq ((range 7 5, 1) ∷ [])) }
 {}
 
-/// Which ranges touch, which keys a range has, which pair covers a key, and which pairs a query meets: an empty query within
-/// a stored range meets it, and one at its end does not.
+/// Which ranges touch, which keys a range has, which pair covers a key, and which pairs a query
+/// meets: an empty query within a stored range meets it, and one at its end does not.
 pub fn range_rows()
     ensures touch { (half_open nat_cmp).Touches (range 0 3) (range 3 6) }
     ensures gap { ¬ ((half_open nat_cmp).Touches (range 0 3) (range 4 6)) }
@@ -44,8 +44,8 @@ pub fn gap_rows()
     ensures reversed { AreGaps (half_open nat_cmp) (range 1 3 ∷ range 5 7 ∷ []) (range 8 0) [] }
 {}
 
-/// Which closed ranges touch and are empty, over bytes: two touch where no key lies between, and one that was iterated to its
-/// end is empty. Which lists of them are canonical.
+/// Which closed ranges touch and are empty, over bytes: two touch where no key lies between, and
+/// one that was iterated to its end is empty. Which lists of them are canonical.
 pub fn closed_rows()
     ensures touch { bytes.Touches (inclusive 0 4) (inclusive 5 9) }
     ensures gap { ¬ (bytes.Touches (inclusive 0 4) (inclusive 6 9)) }
@@ -57,8 +57,8 @@ pub fn closed_rows()
     ensures past_the_keys { ¬ (IsCanonical bytes nat_eq ((inclusive 0 256, 1) ∷ [])) }
 {}
 
-/// Which pairs of closed ranges a query meets, a reversed one too, and the gaps that they leave: up to the last key, and of a
-/// single key.
+/// Which pairs of closed ranges a query meets, a reversed one too, and the gaps that they leave: up
+/// to the last key, and of a single key.
 pub fn closed_query_rows()
     ensures last_point { covering {V = ℕ} bytes ((inclusive 0 9, 1) ∷ []) 9 ≡ SomeWord (inclusive 0 9, 1) }
     ensures met_by_reversed { overlapped {V = ℕ} bytes ((inclusive 3 8, 1) ∷ []) (inclusive 6 4) ≡ (inclusive 3 8, 1) ∷ [] }

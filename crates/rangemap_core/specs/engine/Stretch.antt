@@ -7,7 +7,7 @@ use Rattle.std.specs.declared.cmp.Ordering.TheVariants.{Less, Equal, Greater}
 use Rattle.std.specs.Ordering.{is_lt, is_gt}
 use Rattle.std.specs.List.{AllWithin}
 use Rattle.rangemap_core.specs.Ranges.{RangeKind, IsStorable}
-use Rattle.rangemap_core.specs.engine.Shape.{Shape, has_place, place_value, IsApart, IsSpaced}
+use Rattle.rangemap_core.specs.engine.Shape.{Shape, PassesUpTo, has_place, place_value, IsApart, IsSpaced}
 
 -- what holds of each element
 abbrev pub Every : {X : Type 0} → (X → Type 0) → List X → Type 0
@@ -27,7 +27,7 @@ are_apart s a b = apart_by (s.order (s.end_place a.0) (s.start_place b.0)) (s.sa
 pub record IsStretch {G P V : Type 0} (s : Shape G P V) (xs : List (G × V)) (pair : G × V) (start end : ℕ) : Type 0 where
   pub start_le_end : start ≤ end
   pub in_bounds : end ≤ length xs
-  pub before : IsPartitionPoint (λ a. are_apart s a pair ≡ true) (λ a. are_apart s a pair ≡ false) xs start
+  pub before : PassesUpTo (λ a. are_apart s a pair) xs start
   pub after : IsPartitionPoint (λ b. are_apart s pair b ≡ false) (λ b. are_apart s pair b ≡ true) xs end
 
 module _ {G P V : Type 0} (s : Shape G P V) where
@@ -93,7 +93,7 @@ module _ {G P V : Type 0} (s : Shape G P V) where
   pub record IsOverlap (xs : List (G × V)) (r : G) (start end : ℕ) : Type 0 where
     pub start_le_end : start ≤ end
     pub in_bounds : end ≤ length xs
-    pub ended : IsPartitionPoint (λ a. ends_by r a ≡ true) (λ a. ends_by r a ≡ false) xs start
+    pub ended : PassesUpTo (ends_by r) xs start
     pub begun : AllWithin (λ b. starts_within r b ≡ true) xs start end
     pub later : AllWithin (λ b. starts_within r b ≡ false) xs end (length xs)
 

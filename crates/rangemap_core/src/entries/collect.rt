@@ -7,12 +7,12 @@ ghost use Rattle.rangemap_core.specs.Ranges.{AreNonEmpty, IsCanonOf, IsCanonical
 
 use super::Entries;
 use crate::into_iter::IntoIter;
-use crate::kind::{Endpoint, Kind};
+use crate::kind::{Endpoint, Kind, known_ends};
 use std::alloc::{AllocError, Allocator};
 use std::marker::PhantomData;
 
 impl<Q: Kind<K, R>, K: Ord + Clone, R, V: Eq, A: Allocator> Entries<Q, K, R, V, A> {
-    /// The pairs, in order, as an iterator that owns them. It takes no memory.
+    /// Returns the pairs, in order, as an iterator that owns them.
     pub fn into_iter(self) -> IntoIter<R, V, A>
         ensures { result ≡ self }
     {
@@ -22,10 +22,13 @@ impl<Q: Kind<K, R>, K: Ord + Clone, R, V: Eq, A: Allocator> Entries<Q, K, R, V, 
 }
 
 impl<Q: Kind<K, R>, K: Ord + Clone, R: Drop, V: Eq + Clone, A: Allocator> Entries<Q, K, R, V, A> {
-    /// The same pairs, cloned, in memory of a clone of this list's allocator.
+    /// Returns the same pairs, cloned, in memory of a clone of this list's allocator.
     ///
-    /// `Err` says that the memory of the list or a clone was refused. It makes two clones of a key and one of a value for each
-    /// pair, and asks for the memory of the list once.
+    /// It makes two clones of a key and one of a value for each pair.
+    ///
+    /// # Errors
+    ///
+    /// The memory of the list or a clone was refused.
     pub fn clone(&self) -> Result<Self, AllocError>
     where
         A: Clone,
@@ -48,8 +51,10 @@ impl<Q: Kind<K, R>, K: Ord + Clone, R: Drop, V: Eq + Clone, A: Allocator> Entrie
 
     /// Inserts the items, in the order in which they come.
     ///
-    /// `Err` says that an insert was refused. The items before that one are inserted and stay; it and those after it are
-    /// dropped.
+    /// # Errors
+    ///
+    /// An insert was refused. The items before that one are inserted and stay; it and those after
+    /// it are dropped.
     pub fn extend<I: IntoIterator<Item = (R, V)>>(&mut self, iter: I) -> Result<(), AllocError>
         requires canonical { IsCanonical Q.kind V.eq self.old }
         requires ends { IsFiniteIterable I.into_iter_gives I.IntoIter.can_next I.IntoIter.remaining iter }
@@ -59,14 +64,17 @@ impl<Q: Kind<K, R>, K: Ord + Clone, R: Drop, V: Eq + Clone, A: Allocator> Entrie
         ensures { ExtendsWithItems I.into_iter_gives I.IntoIter.next_gives (Overrides Q.kind V.eq) iter self.old self.new result }
     {
         for (range, value) in iter {
-            Q::known(Q::start(&range));
-            Q::known(Q::end(&range));
+            known_ends::<Q, K, R>(&range);
             self.insert(range, value)?;
         }
         Ok(())
     }
 
-    /// The items, inserted in the order in which they come, in memory of `alloc`. `Err` says that an insert was refused.
+    /// Returns the items, inserted in the order in which they come, in memory of `alloc`.
+    ///
+    /// # Errors
+    ///
+    /// An insert was refused.
     pub fn from_iter<I: IntoIterator<Item = (R, V)>>(alloc: A, iter: I) -> Result<Self, AllocError>
         requires ends { IsFiniteIterable I.into_iter_gives I.IntoIter.can_next I.IntoIter.remaining iter }
         requires non_empty { (it : I.IntoIter) → I.into_iter_gives iter it → GivesNonEmpty Q.kind I.IntoIter.next_gives it }
@@ -79,8 +87,11 @@ impl<Q: Kind<K, R>, K: Ord + Clone, R: Drop, V: Eq + Clone, A: Allocator> Entrie
         Ok(all)
     }
 
-    /// The pairs of an array, inserted in their order, in memory of `alloc`. `Err` says that an insert was refused, or the
-    /// memory through which the array is read, or a clone of `alloc`.
+    /// Returns the pairs of an array, inserted in their order, in memory of `alloc`.
+    ///
+    /// # Errors
+    ///
+    /// An insert was refused, or the memory through which the array is read, or a clone of `alloc`.
     pub fn from_array<const N: usize>(alloc: A, pairs: [(R, V); N]) -> Result<Self, AllocError>
     where
         A: Clone,

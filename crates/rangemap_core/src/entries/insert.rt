@@ -3,19 +3,19 @@ ghost use Rattle.std.specs.Prelude.{◌≡◌, ◌+◌, ◌-◌, ◌<◌, ◌≤
 ghost use Rattle.rangemap_core.specs.Clones.{KeysCloneFaithfully, ValuesCloneFaithfully};
 ghost use Rattle.rangemap_core.specs.engine.Places.{Spans};
 ghost use Rattle.rangemap_core.specs.Ranges.{IsCanonOf, IsCanonical, IsStorable, override, value_at};
-ghost use Rattle.rangemap_core.specs.engine.Shape.{shape_of};
 ghost use Rattle.std.specs.List.Sorted.{IsPartitionPoint};
+ghost use Rattle.rangemap_core.specs.engine.Shape.{PassesUpTo, shape_of};
 ghost use Rattle.rangemap_core.specs.engine.Stretch.{are_apart, taken_or_new, IsOverlap, IsStretch, IsLeftSide, IsRightSide, IsPiece, IsTaken};
 
 use super::Entries;
 use super::remove::{part_after, part_before};
 use crate::kind::{Endpoint, Kind};
-use crate::overlapping::{Reach, overlap};
 use crate::splice::splice;
+use crate::std_ext::Touch;
 use std::alloc::{AllocError, Allocator};
-use std::cmp::Ordering;
 
-// A piece that an insert leaves of a stored pair, or whether it takes the stored pair into the new one.
+// A piece that an insert leaves of a stored pair, or whether it takes the stored pair into the new
+// one.
 #[derive(Drop)]
 struct Side<R, V> {
     piece: Option<(R, V)>,
@@ -25,13 +25,15 @@ struct Side<R, V> {
 impl<Q: Kind<K, R>, K: Ord + Clone, R: Drop, V: Eq + Clone, A: Allocator> Entries<Q, K, R, V, A> {
     /// Gives the keys of the range the value.
     ///
-    /// Stored ranges that overlap the new one and have an equal value, or touch it and have one, are joined with it; others
-    /// that overlap it are cut down to what lies outside. `Err` says that a clone or the growth of the list was refused: each is
-    /// made before the first change, so nothing changed then.
+    /// Stored ranges that overlap the new one and have an equal value, or touch it and have one,
+    /// are joined with it; others that overlap it are cut down to what lies outside. The pairs
+    /// behind the place are moved at most once; an insert behind all others, which adds one pair,
+    /// moves none.
     ///
-    /// Of n pairs it takes a search, as `covering` makes one, and a second one where it meets more than four pairs, a few looks
-    /// beside what they find, and at most one move of the pairs behind the place. An insert behind all others, which adds one
-    /// pair, moves none.
+    /// # Errors
+    ///
+    /// A clone or the growth of the list was refused. Each is made before the first change, so
+    /// nothing changed then.
     pub fn insert(&mut self, range: R, value: V) -> Result<(), AllocError>
         requires canonical { IsCanonical Q.kind V.eq self.old }
         requires range { IsStorable Q.kind range }
@@ -56,15 +58,15 @@ impl<Q: Kind<K, R>, K: Ord + Clone, R: Drop, V: Eq + Clone, A: Allocator> Entrie
         )
     }
 
-    // The places of the pairs that overlap the new one or are to be joined with it: those that overlap it, and the pair on
-    // either side, where it touches and has an equal value.
+    // The places of the pairs that overlap the new one or are to be joined with it: those that
+    // overlap it, and the pair on either side, where it touches and has an equal value.
     fn stretch(&self, range: &R, value: &V) -> (usize, usize)
         requires canonical { IsCanonical Q.kind V.eq self.now }
         requires range { IsStorable Q.kind range.now }
         ensures { IsStretch (shape_of Q.kind Q.end_place V.eq) self.now (range.now, value.now) result.0 result.1 }
     {
+        let (from, to) = self.overlap(range);
         let pairs = self.pairs.as_slice();
-        let (from, to) = overlap::<Q, K, R, V>(pairs, range, Reach::Near);
         let start = stretch_start::<Q, K, R, V>(pairs, from, to, range, value);
         let end = stretch_end::<Q, K, R, V>(pairs, from, to, range, value);
         (start, end)
@@ -140,7 +142,8 @@ impl<Q: Kind<K, R>, K: Ord + Clone, R: Drop, V: Eq + Clone, A: Allocator> Entrie
         })
     }
 
-    // The new range, from the start of the first pair of the stretch or up to the end of the last where these are taken into it.
+    // The new range, from the start of the first pair of the stretch or up to the end of the last
+    // where these are taken into it.
     fn middle(
         &self,
         start: usize,
@@ -185,7 +188,7 @@ fn stretch_start<Q: Kind<K, R>, K: Ord + Clone, R, V: Eq>(
     requires range { IsStorable Q.kind range.now }
     requires overlap { IsOverlap (shape_of Q.kind Q.end_place V.eq) pairs.now range.now from to }
     ensures before { result ≤ from }
-    ensures point { IsPartitionPoint (λ a. are_apart (shape_of Q.kind Q.end_place V.eq) a (range.now, value.now) ≡ true) (λ a. are_apart (shape_of Q.kind Q.end_place V.eq) a (range.now, value.now) ≡ false) pairs.now result }
+    ensures point { PassesUpTo (λ a. are_apart (shape_of Q.kind Q.end_place V.eq) a (range.now, value.now)) pairs.now result }
 {
     if from == 0 {
         return 0;
@@ -235,9 +238,9 @@ fn is_apart<Q: Kind<K, R>, K: Ord + Clone, R, V: Eq>(
     requires second { IsStorable Q.kind second.now }
     ensures { result ≡ are_apart (shape_of Q.kind Q.end_place V.eq) (first.now, first_value.now) (second.now, second_value.now) }
 {
-    match Q::compare_end_to_start(first, second) {
-        Ordering::Less => true,
-        Ordering::Equal => *first_value != *second_value,
-        Ordering::Greater => false,
+    match Q::touch_test(first, second) {
+        Touch::Apart => true,
+        Touch::Touching => *first_value != *second_value,
+        Touch::NotBefore => false,
     }
 }

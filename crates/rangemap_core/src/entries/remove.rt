@@ -8,7 +8,6 @@ ghost use Rattle.rangemap_core.specs.engine.Stretch.{Every, IsPieceBefore, IsPie
 
 use super::Entries;
 use crate::kind::{Endpoint, Kind};
-use crate::overlapping::{Reach, overlap};
 use crate::splice::splice;
 use std::alloc::{AllocError, Allocator};
 use std::cmp::Ordering;
@@ -16,9 +15,12 @@ use std::cmp::Ordering;
 impl<Q: Kind<K, R>, K: Ord + Clone, R: Drop, V: Eq + Clone, A: Allocator> Entries<Q, K, R, V, A> {
     /// Takes the keys of the range out.
     ///
-    /// Stored ranges that overlap it are cut down to what lies outside, which makes two of one that goes past it on both sides.
-    /// Where none does, no memory is asked for and nothing changes. `Err` says that a clone or the growth of the list was
-    /// refused: each is made before the first change, so nothing changed then. It costs what an insert does.
+    /// Stored ranges that overlap it are cut down to what lies outside, which makes two of one that
+    /// goes past it on both sides. Where none does, no memory is asked for and nothing changes.
+    ///
+    /// # Errors
+    ///
+    /// As for `insert`.
     pub fn remove(&mut self, range: R) -> Result<(), AllocError>
         requires canonical { IsCanonical Q.kind V.eq self.old }
         requires range { IsStorable Q.kind range }
@@ -29,18 +31,17 @@ impl<Q: Kind<K, R>, K: Ord + Clone, R: Drop, V: Eq + Clone, A: Allocator> Entrie
         ensures growth { OnOk result (length self.new ≤ length self.old + 1) }
         ensures meets_nothing { overlapped Q.kind self.old range ≡ [] → IsOk result × (self.new ≡ self.old) }
     {
-        let pairs = self.pairs.as_slice();
-        let (start, end) = overlap::<Q, K, R, V>(pairs, &range, Reach::Near);
+        let (start, end) = self.overlap(&range);
         if start == end {
             return Ok(());
         }
-        let left = part_before::<Q, K, R, V>(&pairs[start], &range)?;
-        let right = part_after::<Q, K, R, V>(&pairs[end - 1], &range)?;
+        let left = part_before::<Q, K, R, V>(&self.pairs[start], &range)?;
+        let right = part_after::<Q, K, R, V>(&self.pairs[end - 1], &range)?;
         splice(&mut self.pairs, start, end, left, None, right)
     }
 }
 
-/// What lies of the pair before the range, made of clones, if the pair starts there.
+/// Returns what lies of the pair before the range, made of clones, if the pair starts there.
 pub(super) fn part_before<Q: Kind<K, R>, K: Ord + Clone, R: Drop, V: Eq + Clone>(
     pair: &(R, V),
     range: &R,
@@ -61,7 +62,7 @@ pub(super) fn part_before<Q: Kind<K, R>, K: Ord + Clone, R: Drop, V: Eq + Clone>
     }
 }
 
-/// What lies of it after the range, if it ends there.
+/// Returns what lies of it after the range, if it ends there.
 pub(super) fn part_after<Q: Kind<K, R>, K: Ord + Clone, R: Drop, V: Eq + Clone>(
     pair: &(R, V),
     range: &R,

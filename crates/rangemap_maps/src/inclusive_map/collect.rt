@@ -18,12 +18,17 @@ impl<K: Ord + Clone, V: Eq + Clone, StepFnsT: StepFns<K>, A: Allocator> RangeInc
     StepFnsT,
     A,
 > {
-    /// An equal map, made of clones, in memory of a clone of this one's allocator.
+    /// Returns an equal map, made of clones, in memory of a clone of this one's allocator.
     ///
-    /// The caller sees to it that a clone of a key or value equals its original, which holds for std's types.
+    /// For each stored range it clones two keys and a value.
     ///
-    /// `Err` says that the memory of the list, or a clone of the allocator, of a key or of a value, was refused. For each
-    /// stored range it clones two keys and a value, and it asks for the memory of the list once: time in n.
+    /// # Requires
+    ///
+    /// A clone of a key or value equals its original, which holds for std's types.
+    ///
+    /// # Errors
+    ///
+    /// The memory of the list, or a clone of the allocator, of a key or of a value, was refused.
     pub fn clone(&self) -> Result<Self, AllocError>
     where
         A: Clone,
@@ -41,15 +46,19 @@ impl<K: Ord + Clone, V: Eq + Clone, StepFnsT: StepFns<K>, A: Allocator> RangeInc
 impl<K: StepLite + Clone, V: Eq + Clone, A: Allocator> RangeInclusiveMap<K, V, K, A> {
     /// Inserts the items of `iter`, in the order in which they come, each as `insert` does.
     ///
-    /// The caller sees to it that the iterator ends, that no range that it gives is empty or was iterated to its end, and
-    /// that clones are faithful, as for `insert`. Where the check doesn't see this of an iterator it asks for one answer, as
-    /// `rangemap_core::map::RangeMap::extend` says.
+    /// Items that come in order, behind all that is stored, move nothing. Where many come in
+    /// another order, sort them first.
     ///
-    /// `Err` says that an insert was refused, as there. The items before that one are inserted and stay; it and those after
-    /// it are dropped.
+    /// # Requires
     ///
-    /// Each item costs what `insert` does. Items that come in order, behind all that is stored, take time in log(n) each and move
-    /// nothing. Where many come in another order, sort them first.
+    /// The iterator ends, no range that it gives is empty or was iterated to its end, and clones
+    /// are faithful, as for `insert`. Where the check doesn't see this of an iterator it asks for
+    /// one answer, as `map::RangeMap::extend` says.
+    ///
+    /// # Errors
+    ///
+    /// An insert was refused, as there. The items before that one are inserted and stay; it and
+    /// those after it are dropped.
     pub fn extend<I: IntoIterator<Item = (RangeInclusive<K>, V)>>(
         &mut self,
         iter: I,
@@ -63,10 +72,16 @@ impl<K: StepLite + Clone, V: Eq + Clone, A: Allocator> RangeInclusiveMap<K, V, K
         self.entries.extend(iter)
     }
 
-    /// The map of the items of `iter`, inserted in the order in which they come, in memory of `alloc`.
+    /// Returns the map of the items of `iter`, inserted in the order in which they come, in memory
+    /// of `alloc`.
     ///
-    /// The conditions, the answer that the check may ask for, and what an item costs are those of `extend`. `Err` says that an
-    /// insert was refused; nothing is made then.
+    /// # Requires
+    ///
+    /// What `extend` does; the check may ask for the same answer.
+    ///
+    /// # Errors
+    ///
+    /// An insert was refused; nothing is made then.
     pub fn from_iter<I: IntoIterator<Item = (RangeInclusive<K>, V)>>(
         alloc: A,
         iter: I,
@@ -82,10 +97,18 @@ impl<K: StepLite + Clone, V: Eq + Clone, A: Allocator> RangeInclusiveMap<K, V, K
         })
     }
 
-    /// The map of the pairs of an array, inserted in their order, in memory of `alloc`.
+    /// Returns the map of the pairs of an array, inserted in their order, in memory of `alloc`.
     ///
-    /// The conditions are those of `insert`, for each pair. `Err` says that an insert was refused, or the memory through
-    /// which the array is read, or a clone of `alloc`; nothing is made then. A pair costs what `insert` does.
+    /// # Requires
+    ///
+    /// What `insert` does, for each pair.
+    ///
+    /// # Errors
+    ///
+    /// An insert was refused, or the memory through which the array is read, or a clone of `alloc`;
+    /// nothing is made then.
+    ///
+    /// # Examples
     ///
     /// ```text
     /// let map = RangeInclusiveMap::from(alloc, [(0..=100u32, "abc"), (100..=200, "def")])?;
@@ -119,8 +142,8 @@ impl<K: StepLite + Clone, V: Eq + Clone, A: Allocator> IntoIterator
 
     ghost into_iter_gives = { λ map it. (it ≡ map) × IsCanonical (closed K.StepLite.is_key K.cmp) V.eq map };
 
-    /// The stored pairs, in order, from both ends. It takes no memory, and the same time for any map, as does each pair taken
-    /// from it. Those that are not taken are dropped with it, in time by their number.
+    /// Returns the stored pairs, in order, from both ends. Those that are not taken are dropped
+    /// with it.
     fn into_iter(self) -> IntoIter<K, V, A> {
         self.entries.into_iter()
     }

@@ -1,10 +1,13 @@
 //! Runs of the program over texts in memory, and over streams that fail.
 
 mod arguments;
+mod cal;
 mod failures;
 mod faults;
 mod imap;
+mod iset;
 mod map;
+mod set;
 mod streams;
 
 use super::run;
@@ -13,7 +16,13 @@ use std::alloc::{AllocError, Global};
 use std::process::Abort;
 
 /// The words that ask for each kind of container.
-const KINDS: [&str; 2] = ["map", "imap"];
+const KINDS: [&str; 4] = ["map", "imap", "set", "iset"];
+
+/// Those that ask for a map.
+const MAPS: [&str; 2] = ["map", "imap"];
+
+/// Those that ask for a set.
+const SETS: [&str; 2] = ["set", "iset"];
 
 /// The words after the program's name that ask for a kind.
 fn words_for(alloc: Global, kind: &str) -> Result<Vec<String>, AllocError> {
@@ -37,5 +46,41 @@ fn assert_run<R: AllocGlobal + Abort>(
         printed.as_bytes(),
         "{kind} after {input:?}"
     );
+    Ok(())
+}
+
+/// Runs the lines of each row over each kind, always after the lines `before`, and compares what is
+/// printed.
+fn assert_answers<R: AllocGlobal + Abort>(
+    rt: &R,
+    kinds: &[&str],
+    before: &str,
+    rows: &[(&str, &str)],
+) -> Result<(), AllocError> {
+    for kind in kinds {
+        for (asked, printed) in rows {
+            let lines = format!(in rt.alloc(); "{before}{asked}")?;
+            assert_run(rt, kind, lines.as_bytes(), printed, Ok(()))?;
+        }
+    }
+    Ok(())
+}
+
+/// Runs the lines of each row over each kind, and compares what is printed, and the number and the
+/// line of the fault that ends the run.
+fn assert_faults<R: AllocGlobal + Abort>(
+    rt: &R,
+    kinds: &[&str],
+    rows: &[(&str, &str, u8, u64)],
+) -> Result<(), AllocError> {
+    for kind in kinds {
+        for (lines, printed, number, line) in rows {
+            let fault = Fault {
+                number: *number,
+                line: *line,
+            };
+            assert_run(rt, kind, lines.as_bytes(), printed, Err(fault))?;
+        }
+    }
     Ok(())
 }

@@ -1,22 +1,86 @@
-//! What maps over either kind of range leave where a call is refused memory.
+//! What a container of either kind leaves where a call that changes it, copies it or looks for its
+//! gaps is refused memory.
 ghost use Rattle.rangemap.specs.Clones.{KeysCloneFaithfully, ValuesCloneFaithfully};
 
+use super::gaps::try_gaps;
 use super::{Answer, Heap, MANY};
 use crate::rows::Call::{self, Clear, Insert, Remove};
-use crate::rows::InRows;
+use crate::rows::{InRows, check_row};
 use std::alloc::AllocError;
 use std::process::Abort;
 use std::test::Fail;
 
-/// A call on a map that holds the stored pairs, and the pairs that it leaves.
+/// A call that takes memory.
 #[derive(Drop)]
-pub struct Change<'a, R, V> {
-    /// What the map holds before.
-    pub stored: &'a [(R, V)],
-    /// What is called.
-    pub call: Call<R, V>,
-    /// What the map holds once the call was accepted.
-    pub changed: &'a [(R, V)],
+pub enum Tried<'r, R, V> {
+    /// A change, and the pairs that it leaves.
+    Change(Call<R, V>, &'r [(R, V)]),
+    /// `clone`.
+    Clone,
+    /// `gaps` in a range that begins in one and ends in another, and these two.
+    Gaps(R, R, R),
+}
+
+/// The pairs that a container holds, a call on it, and the number of requests that this makes.
+pub type Row<'r, R, V> = (&'r [(R, V)], Tried<'r, R, V>, u64);
+
+/// Tries the call of each row with each of its requests refused in its turn, and compares how many
+/// it makes.
+pub fn check_refusals<'a, R: Abort, M: InRows<Alloc = &'a Heap>>(
+    rt: &R,
+    heap: &'a Heap,
+    rows: &[Row<'_, M::RowRange, M::RowValue>],
+) -> Result<(), Fail>
+    requires faithful_keys { KeysCloneFaithfully M.Key.is_clone M.Key.cmp }
+    requires faithful_values { ValuesCloneFaithfully M.Value.is_clone M.Value.eq }
+{
+    for (place, row) in rows.iter().enumerate() {
+        let refusals = count::<R, M>(rt, heap, row)?;
+        assert!(rt;
+            refusals == row.2,
+            "row {place} was refused {refusals} times"
+        );
+    }
+    Ok(())
+}
+
+/// Tries the call of a row until it is accepted, and counts how often it was refused.
+fn count<'a, R: Abort, M: InRows<Alloc = &'a Heap>>(
+    rt: &R,
+    heap: &'a Heap,
+    row: &Row<'_, M::RowRange, M::RowValue>,
+) -> Result<u64, Fail>
+    requires faithful_keys { KeysCloneFaithfully M.Key.is_clone M.Key.cmp }
+    requires faithful_values { ValuesCloneFaithfully M.Value.is_clone M.Value.eq }
+{
+    for left in 0..MANY {
+        if is_accepted::<R, M>(rt, heap, row, left)? {
+            return Ok(left);
+        }
+    }
+    Err(Fail::new("a call was never accepted"))
+}
+
+/// Tries the call of a row, whose request that comes after `left` others is refused.
+fn is_accepted<'a, R: Abort, M: InRows<Alloc = &'a Heap>>(
+    rt: &R,
+    heap: &'a Heap,
+    row: &Row<'_, M::RowRange, M::RowValue>,
+    left: u64,
+) -> Answer
+    requires faithful_keys { KeysCloneFaithfully M.Key.is_clone M.Key.cmp }
+    requires faithful_values { ValuesCloneFaithfully M.Value.is_clone M.Value.eq }
+{
+    let mut map: M = make_map(heap, row.0)?;
+    match &row.1 {
+        Tried::Change(call, changed) => {
+            try_change(rt, heap, &mut map, (row.0, call, *changed), left)
+        }
+        Tried::Clone => try_clone(rt, heap, &map, row.0, left),
+        Tried::Gaps(outer_range, before, behind) => {
+            try_gaps(rt, heap, &map, (outer_range, before, behind), left)
+        }
+    }
 }
 
 /// A map with the pairs of a row.
@@ -27,7 +91,8 @@ pub fn make_map<'a, M: InRows<Alloc = &'a Heap>>(
     requires faithful_keys { KeysCloneFaithfully M.Key.is_clone M.Key.cmp }
     requires faithful_values { ValuesCloneFaithfully M.Value.is_clone M.Value.eq }
 {
-    let mut map = M::new(heap);
+    heap.refuse_after(MANY);
+    let mut map = M::empty(heap);
     for (range, value) in pairs {
         let range = M::range(heap, range)?;
         map.insert(range, M::value(heap, value)?)?;
@@ -35,8 +100,34 @@ pub fn make_map<'a, M: InRows<Alloc = &'a Heap>>(
     Ok(map)
 }
 
-/// Makes a call. Once it has what it is to be given, the request that comes after `left` others is refused.
-pub fn call_with<'a, M: InRows<Alloc = &'a Heap>>(
+/// Tries a change: one that is refused leaves what was stored, and is accepted with memory.
+fn try_change<'a, R: Abort, M: InRows<Alloc = &'a Heap>>(
+    rt: &R,
+    heap: &'a Heap,
+    map: &mut M,
+    change: (
+        &[(M::RowRange, M::RowValue)],
+        &Call<M::RowRange, M::RowValue>,
+        &[(M::RowRange, M::RowValue)],
+    ),
+    left: u64,
+) -> Answer
+    requires faithful_keys { KeysCloneFaithfully M.Key.is_clone M.Key.cmp }
+    requires faithful_values { ValuesCloneFaithfully M.Value.is_clone M.Value.eq }
+{
+    let (stored, call, changed) = change;
+    let is_accepted = call_with(heap, map, call, left)?.is_ok();
+    if !is_accepted {
+        check_row(rt, map, stored)?;
+        call_with(heap, map, call, MANY)??;
+    }
+    check_row(rt, map, changed)?;
+    Ok(is_accepted)
+}
+
+/// Makes a call. Once it has what it is to be given, the request that comes after `left` others is
+/// refused.
+fn call_with<'a, M: InRows<Alloc = &'a Heap>>(
     heap: &'a Heap,
     map: &mut M,
     call: &Call<M::RowRange, M::RowValue>,
@@ -45,80 +136,62 @@ pub fn call_with<'a, M: InRows<Alloc = &'a Heap>>(
     requires faithful_keys { KeysCloneFaithfully M.Key.is_clone M.Key.cmp }
     requires faithful_values { ValuesCloneFaithfully M.Value.is_clone M.Value.eq }
 {
-    match call {
+    let answer = match call {
         Insert(range, value) => {
             let range = M::range(heap, range)?;
             let value = M::value(heap, value)?;
             heap.refuse_after(left);
-            Ok(map.insert(range, value))
+            map.insert(range, value)
         }
         Remove(range) => {
             let range = M::range(heap, range)?;
             heap.refuse_after(left);
-            Ok(map.remove(range))
+            map.remove(range)
         }
         Clear => {
             map.clear();
-            Ok(Ok(()))
+            Ok(())
         }
-    }
-}
-
-/// Tries a change: one that is refused leaves what was stored, and is accepted with memory.
-pub fn try_change<'a, R: AllocGlobal + Abort, M: InRows<Alloc = &'a Heap>>(
-    rt: &R,
-    heap: &'a Heap,
-    change: &Change<'_, M::RowRange, M::RowValue>,
-    left: u64,
-) -> Answer
-    requires faithful_keys { KeysCloneFaithfully M.Key.is_clone M.Key.cmp }
-    requires faithful_values { ValuesCloneFaithfully M.Value.is_clone M.Value.eq }
-{
-    let mut map: M = make_map(heap, change.stored)?;
-    let is_accepted = call_with(heap, &mut map, &change.call, left)?.is_ok();
+    };
     heap.refuse_after(MANY);
-    if !is_accepted {
-        map.assert_pairs(rt, change.stored)?;
-        call_with(heap, &mut map, &change.call, MANY)??;
-    }
-    map.assert_pairs(rt, change.changed)?;
-    Ok(is_accepted)
+    Ok(answer)
 }
 
 /// Tries `clone`: the map stays as it is, and the copy has its pairs.
-pub fn try_clone<'a, R: AllocGlobal + Abort, M: InRows<Alloc = &'a Heap>>(
+fn try_clone<R: Abort, M: InRows>(
     rt: &R,
-    heap: &'a Heap,
+    heap: &Heap,
+    map: &M,
     stored: &[(M::RowRange, M::RowValue)],
     left: u64,
 ) -> Answer
     requires faithful_keys { KeysCloneFaithfully M.Key.is_clone M.Key.cmp }
     requires faithful_values { ValuesCloneFaithfully M.Value.is_clone M.Value.eq }
 {
-    let map: M = make_map(heap, stored)?;
     heap.refuse_after(left);
     let answer = map.clone();
     heap.refuse_after(MANY);
-    map.assert_pairs(rt, stored)?;
+    check_row(rt, map, stored)?;
     is_made(rt, &answer, stored)
 }
 
 /// Whether a map was made. One that was has the pairs.
-pub fn is_made<R: AllocGlobal + Abort, M: InRows>(
+pub fn is_made<R: Abort, M: InRows>(
     rt: &R,
     answer: &Result<M, AllocError>,
     pairs: &[(M::RowRange, M::RowValue)],
 ) -> Answer {
     match answer {
         Ok(map) => {
-            map.assert_pairs(rt, pairs)?;
+            check_row(rt, map, pairs)?;
             Ok(true)
         }
         Err(AllocError) => Ok(false),
     }
 }
 
-/// Whether a map was made of three pairs of numbers. Told of one that was: the count of its pairs, and what 14 is mapped to.
+/// Whether a map was made of three pairs of numbers. Told of one that was: the count of its pairs,
+/// and what 14 is mapped to.
 pub fn is_made_of_three<R: Abort>(
     rt: &R,
     told: Result<(usize, Option<u32>), AllocError>,

@@ -8,8 +8,8 @@ use std::test::Fail;
 /// The lists that a replay makes before its first call.
 const LISTS: u64 = 3;
 
-/// Whether all calls of a replay were accepted, which was refused the request that came after `left` others. Where it had
-/// no room for its lists it made no map.
+/// Whether all calls of a replay were accepted, which was refused the request that came after
+/// `left` others. Where it had no room for its lists it made no map.
 pub fn is_accepted<R: Abort, M>(
     rt: &R,
     answer: &Result<Vec<bool, &Heap>, AllocError>,

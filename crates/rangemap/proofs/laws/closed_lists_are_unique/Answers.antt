@@ -1,5 +1,5 @@
 use Rattle.rangemap_core.specs.Ranges.{closed}
-use Rattle.rangemap_core.specs.engine.EndpointKinds.{closed_placed}
+use Rattle.rangemap_maps.specs.ClosedEndpoints.{closed_placed}
 use Rattle.rangemap_core.proofs.UniquenessLemmas.{alike_from_same, equal_pairs}
 use Rattle.rangemap.proofs.laws.closed_lists_are_unique.Goals as goal
 

@@ -1,4 +1,3 @@
-use Rattle.std.proofs.Common.{subst}
 use Rattle.rangemap_core.specs.engine.Shape.{shape_of}
 use Rattle.rangemap_core.specs.engine.Stretch.{IsOverlap}
 use Rattle.rangemap_core.proofs.OverlapLemmas.{window}
@@ -19,6 +18,6 @@ returns g c =
     record {
       found = found;
       part = window g.met.Q.Kind.placed g.V.PartialEq.eq c.args.query.now
-          (record { start_is_key = subst k.is_key c.start.ensures c.known.ensures; end_is_key = subst k.is_key c.end.ensures c.known-2.ensures })
+          c.known_ends.ensures
           c.args.pairs.now start.result end.result c.requires found;
     }

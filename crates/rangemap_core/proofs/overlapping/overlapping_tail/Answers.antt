@@ -1,4 +1,4 @@
-use Rattle.std.proofs.Common.{arith, ◌≡◌, ◌-◌, length, take, drop, length-drop, subst}
+use Rattle.std.proofs.Common.{arith, ◌≡◌, ◌-◌, length, take, drop, length-drop}
 use Rattle.std.proofs.lemmas.List.{take_all}
 use Rattle.rangemap_core.proofs.OverlapLemmas.{begun}
 use Rattle.rangemap_core.proofs.overlapping.overlapping_tail.Goals as goal
@@ -10,5 +10,5 @@ returns g c =
     let tail = drop from c.args.pairs.now in
     let whole : take (length c.args.pairs.now - from) tail ≡ tail = take_all (length c.args.pairs.now - from) tail (omega (arith, length-drop from c.args.pairs.now)) in
     rw whole (begun g.met.Q.Kind.placed g.V.PartialEq.eq c.args.query.now
-    (record { start_is_key = subst k.is_key c.start.ensures c.known.ensures; end_is_key = subst k.is_key c.end.ensures c.known-2.ensures })
+    c.known_ends.ensures
     c.args.pairs.now from c.requires c.overlap_start.ensures.point)

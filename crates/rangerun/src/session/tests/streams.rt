@@ -41,7 +41,8 @@ pub struct Sink<'a> {
 }
 
 impl<'a> Sink<'a> {
-    /// Appends to `held` at most `size` bytes at a time, with a failure among its writes and one among its flushes.
+    /// Appends to `held` at most `size` bytes at a time, with a failure among its writes and one
+    /// among its flushes.
     pub fn new(
         held: &'a mut Vec<u8>,
         size: usize,

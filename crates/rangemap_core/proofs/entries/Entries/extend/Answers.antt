@@ -1,4 +1,3 @@
-use Rattle.std.proofs.Common.{subst}
 use Rattle.rangemap_core.proofs.IncomingLemmas.{at_turn}
 use Rattle.rangemap_core.proofs.CanonLemmas.{Overrides-last, Overrides-none}
 use Rattle.rangemap_core.proofs.entries.Entries.extend.Goals as goal
@@ -10,8 +9,8 @@ pub insert-requires-clause-range : goal.insert-requires-clause-range
 insert-requires-clause-range g c =
     let it = c.into_iter-range-iterator in
     record {
-      start_is_key = subst g.Q.Interval.kind.is_key c.start.ensures c.known.ensures;
-      end_is_key = subst g.Q.Interval.kind.is_key c.end.ensures c.known-in-loop-range.ensures;
+      start_is_key = c.known_ends.ensures.start_is_key;
+      end_is_key = c.known_ends.ensures.end_is_key;
       non_empty = at_turn g.Q.Interval.kind it.result c.loop-range.yielded c.loop-range.range-iterator (c.in-Some.range, c.in-Some.value) c.next.new.self (c.requires.non_empty it.result it.ensures.into_iter_gives) c.loop-range.yielded_by c.in-Some.ensures.steps;
     }
 

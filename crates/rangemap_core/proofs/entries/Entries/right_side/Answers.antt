@@ -1,39 +1,23 @@
 use Rattle.std.proofs.Common.{arith, ap, sym, true≢false, ◌∙◌, ◌≡◌, ◌<◌, ◌-◌, get_or, is_lt}
+use Rattle.rangemap_core.specs.engine.Places.{place_cmp}
 use Rattle.rangemap_core.proofs.PlaceLemmas.{S, places, to_spaced, storable_here}
 use Rattle.rangemap_core.proofs.InsertSideLemmas.{right_empty, right_of_equal, right_of_other}
 use Rattle.rangemap_core.proofs.entries.Entries.right_side.Goals as goal
 
 pub returns-then-start-end-clause-side : goal.returns-then-start-end-clause-side
 returns-then-start-end-clause-side g c =
-    let k = g.Q.Interval.kind in
     let p = g.met.Q.Kind.placed in
     let eq = g.V.PartialEq.eq in
-    let e = g.met.V.Eq.laws in
-    let s = S p eq in
-    let o = places p eq in
-    let pair : g.row.R.Denot × g.row.V.Denot = (c.args.range.now, c.args.value.now) in
-    let xs = c.args.self.now in
-    let spaced = to_spaced p eq xs (c.requires.canonical) in
-    let full = p.non_empty _ c.requires.range in
-    right_empty s o e xs spaced pair full c.args.start c.args.end c.requires.stretch c.if-start-end.true
+    right_empty (S p eq) (places p eq) g.met.V.Eq.laws c.args.self.now (to_spaced p eq _ c.requires.canonical) (c.args.range.now, c.args.value.now) (p.non_empty _ c.requires.range) c.args.start c.args.end c.requires.stretch c.if-start-end.true
 
 pub returns-then-eq-clause-side : goal.returns-then-eq-clause-side
 returns-then-eq-clause-side g c =
-    let k = g.Q.Interval.kind in
     let p = g.met.Q.Kind.placed in
     let eq = g.V.PartialEq.eq in
-    let e = g.met.V.Eq.laws in
-    let s = S p eq in
-    let o = places p eq in
-    let pair : g.row.R.Denot × g.row.V.Denot = (c.args.range.now, c.args.value.now) in
-    let xs = c.args.self.now in
-    let spaced = to_spaced p eq xs (c.requires.canonical) in
-    let full = p.non_empty _ c.requires.range in
     let more : c.args.start < c.args.end = omega (arith, c.requires.stretch.start_le_end) in
-    let is : c.index-last.result.now ≡ get_or xs (c.args.end - 1) c.index-last.result.now = rw (← c.self.view_is) c.index-last.ensures in
-    let stored = storable_here p eq c.args.self.now c.requires.canonical (c.args.end - 1) c.index-last.result.now (omega (arith, c.requires.stretch.start_le_end, c.requires.stretch.in_bounds)) (rw (← c.self.view_is) c.index-last.ensures) in
-    let ends : c.compare_keys.result ≡ s.order (s.end_place c.args.range.now) (s.end_place c.index-last.result.now.0) = c.compare_keys.ensures ∙ (λ i. k.cmp (c.end.ensures i) (c.end-then-eq.ensures i)) ∙ p.ends _ _ c.requires.range stored in
-    right_of_equal s o e xs spaced pair full c.args.start c.args.end c.requires.stretch c.index-last.result.now more is (sym c.eq.ensures ∙ c.if-eq.true) c.is_lt.result (c.is_lt.ensures ∙ ap is_lt ends)
+    let is : c.index-last.result.now ≡ get_or c.args.self.now (c.args.end - 1) c.index-last.result.now = rw (← c.self.view_is) c.index-last.ensures in
+    let ends : c.compare_keys.result ≡ place_cmp g.Q.Interval.kind.cmp (g.Q.Kind.end_place c.args.range.now) (g.Q.Kind.end_place c.index-last.result.now.0) = c.compare_keys.ensures ∙ (λ i. g.Q.Interval.kind.cmp (c.end.ensures i) (c.end-then-eq.ensures i)) ∙ p.ends _ _ c.requires.range (storable_here p eq c.args.self.now c.requires.canonical (c.args.end - 1) c.index-last.result.now (omega (arith, c.requires.stretch.start_le_end, c.requires.stretch.in_bounds)) (rw (← c.self.view_is) c.index-last.ensures)) in
+    right_of_equal (S p eq) (places p eq) g.met.V.Eq.laws c.args.self.now (to_spaced p eq _ c.requires.canonical) (c.args.range.now, c.args.value.now) (p.non_empty _ c.requires.range) c.args.start c.args.end c.requires.stretch c.index-last.result.now more is (sym c.eq.ensures ∙ c.if-eq.true) c.is_lt.result (c.is_lt.ensures ∙ ap is_lt ends)
 
 pub part_after-requires-clause-pair : goal.part_after-requires-clause-pair
 part_after-requires-clause-pair g c =
@@ -43,20 +27,12 @@ part_after-requires-clause-pair g c =
 
 pub returns : goal.returns
 returns g c =
-    let k = g.Q.Interval.kind in
     let p = g.met.Q.Kind.placed in
     let eq = g.V.PartialEq.eq in
-    let e = g.met.V.Eq.laws in
-    let s = S p eq in
-    let o = places p eq in
-    let pair : g.row.R.Denot × g.row.V.Denot = (c.args.range.now, c.args.value.now) in
-    let xs = c.args.self.now in
-    let spaced = to_spaced p eq xs (c.requires.canonical) in
-    let full = p.non_empty _ c.requires.range in
     let more : c.args.start < c.args.end = omega (arith, c.requires.stretch.start_le_end) in
-    let is : c.index-last.result.now ≡ get_or xs (c.args.end - 1) c.index-last.result.now = rw (← c.self.view_is) c.index-last.ensures in
+    let is : c.index-last.result.now ≡ get_or c.args.self.now (c.args.end - 1) c.index-last.result.now = rw (← c.self.view_is) c.index-last.ensures in
     let piece = c.in_ok-part_after in
     record {
-      side = right_of_other s o e xs spaced pair full c.args.start c.args.end c.requires.stretch c.index-last.result.now more is (sym c.eq.ensures ∙ c.if-eq.false) piece.field-0 piece.ensures.piece;
+      side = right_of_other (S p eq) (places p eq) g.met.V.Eq.laws c.args.self.now (to_spaced p eq _ c.requires.canonical) (c.args.range.now, c.args.value.now) (p.non_empty _ c.requires.range) c.args.start c.args.end c.requires.stretch c.index-last.result.now more is (sym c.eq.ensures ∙ c.if-eq.false) piece.field-0 piece.ensures.piece;
       piece = record { storable = piece.ensures.storable; of_a_stretch = λ h. absurd (omega (arith, more, h)); of_other_values = λ one. absurd (true≢false (sym (one _ _) ∙ sym c.eq.ensures ∙ c.if-eq.false)) };
     }

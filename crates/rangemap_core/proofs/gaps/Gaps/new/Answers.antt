@@ -9,4 +9,4 @@ returns g c =
     let k = g.Q.Interval.kind in
     let q = c.args.outer_range.now in
     subst (λ part. AreGaps k (map (λ p. p.0) c.args.pairs.now) q (gaps_from k g.Q.Kind.end_place g.Q.Kind.part_of (AtStart q) q part)) (sym c.overlapping_tail.ensures)
-    (are_gaps g.met.Q.Kind.placed g.V.PartialEq.eq q (record { start_is_key = subst k.is_key c.start.ensures c.known.ensures; end_is_key = subst k.is_key c.end.ensures c.known-2.ensures }) c.args.pairs.now c.requires)
+    (are_gaps g.met.Q.Kind.placed g.V.PartialEq.eq q c.known_ends.ensures c.args.pairs.now c.requires)

@@ -1,0 +1,10 @@
+use Rattle.std.proofs.lemmas.Result.{IfOk-weaker}
+use Rattle.rangemap_core.specs.Ranges.{half_open}
+use Rattle.rangemap.proofs.SetLemmas.{shown_made}
+use Rattle.rangemap.proofs.set.ranged.RangeSetTakesRanges.from_ranges.Goals as goal
+
+pub returns : goal.returns
+returns g c =
+    IfOk-weaker c.from_iter.result _ _
+    (λ all h. (h.0, h.1, h.2, h.3, shown_made (half_open g.T.Ord.cmp) h.1 all h.4))
+    c.from_iter.ensures

@@ -1,0 +1,279 @@
+//! Every iterator of the library ends, and stays ended.
+//!
+//! Each function makes the calls that its law speaks of, and answers what these answered. An item
+//! leaves fewer to come; none is answered only where none is to come, and from then on.
+ghost use Rattle.std.specs.Prelude.{◌≡◌, ◌<◌, ℕ, IfNone, IfOk, IsNone, Ok as OkWord, None as NoneWord, Option, OnSome};
+ghost use Rattle.rangemap.specs.Ended.{GoesToEnd, TriesToEnd};
+
+use rangemap_core::gaps::Gaps;
+use rangemap_core::kind::Kind;
+use rangemap_core::{into_iter, iter, overlapping};
+use rangemap_sets::operations::intersection::Intersection;
+use rangemap_sets::operations::union::Union;
+use rangemap_sets::set_range::SetRange;
+use std::alloc::{AllocError, Allocator};
+use std::iter::{DoubleEndedIterator, Iterator};
+
+/// An iterator of the library, as these laws see it.
+pub trait StaysEnded: Iterator {
+    /// How many items are still to come.
+    ghost left: { Self → ℕ };
+
+    /// `next` goes to the end, and stays there.
+    ghost goes_to_end: { (before : Self) (answer : Option Self.Item) (after : Self) → Self.next_gives before answer after → GoesToEnd left before answer after };
+}
+
+/// One that goes from both ends.
+pub trait StaysEndedAtBack: StaysEnded + DoubleEndedIterator {
+    /// Both may be called at any time.
+    ghost is_ready: { (iter : Self) → Self.can_next iter × Self.can_next_back iter };
+
+    /// `next_back` goes to the same end.
+    ghost goes_back_to_end: { (before : Self) (answer : Option Self.Item) (after : Self) → Self.next_back_gives before answer after → GoesToEnd Self.left before answer after };
+}
+
+/// One that makes its items out of clones, which may be refused.
+pub trait StaysEndedByTries: StaysEnded {
+    /// What is made.
+    type Range: Drop;
+
+    /// The iterator's own call.
+    fn try_next(&mut self) -> Result<Option<Self::Range>, AllocError>
+        requires { Self.can_next self.old }
+        ensures answered { TriesToEnd Self.left self.old result self.new }
+        ensures ready { Self.can_next self.new };
+}
+
+/// After `next` answered none it answers none again, and nothing has changed. An item leaves fewer
+/// to come, so the iterator ends.
+pub fn next_stays_ended<I: StaysEnded>(iter: &mut I) -> (Option<I::Item>, Option<I::Item>)
+    requires { I.can_next iter.old }
+    ensures calls { (between : I) × I.next_gives iter.old result.0 between × I.next_gives between result.1 iter.new }
+    ensures ends { OnSome result.0 (I.left iter.new < I.left iter.old) }
+    ensures stays { IfNone result.0 ((I.left iter.old ≡ 0) × IsNone result.1 × (iter.new ≡ iter.old)) }
+{
+    let first = iter.next();
+    let again = iter.next();
+    (first, again)
+}
+
+/// After `next` answered none `next_back` answers none, and nothing has changed.
+pub fn next_ends_both_ends<I: StaysEndedAtBack>(iter: &mut I) -> (Option<I::Item>, Option<I::Item>)
+    ensures calls { (between : I) × I.next_gives iter.old result.0 between × I.next_back_gives between result.1 iter.new }
+    ensures ends { OnSome result.0 (I.left iter.new < I.left iter.old) }
+    ensures stays { IfNone result.0 ((I.left iter.old ≡ 0) × IsNone result.1 × (iter.new ≡ iter.old)) }
+{
+    let front = iter.next();
+    let back = iter.next_back();
+    (front, back)
+}
+
+/// After `next_back` answered none it answers none again, so does `next`, and nothing has changed.
+/// An item leaves fewer to come, so the iterator ends.
+pub fn next_back_ends_both_ends<I: StaysEndedAtBack>(
+    iter: &mut I,
+) -> (Option<I::Item>, Option<I::Item>, Option<I::Item>)
+    ensures calls { (first : I) × (second : I) × I.next_back_gives iter.old result.0 first × I.next_back_gives first result.1 second × I.next_gives second result.2 iter.new }
+    ensures ends { OnSome result.0 (I.left iter.new < I.left iter.old) }
+    ensures stays { IfNone result.0 ((I.left iter.old ≡ 0) × IsNone result.1 × IsNone result.2 × (iter.new ≡ iter.old)) }
+{
+    let first = iter.next_back();
+    let again = iter.next_back();
+    let front = iter.next();
+    (first, again, front)
+}
+
+/// After `next` answered none `try_next` answers none, and nothing has changed.
+pub fn next_ends_tries<I: StaysEndedByTries>(
+    iter: &mut I,
+) -> (Option<I::Item>, Result<Option<I::Range>, AllocError>)
+    requires { I.can_next iter.old }
+    ensures calls { (between : I) × I.next_gives iter.old result.0 between × TriesToEnd I.left between result.1 iter.new }
+    ensures ends { OnSome result.0 (I.left iter.new < I.left iter.old) }
+    ensures stays { IfNone result.0 ((I.left iter.old ≡ 0) × (result.1 ≡ OkWord NoneWord) × (iter.new ≡ iter.old)) }
+{
+    let item = iter.next();
+    let tried = iter.try_next();
+    (item, tried)
+}
+
+/// After `try_next` answered none it answers none again, so does `next`, and nothing has changed.
+/// An item leaves fewer to come, so the iterator ends.
+pub fn try_next_ends_tries<I: StaysEndedByTries>(
+    iter: &mut I,
+) -> (
+    Result<Option<I::Range>, AllocError>,
+    Result<Option<I::Range>, AllocError>,
+    Option<I::Item>,
+)
+    requires { I.can_next iter.old }
+    ensures calls { (first : I) × (second : I) × TriesToEnd I.left iter.old result.0 first × TriesToEnd I.left first result.1 second × I.next_gives second result.2 iter.new }
+    ensures ends { IfOk result.0 (λ answer. OnSome answer (I.left iter.new < I.left iter.old)) }
+    ensures stays { IfOk result.0 (λ answer. IfNone answer ((I.left iter.old ≡ 0) × (result.1 ≡ OkWord NoneWord) × IsNone result.2 × (iter.new ≡ iter.old))) }
+{
+    let first = iter.try_next();
+    let again = iter.try_next();
+    let item = iter.next();
+    (first, again, item)
+}
+
+impl<'a, R, V> StaysEnded for iter::Iter<'a, R, V> {
+    ghost use Rattle.std.specs.Prelude.{length};
+    ghost use Rattle.std.specs.Map.Iter.{deref_pair};
+    ghost use Rattle.rangemap.specs.Ended.{first_taken};
+
+    ghost left = { λ s. length s };
+
+    ghost goes_to_end = { λ before answer after gives. first_taken deref_pair before answer after gives };
+}
+
+impl<'a, R, V> StaysEndedAtBack for iter::Iter<'a, R, V> {
+    ghost use Rattle.std.specs.Map.Iter.{deref_pair};
+    ghost use Rattle.rangemap.specs.Ended.{last_taken};
+
+    ghost is_ready = { λ iter. (tt {0}, tt {0}) };
+
+    ghost goes_back_to_end = { λ before answer after gives. last_taken deref_pair before answer after gives };
+}
+
+impl<R: Drop, V: Drop, A: Allocator> StaysEnded for into_iter::IntoIter<R, V, A> {
+    ghost use Rattle.std.specs.Prelude.{length};
+    ghost use Rattle.rangemap.specs.Ended.{first_taken};
+
+    ghost left = { λ s. length s };
+
+    ghost goes_to_end = { λ before answer after gives. first_taken (λ pair. pair) before answer after gives };
+}
+
+impl<R: Drop, V: Drop, A: Allocator> StaysEndedAtBack for into_iter::IntoIter<R, V, A> {
+    ghost use Rattle.rangemap.specs.Ended.{last_taken};
+
+    ghost is_ready = { λ iter. (tt {0}, tt {0}) };
+
+    ghost goes_back_to_end = { λ before answer after gives. last_taken (λ pair. pair) before answer after gives };
+}
+
+impl<'a, R, V> StaysEnded for overlapping::Overlapping<'a, R, V> {
+    ghost use Rattle.std.specs.Prelude.{length};
+    ghost use Rattle.std.specs.Map.Iter.{deref_pair};
+    ghost use Rattle.rangemap.specs.Ended.{first_taken};
+
+    ghost left = { λ s. length s };
+
+    ghost goes_to_end = { λ before answer after gives. first_taken deref_pair before answer after gives };
+}
+
+impl<'a, R, V> StaysEndedAtBack for overlapping::Overlapping<'a, R, V> {
+    ghost use Rattle.std.specs.Map.Iter.{deref_pair};
+    ghost use Rattle.rangemap.specs.Ended.{last_taken};
+
+    ghost is_ready = { λ iter. (tt {0}, tt {0}) };
+
+    ghost goes_back_to_end = { λ before answer after gives. last_taken deref_pair before answer after gives };
+}
+
+impl<'a, R: SetRange> StaysEnded for rangemap_sets::iter::Iter<'a, R> {
+    ghost use Rattle.std.specs.Prelude.{length};
+    ghost use Rattle.std.specs.Map.Iter.{deref};
+    ghost use Rattle.rangemap.specs.Ended.{first_taken};
+
+    ghost left = { λ s. length s };
+
+    ghost goes_to_end = { λ before answer after gives. first_taken deref before answer after gives };
+}
+
+impl<'a, R: SetRange> StaysEndedAtBack for rangemap_sets::iter::Iter<'a, R> {
+    ghost use Rattle.std.specs.Map.Iter.{deref};
+    ghost use Rattle.rangemap.specs.Ended.{last_taken};
+
+    ghost is_ready = { λ iter. (tt {0}, tt {0}) };
+
+    ghost goes_back_to_end = { λ before answer after gives. last_taken deref before answer after gives };
+}
+
+impl<R: Drop, A: Allocator> StaysEnded for rangemap_sets::into_iter::IntoIter<R, A> {
+    ghost use Rattle.std.specs.Prelude.{length};
+    ghost use Rattle.rangemap.specs.Ended.{first_taken};
+
+    ghost left = { λ s. length s };
+
+    ghost goes_to_end = { λ before answer after gives. first_taken (λ range. range) before answer after gives };
+}
+
+impl<R: Drop, A: Allocator> StaysEndedAtBack for rangemap_sets::into_iter::IntoIter<R, A> {
+    ghost use Rattle.rangemap.specs.Ended.{last_taken};
+
+    ghost is_ready = { λ iter. (tt {0}, tt {0}) };
+
+    ghost goes_back_to_end = { λ before answer after gives. last_taken (λ range. range) before answer after gives };
+}
+
+impl<'a, R> StaysEnded for rangemap_sets::overlapping::Overlapping<'a, R> {
+    ghost use Rattle.std.specs.Prelude.{length};
+    ghost use Rattle.std.specs.Map.Iter.{deref};
+    ghost use Rattle.rangemap.specs.Ended.{first_taken};
+
+    ghost left = { λ s. length s };
+
+    ghost goes_to_end = { λ before answer after gives. first_taken deref before answer after gives };
+}
+
+impl<'a, R> StaysEndedAtBack for rangemap_sets::overlapping::Overlapping<'a, R> {
+    ghost use Rattle.std.specs.Map.Iter.{deref};
+    ghost use Rattle.rangemap.specs.Ended.{last_taken};
+
+    ghost is_ready = { λ iter. (tt {0}, tt {0}) };
+
+    ghost goes_back_to_end = { λ before answer after gives. last_taken deref before answer after gives };
+}
+
+impl<'a, Q: Kind<K, R>, K: Ord + Clone, R, V> StaysEnded for Gaps<'a, Q, K, R, V> {
+    ghost use Rattle.std.specs.Prelude.{length};
+    ghost use Rattle.rangemap.specs.Ended.{range_given};
+
+    ghost left = { λ s. length s };
+
+    ghost goes_to_end = { λ before answer after gives. range_given Q.kind before answer after gives };
+}
+
+impl<'a, R: SetRange> StaysEnded for Union<'a, R> {
+    ghost use Rattle.std.specs.Prelude.{length};
+    ghost use Rattle.rangemap.specs.Ended.{range_given};
+
+    ghost left = { λ s. length s };
+
+    ghost goes_to_end = { λ before answer after gives. range_given R.Kind.kind before answer after gives };
+}
+
+impl<'a, R: SetRange> StaysEnded for Intersection<'a, R> {
+    ghost use Rattle.std.specs.Prelude.{length};
+    ghost use Rattle.rangemap.specs.Ended.{range_given};
+
+    ghost left = { λ s. length s };
+
+    ghost goes_to_end = { λ before answer after gives. range_given R.Kind.kind before answer after gives };
+}
+
+impl<'a, Q: Kind<K, R>, K: Ord + Clone, R: Drop, V> StaysEndedByTries for Gaps<'a, Q, K, R, V> {
+    type Range = R;
+
+    fn try_next(&mut self) -> Result<Option<R>, AllocError> {
+        self.try_next()
+    }
+}
+
+impl<'a, R: SetRange> StaysEndedByTries for Union<'a, R> {
+    type Range = R;
+
+    fn try_next(&mut self) -> Result<Option<R>, AllocError> {
+        self.try_next()
+    }
+}
+
+impl<'a, R: SetRange> StaysEndedByTries for Intersection<'a, R> {
+    type Range = R;
+
+    fn try_next(&mut self) -> Result<Option<R>, AllocError> {
+        self.try_next()
+    }
+}

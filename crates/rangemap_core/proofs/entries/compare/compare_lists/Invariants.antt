@@ -1,0 +1,10 @@
+use Rattle.std.proofs.Common.{length, ◌≡◌}
+use Rattle.rangemap_core.specs.ListOrder.{pairs_cmp}
+use Rattle.rangemap_core.proofs.entries.compare.compare_lists.Given as goal
+
+-- what is left of the lists lies as the whole lists do
+abbrev pub invariant-pairs : goal.invariant-pairs
+invariant-pairs g l = pairs_cmp g.Q.Interval.kind g.V.Ord.cmp l.ours l.theirs ≡ pairs_cmp g.Q.Interval.kind g.V.Ord.cmp l.left l.right
+
+abbrev pub decreases-pairs : goal.decreases-pairs
+decreases-pairs g l = length l.ours

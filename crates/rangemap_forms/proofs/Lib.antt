@@ -1,0 +1,5 @@
+pub mod DisplayLemmas
+pub mod TextLemmas
+pub mod LastPairLemmas
+pub mod ReadingLemmas
+pub mod RoundTripLemmas

@@ -1,0 +1,10 @@
+use Rattle.std.proofs.Common.{ap, ◌∙◌}
+use Rattle.rangemap_core.specs.Ranges.{closed}
+use Rattle.rangemap_sets.specs.Sets.{ranges}
+use Rattle.rangemap_sets.proofs.MapLemmas.{canonical}
+use Rattle.rangemap_sets.proofs.inclusive_set.collect.RangeInclusiveSetIntoIterator.into_iter.Goals as goal
+
+pub returns : goal.returns
+returns g c =
+    let given = c.into_iter.ensures.into_iter_gives in
+    record { into_iter_gives = (c.over.ensures ∙ ap ranges given.0 ∙ c.self.view_is, canonical (closed g.T.StepLite.is_key g.T.Ord.cmp) _ _ c.self.view_is given.1) }

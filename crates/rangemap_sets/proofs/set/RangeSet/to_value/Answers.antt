@@ -1,0 +1,16 @@
+use Rattle.std.proofs.Common.{IfErr, IfOk, subst}
+use Rattle.std.specs.Fn.{FnReturnsAt}
+use Rattle.rangemap_forms.specs.Json.{IsForm, RefusesToWrite, set_writer}
+use Rattle.rangemap_core.specs.Ranges.{half_open}
+use Rattle.rangemap_sets.proofs.MapLemmas.{pairs_are}
+use Rattle.rangemap_sets.proofs.set.RangeSet.to_value.Goals as goal
+
+pub returns-clause-ok : goal.returns-clause-ok
+returns-clause-ok g c =
+    let k = half_open g.T.Ord.cmp in
+    subst (λ ps. IfOk c.write.result (IsForm k (set_writer (FnReturnsAt g.WK.Fn c.args.write_key)) ps)) (pairs_are k _ _ c.self.view_is) c.write.ensures.ok
+
+pub returns-clause-err : goal.returns-clause-err
+returns-clause-err g c =
+    let k = half_open g.T.Ord.cmp in
+    subst (λ ps. IfErr c.write.result (RefusesToWrite k (set_writer (FnReturnsAt g.WK.Fn c.args.write_key)) ps)) (pairs_are k _ _ c.self.view_is) c.write.ensures.err

@@ -1,0 +1,67 @@
+//! Rows about queries over closed ranges.
+
+use super::Map;
+use crate::rows::Call::Insert;
+use crate::rows::tables::{Overlapped, check_free, check_queries};
+use rangemap::RangeInclusiveMap;
+use std::alloc::Global;
+use std::ops::RangeInclusive;
+use std::process::Abort;
+use std::test::Fail;
+
+#[test]
+fn what_a_query_overlaps_is_found(rt: HostRuntime) -> Result<(), Fail> {
+    let rows: [Overlapped<'_, RangeInclusive<u32>, RangeInclusive<u32>, char>; 5] = [
+        (&[Insert(3..=8, 'a')], 6..=4, &[(3..=8, 'a')]),
+        (&[Insert(5..=8, 'a')], 6..=4, &[]),
+        (&[Insert(5..=8, 'a')], 8..=9, &[(5..=8, 'a')]),
+        (&[Insert(5..=8, 'a')], 9..=12, &[]),
+        (
+            &[Insert(0..=1, 'a'), Insert(2..=3, 'b'), Insert(8..=9, 'c')],
+            1..=7,
+            &[(0..=1, 'a'), (2..=3, 'b')],
+        ),
+    ];
+    check_queries::<Map, _>(&rt, rt.alloc(), &rows)
+}
+
+#[test]
+fn what_nothing_covers_is_free(rt: HostRuntime) -> Result<(), Fail> {
+    let ends = [Insert(0..=9u8, 'a'), Insert(250..=255, 'b')];
+    let all = [
+        Insert(0..=9, 'a'),
+        Insert(250..=255, 'b'),
+        Insert(10..=249, 'c'),
+    ];
+    check_free::<RangeInclusiveMap<u8, char, u8, Global>, _>(
+        &rt,
+        rt.alloc(),
+        &[
+            (&ends, 0..=255, &[10..=249]),
+            (&ends, 10..=10, &[10..=10]),
+            (&ends, 12..=10, &[]),
+            (&all, 0..=255, &[]),
+        ],
+    )
+}
+
+#[test]
+fn gaps_that_have_ended_stay_ended(rt: HostRuntime) -> Result<(), Fail> {
+    let map: Map = RangeInclusiveMap::new(rt.alloc());
+    take_gaps(&rt, &map)
+}
+
+/// Takes the one gap of an empty map, and asks on.
+fn take_gaps<R: Abort>(rt: &R, map: &Map) -> Result<(), Fail> {
+    let outer_range = 0..=3;
+    let mut gaps = map.gaps(&outer_range);
+    assert_eq!(rt; gaps.size_hint(), (0, None));
+    let taken = (
+        gaps.try_next(),
+        gaps.try_next(),
+        gaps.next(),
+        gaps.try_next(),
+    );
+    assert_eq!(rt; taken, (Ok(Some(0..=3)), Ok(None), None, Ok(None)));
+    Ok(())
+}

@@ -1,0 +1,91 @@
+//! Calls on maps over closed ranges that are refused memory: the growth of a map and each clone of
+//! a key, in its turn.
+
+use super::costly::Costly;
+use super::filled;
+use crate::rows::Call::{Insert, Remove};
+use crate::rows::InRows;
+use crate::trials::maps::Tried::{Change, Clone, Gaps};
+use crate::trials::maps::{Row, check_refusals};
+use crate::trials::{Heap, MANY};
+use rangemap::RangeInclusiveMap;
+use refusing::Refusing;
+use std::ops::RangeInclusive;
+use std::test::Fail;
+
+mod makers;
+mod replays;
+
+/// A map over keys whose clones take memory.
+type CostlyMap<'a> = RangeInclusiveMap<Costly<'a>, char, Costly<'a>, &'a Heap>;
+
+/// The ends of a range, as they stand in a row.
+type Ends = (u8, u8);
+
+impl<'a> InRows for CostlyMap<'a> {
+    type RowRange = Ends;
+
+    type RowValue = char;
+
+    fn range(heap: &'a Heap, row: &Ends) -> Result<RangeInclusive<Costly<'a>>, Fail> {
+        Ok(filled(Costly { byte: row.0, heap }, Costly { byte: row.1, heap })?)
+    }
+
+    fn value(_heap: &'a Heap, row: &char) -> Result<char, Fail> {
+        Ok(*row)
+    }
+
+    fn is_range(range: &RangeInclusive<Costly<'a>>, row: &Ends) -> bool {
+        (range.start().byte, range.end().byte) == *row
+    }
+
+    fn is_value(value: &char, row: &char) -> bool {
+        value == row
+    }
+}
+
+/// A row over such a map.
+type CostlyRow<'r> = Row<'r, Ends, char>;
+
+// The first growth takes a request, a clone of the stored end of each piece that stays another,
+// and so do both ends of a range that is joined.
+#[test]
+fn each_request_may_be_refused(rt: HostRuntime) -> Result<(), Fail> {
+    let rows: [CostlyRow<'_>; 8] = [
+        (&[], Change(Insert((0, 255), 'a'), &[((0, 255), 'a')]), 1),
+        (
+            &[((0, 4), 'a')],
+            Change(Insert((5, 9), 'a'), &[((0, 9), 'a')]),
+            2,
+        ),
+        (
+            &[((0, 9), 'a')],
+            Change(
+                Insert((3, 5), 'b'),
+                &[((0, 2), 'a'), ((3, 5), 'b'), ((6, 9), 'a')],
+            ),
+            2,
+        ),
+        (
+            &[((0, 127), 'a'), ((128, 255), 'b')],
+            Change(Insert((128, 255), 'a'), &[((0, 255), 'a')]),
+            2,
+        ),
+        (
+            &[((0, 9), 'a')],
+            Change(Remove((3, 5)), &[((0, 2), 'a'), ((6, 9), 'a')]),
+            2,
+        ),
+        (
+            &[((0, 9), 'a')],
+            Change(Remove((10, 255)), &[((0, 9), 'a')]),
+            0,
+        ),
+        // the list, and six keys
+        (&[((0, 2), 'a'), ((3, 5), 'b'), ((6, 9), 'a')], Clone, 7),
+        // The start is cloned, and the end comes of a step.
+        (&[((10, 249), 'a')], Gaps((0, 255), (0, 9), (250, 255)), 1),
+    ];
+    let heap = Refusing::new(rt.alloc(), MANY);
+    check_refusals::<_, CostlyMap<'_>>(&rt, &heap, &rows)
+}

@@ -1,0 +1,71 @@
+//! Rows about inserts and removals, and what is found then.
+
+use super::Set;
+use crate::rows::tables::{SetChanged, check_inserts, check_removals};
+use crate::rows::{check_ends, check_found, check_set, make_set};
+use rangemap::RangeInclusiveSet;
+use std::alloc::Global;
+use std::ops::RangeInclusive;
+use std::process::Abort;
+use std::test::Fail;
+
+#[test]
+fn ranges_with_no_key_between_are_joined(rt: HostRuntime) -> Result<(), Fail> {
+    let rows: [SetChanged<'_, RangeInclusive<u32>>; 5] = [
+        (&[], 7..=7, &[7..=7]),
+        (&[0..=4], 5..=9, &[0..=9]),
+        (&[0..=4], 6..=9, &[0..=4, 6..=9]),
+        (&[0..=2, 6..=8], 3..=6, &[0..=8]),
+        (
+            &[0..=4294967294],
+            4294967295..=4294967295,
+            &[0..=4294967295],
+        ),
+    ];
+    check_inserts::<Set, _>(&rt, rt.alloc(), &rows)
+}
+
+#[test]
+fn a_removal_cuts_what_it_meets(rt: HostRuntime) -> Result<(), Fail> {
+    let rows: [SetChanged<'_, RangeInclusive<u32>>; 3] = [
+        (&[0..=9], 0..=9, &[]),
+        (&[0..=9], 3..=5, &[0..=2, 6..=9]),
+        (&[0..=2, 6..=9], 4..=4, &[0..=2, 6..=9]),
+    ];
+    check_removals::<Set, _>(&rt, rt.alloc(), &rows)
+}
+
+#[test]
+fn a_byte_is_taken_out(rt: HostRuntime) -> Result<(), Fail> {
+    let mut set: RangeInclusiveSet<u8, u8, Global> = RangeInclusiveSet::new(rt.alloc());
+    set.insert(0..=255)?;
+    set.remove(128..=128)?;
+    check_set(&rt, &set, &[0..=127, 129..=255])
+}
+
+#[test]
+fn the_range_that_has_a_key_is_found(rt: HostRuntime) -> Result<(), Fail> {
+    let set: Set = make_set(rt.alloc(), &[0..=100, 200..=300])?;
+    check_ranges(&rt, &set)
+}
+
+/// Looks keys up by the set's own calls.
+fn check_ranges<R: Abort>(rt: &R, set: &Set) -> Result<(), Fail> {
+    let found = (set.get(&0), set.get(&101), set.get(&299));
+    assert_eq!(rt; found, (Some(&(0..=100)), None, Some(&(200..=300))));
+    assert_eq!(rt; (set.contains(&200), set.contains(&301)), (true, false));
+    assert_eq!(rt;
+        (set.first(), set.last()),
+        (Some(&(0..=100)), Some(&(200..=300)))
+    );
+    Ok(())
+}
+
+#[test]
+fn an_empty_set_has_nothing(rt: HostRuntime) -> Result<(), Fail> {
+    let mut set: Set = make_set(rt.alloc(), &[0..=100])?;
+    set.clear();
+    check_found(&rt, &set, &[(5, None)])?;
+    check_ends(&rt, &set, &None, &None)?;
+    check_set(&rt, &set, &[])
+}

@@ -1,0 +1,136 @@
+//! Rows about unions and intersections.
+
+use super::Set;
+use crate::inclusive_map::steps::SignedSteps;
+use crate::rows::{check_items, check_set, make_set};
+use rangemap::RangeInclusiveSet;
+use rangemap::inclusive_set::{Intersection, Iter, Union};
+use std::alloc::Global;
+use std::ops::RangeInclusive;
+use std::process::Abort;
+use std::test::Fail;
+
+/// Two sets, the items of their union, the ranges of `|`, and those that both sets have.
+type Row<'a> = (Ranges<'a>, Ranges<'a>, Ranges<'a>, Ranges<'a>, Ranges<'a>);
+
+#[test]
+fn both_sets_are_put_together(rt: HostRuntime) -> Result<(), Fail> {
+    check_rows(
+        &rt,
+        &[
+            (&[0..=4], &[5..=9], &[0..=4, 5..=9], &[0..=9], &[]),
+            (&[0..=4], &[4..=9], &[0..=9], &[0..=9], &[4..=4]),
+            (
+                &[0..=9, 20..=29],
+                &[5..=24],
+                &[0..=29],
+                &[0..=29],
+                &[5..=9, 20..=24],
+            ),
+            (&[], &[0..=4], &[0..=4], &[0..=4], &[]),
+            (&[], &[], &[], &[], &[]),
+        ],
+    )
+}
+
+/// Compares the items and the sets that each row has.
+fn check_rows<R: AllocGlobal + Abort>(rt: &R, rows: &[Row<'_>]) -> Result<(), Fail> {
+    for (left, right, hulls, either, common) in rows {
+        check_pair(rt, (*left, *right), (*hulls, *either), *common)?;
+    }
+    Ok(())
+}
+
+/// What a set has, as it stands in a row.
+type Ranges<'a> = &'a [RangeInclusive<u32>];
+
+/// Makes both sets, and compares what they make.
+fn check_pair<R: AllocGlobal + Abort>(
+    rt: &R,
+    sets: (Ranges<'_>, Ranges<'_>),
+    union: (Ranges<'_>, Ranges<'_>),
+    common: Ranges<'_>,
+) -> Result<(), Fail> {
+    let left: Set = make_set(rt.alloc(), sets.0)?;
+    let right: Set = make_set(rt.alloc(), sets.1)?;
+    check_union(rt, &left, &right, union)?;
+    check_intersection(rt, &left, &right, common)
+}
+
+/// Compares the items of the union, and the set of `|`.
+fn check_union<R: Abort>(
+    rt: &R,
+    left: &Set,
+    right: &Set,
+    row: (Ranges<'_>, Ranges<'_>),
+) -> Result<(), Fail> {
+    check_items::<Set, _, _>(rt, left.union(right), row.0)?;
+    check_set(rt, &(left | right)?, row.1)
+}
+
+/// Compares the items of the intersection, and the set of `&`.
+fn check_intersection<R: Abort>(
+    rt: &R,
+    left: &Set,
+    right: &Set,
+    row: Ranges<'_>,
+) -> Result<(), Fail> {
+    check_items::<Set, _, _>(rt, left.intersection(right), row)?;
+    check_set(rt, &(left & right)?, row)
+}
+
+#[test]
+fn items_that_have_ended_stay_ended(rt: HostRuntime) -> Result<(), Fail> {
+    let left: Set = make_set(rt.alloc(), &[0..=4])?;
+    let right: Set = make_set(rt.alloc(), &[4..=9])?;
+    take_items(&rt, &left, &right)
+}
+
+/// Takes the one item of the union and that of the intersection, and asks on.
+fn take_items<R: Abort>(rt: &R, left: &Set, right: &Set) -> Result<(), Fail> {
+    let mut items = left.union(right);
+    assert_eq!(rt; items.size_hint(), (0, None));
+    let taken = (items.try_next(), items.try_next(), items.next());
+    assert_eq!(rt; taken, (Ok(Some(0..=9)), Ok(None), None));
+    let mut items = left.intersection(right);
+    assert_eq!(rt; items.size_hint(), (0, None));
+    let taken = (items.try_next(), items.try_next(), items.next());
+    assert_eq!(rt; taken, (Ok(Some(4..=4)), Ok(None), None));
+    Ok(())
+}
+
+#[test]
+fn iterators_may_be_taken_in_part(rt: HostRuntime) -> Result<(), Fail> {
+    let left: Set = make_set(rt.alloc(), &[0..=1, 4..=5, 8..=9])?;
+    let right: Set = make_set(rt.alloc(), &[5..=8])?;
+    take_in_part(&rt, left.iter(), left.iter(), &right)
+}
+
+/// Takes the first range of one iterator and the last of the other, and compares what the rest and
+/// a set make.
+fn take_in_part<R: Abort>(
+    rt: &R,
+    mut one: Iter<'_, u32>,
+    mut other: Iter<'_, u32>,
+    right: &Set,
+) -> Result<(), Fail> {
+    assert_eq!(rt;
+        (one.next(), other.next_back()),
+        (Some(&(0..=1)), Some(&(8..=9)))
+    );
+    check_items::<Set, _, _>(rt, Intersection::new(one, right.iter()), &[5..=5, 8..=8])?;
+    check_items::<Set, _, _>(rt, Union::new(other, right.iter()), &[0..=1, 4..=8])
+}
+
+/// A set of signed bytes by the steps of another type.
+type SignedSet = RangeInclusiveSet<i8, SignedSteps, Global>;
+
+#[test]
+fn any_steps_will_do(rt: HostRuntime) -> Result<(), Fail> {
+    let mut left: SignedSet = RangeInclusiveSet::new_with_step_fns(rt.alloc());
+    left.insert(-128..=-1)?;
+    let mut right: SignedSet = RangeInclusiveSet::new_with_step_fns(rt.alloc());
+    right.insert(-1..=127)?;
+    check_items::<SignedSet, _, _>(&rt, left.union(&right), &[-128..=127])?;
+    check_items::<SignedSet, _, _>(&rt, left.intersection(&right), &[-1..=-1])
+}

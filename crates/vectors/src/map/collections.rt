@@ -1,0 +1,77 @@
+//! Rows about maps that are made of pairs and of other maps, and that hand their pairs over.
+
+use crate::rows::check_row;
+use rangemap::RangeMap;
+use std::test::Fail;
+
+#[test]
+fn equality_forgets_the_calls(rt: HostRuntime) -> Result<(), Fail> {
+    let one = RangeMap::from(rt.alloc(), [(0u32..10, 'a'), (3..6, 'b'), (3..6, 'a')])?;
+    assert!(rt; one == RangeMap::from(rt.alloc(), [(0..10, 'a')])?);
+    let shorter = RangeMap::from(rt.alloc(), [(0u32..5, 'a')])?;
+    assert!(rt; shorter != RangeMap::from(rt.alloc(), [(0..6, 'a')])?);
+    Ok(())
+}
+
+#[test]
+fn pairs_are_inserted_in_order(rt: HostRuntime) -> Result<(), Fail> {
+    let map = RangeMap::from(rt.alloc(), [(0u32..10, 'a'), (3..6, 'b')])?;
+    check_row(&rt, &map, &[(0..3, 'a'), (3..6, 'b'), (6..10, 'a')])?;
+    let copy = map.clone()?;
+    assert!(rt; copy == map);
+    let mut map = map;
+    map.extend((1u32..3).map(|i| (10 * i..10 * i + 5, 'c')))?;
+    check_row(
+        &rt,
+        &map,
+        &[
+            (0..3, 'a'),
+            (3..6, 'b'),
+            (6..10, 'a'),
+            (10..15, 'c'),
+            (20..25, 'c'),
+        ],
+    )?;
+    let all = RangeMap::from_iter(rt.alloc(), (0u32..3).map(|i| (0..i + 1, 'd')))?;
+    check_row(&rt, &all, &[(0..3, 'd')])
+}
+
+#[test]
+fn an_array_and_a_chain_are_taken(rt: HostRuntime) -> Result<(), Fail> {
+    let mut map = RangeMap::new(rt.alloc());
+    map.extend([(0u32..5, 'a'), (5..9, 'b')])?;
+    check_row(&rt, &map, &[(0..5, 'a'), (5..9, 'b')])?;
+    map.extend((1..100u32).map(|i| (10 * i..10 * i + 5, 'c')))?;
+    assert_eq!(rt; map.len(), 101);
+    Ok(())
+}
+
+#[test]
+fn a_map_hands_its_pairs_over_from_both_ends(rt: HostRuntime) -> Result<(), Fail> {
+    let map = RangeMap::from(rt.alloc(), [(0u32..2, 'a'), (4..6, 'b'), (8..9, 'c')])?;
+    let mut pairs = map.into_iter();
+    let all = pairs.size_hint();
+    let taken = (pairs.next(), pairs.next_back(), pairs.next_back());
+    let left = (pairs.size_hint(), pairs.next(), pairs.next_back());
+    assert_eq!(rt; all, (3, Some(3)));
+    assert_eq!(rt;
+        taken,
+        (Some((0..2, 'a')), Some((8..9, 'c')), Some((4..6, 'b')))
+    );
+    assert_eq!(rt; left, ((0, Some(0)), None, None));
+    Ok(())
+}
+
+#[test]
+fn a_map_is_gone_through_by_value(rt: HostRuntime) -> Result<(), Fail> {
+    let map = RangeMap::from(rt.alloc(), [(0u32..10, 'a'), (3..6, 'b')])?;
+    let mut starts = Vec::new(rt.alloc());
+    for (range, value) in map {
+        starts.push((range.start, value))?;
+    }
+    assert_eq!(rt;
+        starts.as_slice(),
+        [(0, 'a'), (3, 'b'), (6, 'a')].as_slice()
+    );
+    Ok(())
+}

@@ -1,0 +1,68 @@
+//! Pairs of bytes in lexicographic order.
+ghost use Rattle.std.specs.Prelude.{◌^◌};
+ghost use Rattle.vectors.specs.Pairs.{IsPair, pair_after, pair_before, pair_follows, pair_precedes};
+
+use rangemap::StepFns;
+
+/// The steps of pairs of bytes: behind `(1, 255)` comes `(2, 0)`.
+pub struct PairSteps;
+
+impl StepFns<(u8, u8)> for PairSteps {
+    ghost is_key = { IsPair (2 ^ 8) };
+
+    ghost after = { pair_after (2 ^ 8) };
+
+    ghost before = { pair_before (2 ^ 8) };
+
+    ghost follows = { pair_follows (2 ^ 8) };
+
+    ghost precedes = { pair_precedes (2 ^ 8) };
+
+    fn known(x: &(u8, u8)) {
+        let _first = x.0;
+        let _second = x.1;
+    }
+
+    fn add_one(start: &(u8, u8)) -> (u8, u8) {
+        if start.1 < 255 {
+            (start.0, start.1 + 1)
+        } else {
+            (start.0 + 1, 0)
+        }
+    }
+
+    fn sub_one(start: &(u8, u8)) -> (u8, u8) {
+        if start.1 > 0 {
+            (start.0, start.1 - 1)
+        } else {
+            (start.0 - 1, 255)
+        }
+    }
+}
+
+#[cfg(test)]
+mod tests {
+    use super::PairSteps;
+    use crate::rows::{check_gaps, check_set, make_set};
+    use rangemap::RangeInclusiveSet;
+    use std::alloc::Global;
+    use std::test::Fail;
+
+    /// Pairs of bytes.
+    type Pairs = RangeInclusiveSet<(u8, u8), PairSteps, Global>;
+
+    #[test]
+    fn pairs_touch_over_their_second_byte(rt: HostRuntime) -> Result<(), Fail> {
+        let set: Pairs = make_set(rt.alloc(), &[(0, 0)..=(1, 255), (2, 0)..=(2, 0)])?;
+        check_set(&rt, &set, &[(0, 0)..=(2, 0)])
+    }
+
+    #[test]
+    fn the_last_pair_is_not_stepped_past(rt: HostRuntime) -> Result<(), Fail> {
+        let mut set: Pairs = make_set(rt.alloc(), &[(0, 0)..=(2, 0), (2, 2)..=(255, 255)])?;
+        let whole = (0, 0)..=(255, 255);
+        check_gaps(&rt, &set, &whole, &[(2, 1)..=(2, 1)])?;
+        set.remove((255, 255)..=(255, 255))?;
+        check_set(&rt, &set, &[(0, 0)..=(2, 0), (2, 2)..=(255, 254)])
+    }
+}

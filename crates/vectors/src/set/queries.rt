@@ -1,0 +1,92 @@
+//! Rows about queries: which stored ranges a range overlaps, and which parts of it are free.
+
+use super::Set;
+use crate::rows::Call::Insert;
+use crate::rows::make_set;
+use crate::rows::tables::check_free;
+use std::ops::Range;
+use std::process::Abort;
+use std::test::Fail;
+
+#[test]
+fn what_nothing_covers_is_free(rt: HostRuntime) -> Result<(), Fail> {
+    let two = [Insert(1..3, ()), Insert(5..7, ())];
+    let three = [
+        Insert(0..100, ()),
+        Insert(200..300, ()),
+        Insert(400..500, ()),
+    ];
+    check_free::<Set, _>(
+        &rt,
+        rt.alloc(),
+        &[
+            (&two, 0..8, &[0..1, 3..5, 7..8]),
+            (&two, 4..4, &[]),
+            (&two, 8..0, &[]),
+            (&three, 0..500, &[100..200, 300..400]),
+            (&[], 0..3, &[0..3]),
+        ],
+    )
+}
+
+#[test]
+fn gaps_that_have_ended_stay_ended(rt: HostRuntime) -> Result<(), Fail> {
+    let set: Set = make_set(rt.alloc(), &[1..3])?;
+    take_gaps(&rt, &set)
+}
+
+/// Takes the one gap, and asks on.
+fn take_gaps<R: Abort>(rt: &R, set: &Set) -> Result<(), Fail> {
+    let outer_range = 0..3;
+    let mut gaps = set.gaps(&outer_range);
+    assert_eq!(rt; gaps.size_hint(), (0, None));
+    let taken = (gaps.try_next(), gaps.try_next(), gaps.next());
+    assert_eq!(rt; taken, (Ok(Some(0..1)), Ok(None), None));
+    Ok(())
+}
+
+#[test]
+fn a_query_may_be_empty_or_reversed(rt: HostRuntime) -> Result<(), Fail> {
+    check_query_rows(
+        &rt,
+        &[
+            (3..8, 5..5, true),
+            (5..8, 5..5, false),
+            (3..8, 7..4, true),
+            (3..8, 8..0, false),
+            (3..8, 7..9, true),
+        ],
+    )
+}
+
+/// Compares whether the query of each row overlaps the one stored range.
+fn check_query_rows<R: AllocGlobal + Abort>(
+    rt: &R,
+    rows: &[(Range<u32>, Range<u32>, bool)],
+) -> Result<(), Fail> {
+    for (stored, query, overlaps) in rows {
+        let set: Set = make_set(rt.alloc(), &[stored.start..stored.end])?;
+        assert_eq!(rt; set.overlaps(query), *overlaps);
+        let found = set.overlapping(query).next();
+        assert_eq!(rt; found, if *overlaps { Some(stored) } else { None });
+    }
+    Ok(())
+}
+
+#[test]
+fn overlapping_ranges_come_from_both_ends(rt: HostRuntime) -> Result<(), Fail> {
+    let set: Set = make_set(rt.alloc(), &[0..2, 3..4, 5..6, 8..9])?;
+    take_overlapping(&rt, &set)
+}
+
+/// Takes what a query overlaps from both ends, and asks on.
+fn take_overlapping<R: Abort>(rt: &R, set: &Set) -> Result<(), Fail> {
+    let query = 1..8;
+    let mut found = set.overlapping(&query);
+    assert_eq!(rt; found.size_hint(), (0, None));
+    let taken = (found.next(), found.next_back(), found.next());
+    assert_eq!(rt; taken, (Some(&(0..2)), Some(&(5..6)), Some(&(3..4))));
+    assert!(rt; found.next().is_none() && found.next_back().is_none());
+    assert!(rt; found.next().is_none());
+    Ok(())
+}

@@ -1,0 +1,97 @@
+//! Rows about calls on sets over texts that are refused memory: the growth of a set and each clone
+//! of a text, in its turn.
+
+use crate::map::filled;
+use crate::rows::Call::{Insert, Remove};
+use crate::rows::InRows;
+use crate::trials::maps::Tried::{Change, Clone, Gaps};
+use crate::trials::maps::{Row, check_refusals};
+use crate::trials::{Heap, MANY};
+use rangemap::RangeSet;
+use refusing::Refusing;
+use std::ops::Range;
+use std::test::Fail;
+
+mod makers;
+mod operations;
+
+type Text<'a> = String<&'a Heap>;
+
+/// A set of texts.
+type Names<'a> = RangeSet<Text<'a>, &'a Heap>;
+
+/// The ends of a range between texts, as they stand in a row.
+type Ends = (&'static str, &'static str);
+
+impl<'a> InRows for Names<'a> {
+    type RowRange = Ends;
+
+    type RowValue = ();
+
+    fn range(heap: &'a Heap, row: &Ends) -> Result<Range<Text<'a>>, Fail> {
+        Ok(filled(
+            String::from_str(heap, row.0)?,
+            String::from_str(heap, row.1)?,
+        )?)
+    }
+
+    fn value(_heap: &'a Heap, _row: &()) -> Result<(), Fail> {
+        Ok(())
+    }
+
+    fn is_range(range: &Range<Text<'a>>, row: &Ends) -> bool {
+        range.start.as_str() == row.0 && range.end.as_str() == row.1
+    }
+
+    fn is_value(_value: &(), _row: &()) -> bool {
+        true
+    }
+}
+
+const NOTHING: [(Ends, ()); 0] = [];
+
+const BEGINNING: [(Ends, ()); 1] = [(("a", "f"), ())];
+
+const WHOLE: [(Ends, ()); 1] = [(("a", "k"), ())];
+
+const PIECES: [(Ends, ()); 2] = [(("a", "c"), ()), (("f", "k"), ())];
+
+const INNER: [(Ends, ()); 1] = [(("b", "d"), ())];
+
+/// A row over the set of texts.
+type NamesRow<'r> = Row<'r, Ends, ()>;
+
+// The first growth takes a request, and a clone of either end of each piece that stays, of a joined
+// range and of a gap another. (A table of several changes over such rows has no proof: the checker
+// finds several lifetimes where its type names one.)
+#[test]
+#[tactic(auto, using(crate::proofs::Texts::clones_tie))]
+fn each_request_of_an_insert_may_be_refused(rt: HostRuntime) -> Result<(), Fail> {
+    let first: [NamesRow<'_>; 1] = [(&NOTHING, Change(Insert(("a", "k"), ()), &WHOLE), 1)];
+    let joined: [NamesRow<'_>; 1] = [(&BEGINNING, Change(Insert(("f", "k"), ()), &WHOLE), 2)];
+    let heap = Refusing::new(rt.alloc(), MANY);
+    check_refusals::<_, Names<'_>>(&rt, &heap, &first)?;
+    check_refusals::<_, Names<'_>>(&rt, &heap, &joined)
+}
+
+#[test]
+#[tactic(auto, using(crate::proofs::Texts::clones_tie))]
+fn each_request_of_a_removal_may_be_refused(rt: HostRuntime) -> Result<(), Fail> {
+    let inside: [NamesRow<'_>; 1] = [(&WHOLE, Change(Remove(("c", "f")), &PIECES), 4)];
+    let behind: [NamesRow<'_>; 1] = [(&WHOLE, Change(Remove(("m", "p")), &WHOLE), 0)];
+    let heap = Refusing::new(rt.alloc(), MANY);
+    check_refusals::<_, Names<'_>>(&rt, &heap, &inside)?;
+    check_refusals::<_, Names<'_>>(&rt, &heap, &behind)
+}
+
+#[test]
+#[tactic(auto, using(crate::proofs::Texts::clones_tie))]
+fn each_request_of_a_gap_and_of_a_clone_may_be_refused(rt: HostRuntime) -> Result<(), Fail> {
+    let rows: [NamesRow<'_>; 2] = [
+        (&INNER, Gaps(("a", "f"), ("a", "b"), ("d", "f")), 2),
+        // the list, and four keys
+        (&PIECES, Clone, 5),
+    ];
+    let heap = Refusing::new(rt.alloc(), MANY);
+    check_refusals::<_, Names<'_>>(&rt, &heap, &rows)
+}

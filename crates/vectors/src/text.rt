@@ -1,0 +1,72 @@
+//! Rows about the debug text of maps.
+
+use rangemap::laws::texts::{ascii_text, signed_text, unsigned_text};
+use rangemap::{RangeInclusiveMap, RangeMap, range_inclusive_map, range_map};
+use std::alloc::Global;
+use std::fmt::Debug;
+use std::process::Abort;
+use std::test::Fail;
+
+/// Shows that `{:?}` writes the text.
+fn assert_text<M: Debug, R: AllocGlobal + Abort>(rt: &R, map: &M, text: &str) -> Result<(), Fail> {
+    assert_eq!(rt; format!(in rt.alloc(); "{map:?}")?.as_str(), text);
+    Ok(())
+}
+
+#[test]
+fn maps_are_written_in_braces(rt: HostRuntime) -> Result<(), Fail> {
+    let alloc = rt.alloc();
+    let map = range_map! { in alloc; 0..100u32 => "abc", 200..300 => "ghi" }?;
+    assert_text(&rt, &map, "{0..100: \"abc\", 200..300: \"ghi\"}")?;
+    let none: RangeMap<u32, bool, Global> = RangeMap::new(alloc);
+    assert_text(&rt, &none, "{}")?;
+    let signed = range_map! { in alloc; -3..0i8 => 7u16 }?;
+    assert_text(&rt, &signed, "{-3..0: 7}")
+}
+
+#[test]
+fn closed_maps_are_written_in_braces(rt: HostRuntime) -> Result<(), Fail> {
+    let alloc = rt.alloc();
+    let map = range_inclusive_map! { in alloc; 0..=100u32 => "abc", 200..=300 => "ghi" }?;
+    assert_text(&rt, &map, "{0..=100: \"abc\", 200..=300: \"ghi\"}")?;
+    let none: RangeInclusiveMap<u32, bool, u32, Global> = RangeInclusiveMap::new(alloc);
+    assert_text(&rt, &none, "{}")
+}
+
+#[test]
+fn other_keys_and_values_are_written_by_their_own_text(rt: HostRuntime) -> Result<(), Fail> {
+    let alloc = rt.alloc();
+    let map = range_map! { in alloc; 'a'..'f' => Some(true), 'x'..'z' => None }?;
+    assert_text(&rt, &map, "{'a'..'f': Some(true), 'x'..'z': None}")
+}
+
+#[test]
+fn the_long_form_gives_each_pair_a_line(rt: HostRuntime) -> Result<(), Fail> {
+    let alloc = rt.alloc();
+    let map = range_map! { in alloc; 0..100u32 => "abc", 200..300 => "ghi" }?;
+    assert_eq!(rt;
+        format!(in alloc; "{map:#?}")?.as_str(),
+        "{\n    0..100: \"abc\",\n    200..300: \"ghi\",\n}"
+    );
+    let closed = range_inclusive_map! { in alloc; 0..=100u32 => 'a' }?;
+    assert_eq!(rt;
+        format!(in alloc; "{closed:#?}")?.as_str(),
+        "{\n    0..=100: 'a',\n}"
+    );
+    let none: RangeMap<u32, bool, Global> = RangeMap::new(alloc);
+    assert_eq!(rt; format!(in alloc; "{none:#?}")?.as_str(), "{}");
+    Ok(())
+}
+
+#[test]
+fn the_laws_of_texts_write_them(rt: HostRuntime) -> Result<(), Fail> {
+    let alloc = rt.alloc();
+    let unsigned = range_map! { in alloc; 0..5u32 => 7u16 }?;
+    assert_eq!(rt; unsigned_text(alloc, &unsigned)?.as_str(), "{0..5: 7}");
+    let signed = range_inclusive_map! { in alloc; -128..=-1i8 => 7u64, 5..=127 => 8 }?;
+    assert_eq!(rt;
+        signed_text(alloc, &signed)?.as_str(),
+        "{-128..=-1: 7, 5..=127: 8}"
+    );
+    Ok(())
+}
