@@ -10,3 +10,6 @@ pub mod SetLemmas
 pub mod SetRoundTripLemmas
 pub mod OperatorLemmas
 pub mod SetReplayLemmas
+pub mod HalfOpenLemmas
+pub mod PairLoopLemmas
+pub mod SetCallerLemmas

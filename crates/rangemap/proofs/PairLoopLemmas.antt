@@ -1,0 +1,88 @@
+-- For callers that loop over the pairs of a map: what each is, and what all of them are.
+use Rattle.std.proofs.Common.{◌≡◌, ℕ, suc, take, drop, get_or, unwrap_or, Bool, true, false, cond, List, [], ◌∷◌, ◌++◌, map, Option, Some, None, option_map, refl, sym, ap, subst, ◌∙◌}
+use Rattle.std.specs.Borrow.{Bor}
+use Rattle.std.specs.Iterator.{Yields}
+use Rattle.std.specs.List.{All, AllByRecursion, slice_get}
+use Rattle.std.proofs.Math.Seq.{drop-cons}
+use Rattle.std.proofs.lemmas.List.{take-append-drop}
+use Rattle.std.proofs.lemmas.Option.{slice_get_within, unwrap_or-slice_get}
+use Rattle.std.specs.Map.Iter.{TakesFirst, deref_pair}
+use Rattle.std.proofs.lemmas.List.Elements.{recursion_from_All}
+use Rattle.std.proofs.lemmas.Map.Iter.{iter_end, rest_more, rest_so_far}
+use Rattle.rangemap_core.specs.Ranges.{RangeKind, IsCanonical, IsStorable, covering, value_at}
+use Rattle.rangemap_core.specs.engine.Endpoints.{IsPlaced, EndpointOf}
+use Rattle.rangemap_core.specs.engine.PlacedKinds.{place_total}
+use Rattle.rangemap_core.specs.laws.Orders.{lt_le}
+use Rattle.rangemap.proofs.CallerLemmas.{below_end_place, none_before}
+
+-- The pair is one of the list: its range may be stored, and each key of it has its value.
+pub record IsStored {K X V : Type 0} (k : RangeKind K X) (list : List (X × V)) (a : X × V) : Type 0 where
+  pub range : IsStorable k a.0
+  pub value : (x : K) → k.is_key x → k.holds a.0 x ≡ true → value_at k list x ≡ Some a.1
+
+module _ {K X V : Type 0} {k : RangeKind K X} {end_place : X → Option K} {part : EndpointOf X → EndpointOf X → X} (p : IsPlaced k end_place part) (eq : V → V → Bool) where
+  -- the pairs behind one that has a key don't have it
+  none_behind : (b : X × V) (rest : List (X × V)) (x : K) → IsCanonical k eq (b ∷ rest) → k.is_key x → k.holds b.0 x ≡ true → covering k rest x ≡ None
+  none_behind b [] x can key h = refl
+  none_behind b (c ∷ rest) x can key h = none_before p eq c rest x can.2 key (lt_le (place_total p.total) {a = Some x} {b = end_place b.0} {c = Some (k.start c.0)} (below_end_place p b.0 x can.0 key h) (p.before b.0 c.0 can.0 can.2.0 can.1.0))
+
+  covering_among : (before : List (X × V)) (a : X × V) (after : List (X × V)) → IsCanonical k eq (before ++ a ∷ after) → IsStorable k a.0 × ((x : K) → k.is_key x → k.holds a.0 x ≡ true → covering k (before ++ a ∷ after) x ≡ Some a)
+  covering_among [] a after can = (can.0, λ x key h. ap (λ b. cond b (Some a) (covering k after x)) h)
+  covering_among (b ∷ before) a after can =
+      let rest = covering_among before a after can.2 in
+      (rest.0, λ x key h. go x key (k.holds b.0 x) refl (rest.1 x key h))
+    where
+      not_both : {c : Option (X × V)} → c ≡ None → c ≡ Some a → ⊥
+      not_both n s = cc
+
+      go : (x : K) → k.is_key x → (t : Bool) → k.holds b.0 x ≡ t → covering k (before ++ a ∷ after) x ≡ Some a → cond t (Some b) (covering k (before ++ a ∷ after) x) ≡ Some a
+      go x key true e found = absurd (not_both (none_behind b (before ++ a ∷ after) x can key e) found)
+      go x key false e found = found
+
+  pub stored_among : (before : List (X × V)) (a : X × V) (after : List (X × V)) → IsCanonical k eq (before ++ a ∷ after) → IsStored k (before ++ a ∷ after) a
+  stored_among before a after can =
+      let found = covering_among before a after can in
+      record { range = found.0; value = λ x key h. ap (option_map (λ (q : X × V). q.1)) (found.1 x key h) }
+
+  -- the pair at a place of the list, as `first_range_value` and `last_range_value` give it
+  pub pair_is_stored : (list : List (X × V)) (at : ℕ) (a : X × V) → IsCanonical k eq list → Some a ≡ slice_get list at → IsStored k list a
+  pair_is_stored list at a can h =
+      let there : get_or list at a ≡ a = sym (unwrap_or-slice_get list at a) ∙ ap (λ o. unwrap_or o a) (sym h) in
+      let whole : list ≡ take at list ++ a ∷ drop (suc at) list = sym (take-append-drop at list) ∙ ap (λ xs. take at list ++ xs) (drop-cons list at a (slice_get_within list at a (sym h)) ∙ ap (λ b. b ∷ drop (suc at) list) there) in
+      subst (λ xs. IsStored k xs a) (sym whole) (stored_among (take at list) a (drop (suc at) list) (subst (IsCanonical k eq) whole can))
+
+  -- A loop over a map, as `for (range, value) in map.iter()`, which lends `lent`. It was given
+  -- `items`, and `left` is still to come when it asks again: the answer is `result`, after which
+  -- `new` is to come.
+  module _ (list lent start : List (X × V)) (items : List (Bor X × Bor V)) (left new : List (X × V)) (result : Option (Bor X × Bor V))
+      (all : lent ≡ list) (is : start ≡ lent) (so_far : Yields (TakesFirst deref_pair) start items left) (step : TakesFirst deref_pair left result new) where
+    -- a further item is one of the map's
+    pub item_is_stored : IsCanonical k eq list → (item : Bor X × Bor V) → result ≡ Some item → IsStored k list (deref_pair item)
+    item_is_stored can item some =
+        let whole : list ≡ map deref_pair items ++ deref_pair item ∷ new = sym (is ∙ all) ∙ rest_so_far deref_pair items start left so_far ∙ ap (λ xs. map deref_pair items ++ xs) (rest_more deref_pair left new result item some step) in
+        subst (λ xs. IsStored k xs (deref_pair item)) (sym whole) (stored_among (map deref_pair items) (deref_pair item) new (subst (IsCanonical k eq) whole can))
+
+module _ {K X V : Type 0} (k : RangeKind K X) (P : X × V → Type 0) where
+  -- the pair that gives a key its value is one of which P holds, where P holds of all
+  pub value_from_each : (list : List (X × V)) → AllByRecursion P list → (x : K) (v : V) → value_at k list x ≡ Some v → (a : X × V) × P a × (a.1 ≡ v) × (k.holds a.0 x ≡ true)
+  value_from_each [] each x v h = absurd (cc)
+  value_from_each (b ∷ list) each x v h = go (k.holds b.0 x) refl h (value_from_each list each.1 x v)
+    where
+      some_is : (u w : V) → Some u ≡ Some w → u ≡ w
+      some_is u w e = cc
+
+      go : (t : Bool) → k.holds b.0 x ≡ t → option_map (λ (q : X × V). q.1) (cond t (Some b) (covering k list x)) ≡ Some v
+          → (value_at k list x ≡ Some v → (a : X × V) × P a × (a.1 ≡ v) × (k.holds a.0 x ≡ true)) → (a : X × V) × P a × (a.1 ≡ v) × (k.holds a.0 x ≡ true)
+      go true e g rest = (b, each.0, some_is b.1 v g, e)
+      go false e g rest = rest g
+
+  each_mapped : (items : List (Bor X × Bor V)) → AllByRecursion (λ item. P (deref_pair item)) items → AllByRecursion P (map deref_pair items)
+  each_mapped [] each = each
+  each_mapped (item ∷ items) each = (each.0, each_mapped items each.1)
+
+  -- at the end of such a loop, where P held of each item
+  pub value_from_items : (list lent start : List (X × V)) (items : List (Bor X × Bor V)) (left new : List (X × V)) (result : Option (Bor X × Bor V))
+      → lent ≡ list → start ≡ lent → Yields (TakesFirst deref_pair) start items left → TakesFirst deref_pair left result new → result ≡ None → All (λ item. P (deref_pair item)) items
+      → (x : K) (v : V) → value_at k list x ≡ Some v → (a : X × V) × P a × (a.1 ≡ v) × (k.holds a.0 x ≡ true)
+  value_from_items list lent start items left new result all is so_far step none each =
+      value_from_each list (subst (AllByRecursion P) (iter_end deref_pair list items start left new result (is ∙ all) so_far none step).0 (each_mapped items (recursion_from_All (λ item. P (deref_pair item)) items each)))

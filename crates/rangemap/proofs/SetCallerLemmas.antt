@@ -1,0 +1,169 @@
+-- For callers: what the contracts of the sets say key by key, and loops over the gaps of a set.
+use Rattle.std.proofs.Common.{◌≡◌, ℕ, ◌+◌, ◌<◌, ◌≤◌, Bool, true, false, not, ◌&&◌, ◌||◌, cond, List, [], ◌∷◌, ◌++◌, map, Option, Some, None, is_some, Result, Ok, refl, sym, ap, subst, ◌∙◌, true≢false, arith, inl, inr}
+use Rattle.std.specs.Iterator.{Yields}
+use Rattle.std.specs.List.{find}
+use Rattle.std.specs.Ordering.{nat_cmp}
+use Rattle.std.specs.Cmp.{nat_cmp_total}
+use Rattle.std.specs.declared.alloc.AllocError.{AllocError}
+use Rattle.std.specs.declared.ops.RangeInclusive.{RangeInclusive}
+use Rattle.std.specs.Range.{range_inclusive_start, range_inclusive_end}
+use Rattle.rangemap_core.specs.Ranges.{RangeKind, AreGaps, IsCanonOf, closed, covers, same_ranges, unit_eq, value_at, with_unit}
+use Rattle.rangemap_core.specs.Items.{GivesRange}
+use Rattle.rangemap_core.specs.engine.Endpoints.{IsPlaced, EndpointOf}
+use Rattle.rangemap_maps.specs.ClosedEndpoints.{closed_part, closed_placed}
+use Rattle.rangemap_maps.specs.ClosedPlaces.{closed_end_place}
+use Rattle.rangemap_sets.specs.Sets.{Adds, AreCommon, AreEither, IsCanonicalSet, TakesOut, range_at}
+use Rattle.rangemap_sets.proofs.UnitValueLemmas.{adds_last, covers_one, points_of, ranges_with, value_covers}
+use Rattle.rangemap.specs.CharLaws.{IsChar, char_after, char_before, char_follows, char_precedes}
+use Rattle.rangemap.specs.Operators.{common, either}
+use Rattle.rangemap.specs.UnitPairs.{same_with_unit}
+use Rattle.rangemap.proofs.CallerLemmas.{holds_start, same_function}
+use Rattle.rangemap.proofs.GapLoopLemmas.{gaps_collected}
+use Rattle.rangemap.proofs.NumberLemmas.{closed_below, run_found, unit_none}
+use Rattle.rangemap.proofs.OperatorLemmas.{common_some, either_some}
+use Rattle.rangemap.proofs.SetLemmas.{copied, pair_found}
+use Rattle.rangemap.proofs.SetRoundTripLemmas.{unit_equiv}
+
+-- ---- keys of a set
+
+module _ {K X : Type 0} (k : RangeKind K X) where
+  -- the key is in the set, said of the map that the set is
+  pub valued_where_covered : (set : List X) (x : K) → is_some (value_at k (with_unit k set) x) ≡ covers k set x
+  valued_where_covered set x = value_covers k (with_unit k set) x ∙ ap (λ rs. covers k rs x) (ranges_with k set)
+
+  module _ (old new : List X) (r : X) (x : K) (key : k.is_key x) where
+    -- after an insert, a key of the range is in the set, and any other as before
+    pub added_within : Adds k old (r ∷ []) new → k.holds r x ≡ true → covers k new x ≡ true
+    added_within h e = h.points x key ∙ ap (λ b. b || covers k old x) (covers_one k r x ∙ e)
+
+    pub added_outside : Adds k old (r ∷ []) new → k.holds r x ≡ false → covers k new x ≡ covers k old x
+    added_outside h e = h.points x key ∙ ap (λ b. b || covers k old x) (covers_one k r x ∙ e)
+
+    -- after a remove, a key of the range is not, and any other as before
+    pub taken_within : TakesOut k old r new → k.holds r x ≡ true → covers k new x ≡ false
+    taken_within h e = h.points x key ∙ ap (λ b. not b && covers k old x) e
+
+    pub taken_outside : TakesOut k old r new → k.holds r x ≡ false → covers k new x ≡ covers k old x
+    taken_outside h e = h.points x key ∙ ap (λ b. not b && covers k old x) e
+
+  module _ (ps qs rs : List X) where
+    -- what the operators give, as `Combines` says it
+    pub either_points : IsCanonOf k (unit_eq k) (either (value_at k (with_unit k ps)) (value_at k (with_unit k qs))) (with_unit k rs) → AreEither k ps qs rs
+    either_points h = subst (AreEither k ps qs) (ranges_with k rs) (points_of k _ _ (with_unit k rs) (λ x key. either_some (value_at k (with_unit k ps) x) (value_at k (with_unit k qs) x) ∙ ap (λ b. b || is_some (value_at k (with_unit k qs) x)) (valued_where_covered ps x) ∙ ap (λ b. covers k ps x || b) (valued_where_covered qs x)) h)
+
+    pub common_points : IsCanonOf k (unit_eq k) (common (value_at k (with_unit k ps)) (value_at k (with_unit k qs))) (with_unit k rs) → AreCommon k ps qs rs
+    common_points h = subst (AreCommon k ps qs) (ranges_with k rs) (points_of k _ _ (with_unit k rs) (λ x key. common_some (value_at k (with_unit k ps) x) (value_at k (with_unit k qs) x) ∙ ap (λ b. b && is_some (value_at k (with_unit k qs) x)) (valued_where_covered ps x) ∙ ap (λ b. covers k ps x && b) (valued_where_covered qs x)) h)
+
+-- ---- ranges inserted into an empty set, one after another, as a loop gives them
+
+-- Each item gave a range, and the set has the keys of all of them.
+pub record AreInserted {K X : Type 0} (k : RangeKind K X) (items : List (Result X AllocError)) (set : List X) : Type 0 where
+  pub taken : List X
+  pub is : items ≡ map Ok taken
+  pub made : Adds k [] taken set
+
+module _ {K X : Type 0} (k : RangeKind K X) where
+  pub none_inserted : AreInserted k [] []
+  none_inserted = record { taken = []; is = refl; made = record { canonical = tt; points = λ x key. refl } }
+
+  abbrev given : List X → List (Result X AllocError)
+  given taken = map Ok taken
+
+  given_last : (taken : List X) (r : X) → given taken ++ Ok r ∷ [] ≡ given (taken ++ r ∷ [])
+  given_last [] r = refl
+  given_last (s ∷ taken) r = ap (λ items. Ok s ∷ items) (given_last taken r)
+
+  pub one_more_inserted : (items : List (Result X AllocError)) (old new : List X) (item : Result X AllocError) (r : X) → AreInserted k items old → item ≡ Ok r → Adds k old (r ∷ []) new → AreInserted k (items ++ item ∷ []) new
+  one_more_inserted items old new item r h ok added = record {
+    taken = h.taken ++ r ∷ [];
+    is = ap (λ xs. xs ++ item ∷ []) h.is ∙ ap (λ one. given h.taken ++ one ∷ []) ok ∙ given_last h.taken r;
+    made = adds_last k [] old new h.taken r h.made added;
+  }
+
+module _ {K X : Type 0} {k : RangeKind K X} {end_place : X → Option K} {part : EndpointOf X → EndpointOf X → X} (p : IsPlaced k end_place part) where
+  -- ---- one list a set of keys
+
+  -- two sets that have the same keys are equal, whatever their histories
+  pub equal_sets : (left right : List X) → IsCanonicalSet k left → IsCanonicalSet k right → ((x : K) → k.is_key x → covers k left x ≡ covers k right x) → same_ranges k left right ≡ true
+  equal_sets left right a b h =
+      same_with_unit k left right
+      ∙ same_function p (unit_equiv k) (value_at k (with_unit k right)) (with_unit k left) (with_unit k right)
+      (copied k right left (record { canonical = a; points = h })) (copied k right right (record { canonical = b; points = λ x key. refl }))
+
+  -- ---- gaps
+
+  -- a range each of whose keys is in the set has no gaps
+  pub no_set_gaps : (set : List X) (q : X) (gaps : List X) → AreGaps k set q gaps → ((x : K) → k.is_key x → k.holds q x ≡ true → covers k set x ≡ true) → gaps ≡ []
+  no_set_gaps set q [] are all = refl
+  no_set_gaps set q (g ∷ gaps) are all = absurd (in_none (k.holds q x) (covers k set x) (sym (are.points x key) ∙ here) (all x key))
+    where
+      x : K
+      x = k.start g
+
+      key : k.is_key x
+      key = are.canonical.0.start_is_key
+
+      here : covers k (g ∷ gaps) x ≡ true
+      here = ap (λ b. is_some (cond b (Some g) (find (λ r. k.holds r x) gaps))) (holds_start p g are.canonical.0)
+
+      in_none : (b c : Bool) → (b && not c) ≡ true → (b ≡ true → c ≡ true) → ⊥
+      in_none true true h f = true≢false (sym h)
+      in_none true false h f = true≢false (sym (f refl))
+      in_none false c h f = true≢false (sym h)
+
+  -- A loop over the gaps `all` of the range q, as `for gap in set.gaps(&q)`. It was given `items`,
+  -- and `left` is still to come when it asks again: the answer is `result`, after which `new` is
+  -- to come.
+  module _ (set : List X) (q : X) (all start : List X) (items : List (Result X AllocError)) (left new : List X) (result : Option (Result X AllocError))
+      (are : AreGaps k set q all) (is : start ≡ all) (so_far : Yields (GivesRange k) start items left) (step : GivesRange k left result new) where
+    -- at the end the items are the gaps
+    pub set_gaps_collected : (collected : List X) → items ≡ map Ok collected → result ≡ None → AreGaps k set q collected
+    set_gaps_collected collected alike none =
+        subst (λ rs. AreGaps k rs q collected) (ranges_with k set)
+        (gaps_collected p (with_unit k set) q all start items left new result (subst (λ rs. AreGaps k rs q all) (sym (ranges_with k set)) are) is so_far step collected alike none)
+
+    -- so is a set into which they were inserted
+    pub gaps_inserted : (made : List X) → AreInserted k items made → result ≡ None → AreGaps k set q made
+    gaps_inserted made h none = record {
+      canonical = h.made.canonical;
+      points = λ x key. h.made.points x key ∙ or_false (covers k h.taken x) ∙ (set_gaps_collected h.taken h.is none).points x key;
+    }
+      where
+        or_false : (b : Bool) → (b || false) ≡ b
+        or_false true = refl
+        or_false false = refl
+
+-- ---- the stored range that has a number, as `get` gives it
+
+-- The stored range r has the number x: it ends below the bound, each of its numbers is in the set,
+-- and the number behind it is not.
+pub record IsSetRun (bound : ℕ) (set : List (RangeInclusive ℕ)) (x : ℕ) (r : RangeInclusive ℕ) : Type 0 where
+  pub from : range_inclusive_start r ≤ x
+  pub to : x ≤ range_inclusive_end r
+  pub below : range_inclusive_end r < bound
+  pub covered : (y : ℕ) → range_inclusive_start r ≤ y → y ≤ range_inclusive_end r → covers (closed_below bound) set y ≡ true
+  pub ends : range_inclusive_end r + 1 < bound → covers (closed_below bound) set (range_inclusive_end r + 1) ≡ false
+
+pub set_run_found : {bound : ℕ} (set : List (RangeInclusive ℕ)) → IsCanonicalSet (closed_below bound) set → {x : ℕ} → x < bound → {r : RangeInclusive ℕ} → Some r ≡ range_at (closed_below bound) set x → IsSetRun bound set x r
+set_run_found {bound} set can {x} key {r} h =
+    let run = run_found {eq = unit_eq (closed_below bound)} (λ v w. refl) can key (pair_found (closed_below bound) set x (Some r) h) in
+    record {
+      from = run.from;
+      to = run.to;
+      below = run.below;
+      covered = λ y from to. sym (valued_where_covered (closed_below bound) set y) ∙ ap is_some (run.value y from to);
+      ends = λ l. sym (valued_where_covered (closed_below bound) set (range_inclusive_end r + 1)) ∙ ap is_some (unit_none _ (run.ends l));
+    }
+
+-- ---- characters
+
+abbrev pub closed_characters : RangeKind ℕ (RangeInclusive ℕ)
+closed_characters = closed IsChar nat_cmp
+
+-- what these lemmas, and those of `CallerLemmas`, ask of characters as `p`
+pub placed_characters : IsPlaced closed_characters (closed_end_place char_after) (closed_part char_after char_before)
+placed_characters = closed_placed IsChar nat_cmp nat_cmp_total char_after char_before char_follows char_precedes
+
+pub below_last_character : (c : ℕ) → IsChar c → c < 0x110000
+below_last_character c (inl low) = omega arith
+below_last_character c (inr high) = high.1

@@ -1,0 +1,3 @@
+mod ExtentLemmas
+mod RingLemmas
+mod WordLemmas

@@ -1,0 +1,6 @@
+use Rattle.rangemap.proofs.NumberLemmas.{placed_half_open}
+use Rattle.rangemap.proofs.SetCallerLemmas.{set_gaps_collected}
+use Rattle.uses.proofs.byte_cache.ByteCache.missing.Goals as goal
+
+pub returns : goal.returns
+returns c = search (set_gaps_collected placed_half_open)

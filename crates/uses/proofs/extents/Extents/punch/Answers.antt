@@ -1,0 +1,15 @@
+use Rattle.std.proofs.Common.{arith, option_map, ap, ◌%◌, ◌+◌, ◌^◌}
+use Rattle.std.proofs.lemmas.Result.{on_ok_weaker}
+use Rattle.rangemap.proofs.NumberLemmas.{closed_remove_within, same_number}
+use Rattle.uses.proofs.ExtentLemmas.{after_either, one_to_one_punched}
+use Rattle.uses.specs.Places.{IsOneToOne}
+use Rattle.uses.proofs.extents.Extents.punch.Goals as goal
+
+pub invariant_of-self : goal.invariant_of-self
+invariant_of-self c = record { one_to_one = after_either IsOneToOne c.args.self.now.shifts c.remove.new.self c.remove.result (one_to_one_punched c.args.self.now.shifts c.remove.new.self c.new.result c.args.self.now.one_to_one) c.args.self.now.one_to_one c.remove.ensures.ok c.remove.ensures.err }
+
+pub returns-clause-hole : goal.returns-clause-hole
+returns-clause-hole c =
+    on_ok_weaker c.remove.result
+    (λ ok block from to. ap (option_map (λ shift. (block + shift) % 2 ^ 32)) (closed_remove_within same_number (2 ^ 32) _ c.new.result c.remove.new.self block (omega (arith, c.ranges.last.fits)) ok (omega (arith, c.new.ensures.start)) (omega (arith, c.new.ensures.end))))
+    c.remove.ensures.ok

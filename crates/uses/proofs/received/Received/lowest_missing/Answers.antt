@@ -1,0 +1,17 @@
+use Rattle.std.proofs.Common.{arith}
+use Rattle.rangemap.proofs.SetCallerLemmas.{set_run_found}
+use Rattle.uses.proofs.received.Received.lowest_missing.Goals as goal
+
+pub returns-then-last-lt18446744073709551615-clause-found : goal.returns-then-last-lt18446744073709551615-clause-found
+returns-then-last-lt18446744073709551615-clause-found c =
+    let run = set_run_found c.args.self.now.numbers c.known.ensures c.ranges.start.fits c.in-Some.ensures in
+    record {
+      missing = rw c.end-last.ensures (run.ends (omega (arith, c.end-last.ensures)));
+      from = omega (arith, c.end-last.ensures, run.to);
+      lowest = λ other from to. run.covered other (omega (arith, run.from)) (omega (arith, c.end-last.ensures));
+    }
+
+pub returns-else-last-lt18446744073709551615-clause-none : goal.returns-else-last-lt18446744073709551615-clause-none
+returns-else-last-lt18446744073709551615-clause-none c = λ other from to.
+    let run = set_run_found c.args.self.now.numbers c.known.ensures c.ranges.start.fits c.in-Some.ensures in
+    run.covered other (omega (arith, run.from)) (omega (arith, c.end-last.ensures))

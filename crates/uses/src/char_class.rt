@@ -1,0 +1,111 @@
+//! Classes of characters, as `[a-zA-Z0-9_]`.
+ghost use Rattle.std.specs.Prelude.{◌≡◌, not, ◌&&◌, ◌||◌, IfOk, [], true};
+ghost use Rattle.rangemap.specs.Ranges.{IsCanonOfPoints};
+ghost use Rattle.rangemap.specs.Sets.{AreNonEmptyRanges};
+ghost use Rattle.uses.specs.Characters.{characters, has, is_word};
+
+#[cfg(test)]
+mod tests;
+
+use rangemap::RangeInclusiveSet;
+use rangemap::ranged_map::RangedMap;
+use rangemap::ranged_set::Combines;
+use std::alloc::{AllocError, Global};
+use std::ops::RangeInclusive;
+
+/// A set of characters. Two classes of the same characters are equal, however they were made.
+#[derive(Drop)]
+pub struct CharClass {
+    members: RangeInclusiveSet<char, char, Global>,
+}
+
+impl CharClass {
+    /// Returns the class of the characters of the ranges.
+    ///
+    /// # Requires
+    ///
+    /// No range is empty or was iterated to its end.
+    ///
+    /// # Errors
+    ///
+    /// Memory was refused, as for every call here that makes a class.
+    pub fn from_ranges<const N: usize>(
+        alloc: Global,
+        ranges: [RangeInclusive<char>; N],
+    ) -> Result<Self, AllocError>
+        requires { AreNonEmptyRanges characters ranges }
+        ensures { IfOk result (λ class. IsCanonOfPoints characters (has ranges.entry) class.members) }
+    {
+        Ok(CharClass {
+            members: RangeInclusiveSet::from(alloc, ranges)?,
+        })
+    }
+
+    /// Returns `[a-zA-Z0-9_]`.
+    pub fn word(alloc: Global) -> Result<Self, AllocError>
+        ensures { IfOk result (λ class. IsCanonOfPoints characters is_word class.members) }
+    {
+        let ranges = ['a'..='z', 'A'..='Z', '0'..='9', '_'..='_'];
+        Ok(CharClass {
+            members: RangeInclusiveSet::from(alloc, ranges)?,
+        })
+    }
+
+    /// Returns whether the character is in the class.
+    pub fn contains(&self, character: char) -> bool
+        ensures { result ≡ has self.now.members character }
+    {
+        self.members.contains(&character)
+    }
+
+    /// Returns the class of the characters that are in this class or in the other.
+    pub fn union(&self, other: &CharClass) -> Result<CharClass, AllocError>
+        ensures { IfOk result (λ class. IsCanonOfPoints characters (λ c. has self.now.members c || has other.now.members c) class.members) }
+    {
+        Ok(CharClass {
+            members: self.members.union_set(&other.members)?,
+        })
+    }
+
+    /// Returns the class of the characters that are in this class and in the other.
+    pub fn intersection(&self, other: &CharClass) -> Result<CharClass, AllocError>
+        ensures { IfOk result (λ class. IsCanonOfPoints characters (λ c. has self.now.members c && has other.now.members c) class.members) }
+    {
+        Ok(CharClass {
+            members: self.members.intersection_set(&other.members)?,
+        })
+    }
+
+    /// Returns the class of the characters that are not in this class: its gaps in all characters.
+    pub fn complement(&self, alloc: Global) -> Result<CharClass, AllocError>
+        ensures { IfOk result (λ class. IsCanonOfPoints characters (λ c. not (has self.now.members c)) class.members) }
+    {
+        let mut members = RangeInclusiveSet::new(alloc);
+        let all = '\0'..=char::MAX;
+        for gap in self.members.gaps(&all) {
+            members.insert(gap?)?;
+        }
+        Ok(CharClass { members })
+    }
+}
+
+/// The law of De Morgan: makes "not in one or the other" and "not in one, and not in the other",
+/// and returns whether they are equal. They always are.
+pub fn de_morgan(alloc: Global, one: &CharClass, other: &CharClass) -> Result<bool, AllocError>
+    ensures { IfOk result (λ equal. equal ≡ true) }
+{
+    let left = one.union(other)?.complement(alloc)?;
+    let right = one
+        .complement(alloc)?
+        .intersection(&other.complement(alloc)?)?;
+    Ok(left.members == right.members)
+}
+
+/// Takes the complement of a complement, and returns whether it is the class. It always is.
+pub fn complement_twice(alloc: Global, class: &CharClass) -> Result<bool, AllocError>
+    ensures { IfOk result (λ equal. equal ≡ true) }
+{
+    class.members.known();
+    let twice = class.complement(alloc)?.complement(alloc)?;
+    Ok(twice.members == class.members)
+}

@@ -1,0 +1,12 @@
+//! What maps and sets of ranges are good for, a module for each use.
+//!
+//! Each stands on the public calls of `rangemap` alone, and its theorem is proved from what
+//! `rangemap` exports: see docs/CALLING.md.
+#![tactic(auto)]
+
+pub mod byte_cache;
+pub mod char_class;
+pub mod extents;
+pub mod planner;
+pub mod received;
+pub mod rota;
