@@ -13,3 +13,5 @@ pub mod SetReplayLemmas
 pub mod HalfOpenLemmas
 pub mod PairLoopLemmas
 pub mod SetCallerLemmas
+pub mod AppendLemmas
+pub mod RunLemmas

@@ -18,3 +18,4 @@ pub mod UnitPairs
 pub mod Operators
 pub mod SetHistories
 pub mod Ended
+pub mod Runs

@@ -24,6 +24,7 @@ pub mod definitions;
 pub mod iterators;
 pub mod overlaps;
 pub mod round_trips;
+pub mod runs;
 pub mod set_round_trips;
 pub mod sets;
 pub mod texts;

@@ -2,8 +2,9 @@
 //!
 //! This is the crate that users name. `map` and `set` have the containers of half-open ranges,
 //! `inclusive_map` and `inclusive_set` those of closed ones, whose keys have steps (`StepLite`,
-//! `StepFns`). `laws` says what holds of every container, and `ranged_map` what code over any of
-//! them asks of it.
+//! `StepFns`). `tree_map` has the map of half-open ranges in a B-tree, for changes at random places
+//! among many thousands of ranges. `laws` says what holds of every container, and `ranged_map` what
+//! code over any of them asks of it.
 #![tactic(auto)]
 
 mod calls;
@@ -16,6 +17,7 @@ pub mod ranged_map;
 pub mod ranged_set;
 mod replay;
 pub mod set;
+pub mod tree_map;
 
 pub use inclusive_map::RangeInclusiveMap;
 pub use inclusive_set::RangeInclusiveSet;

@@ -7,7 +7,7 @@
 //! A new container implements `RangedMap`, a set with the value `()`; then `ClonesItself`,
 //! `TakesPairs` and `LeavesGaps`, each where its type has these calls. The laws, the replays, the
 //! program, the bench and the tests ask for no more. A call that every container has is added here,
-//! and in the files `ranged.rt` of the four.
+//! and in the files `ranged.rt` of the five.
 //!
 //! The iterators of containers are types of their own, and a trait can't name them with the
 //! lifetime of what they borrow. So a container runs its iterator itself, and tells a reader of

@@ -24,3 +24,4 @@ pub mod GapLemmas
 pub mod SameRangeLemmas
 pub mod UnitLemmas
 pub mod OwnPairLemmas
+pub mod StoredLemmas

@@ -1,10 +1,14 @@
--- What one look tells of a list whose first part passes a test and whose rest fails it.
-use Rattle.std.proofs.Common.{arith, ◌≡◌, ℕ, ◌+◌, ◌-◌, ◌*◌, ◌/◌, ◌^◌, ◌<◌, ◌≤◌, List, length, get_or, Bool, true, false, inl, inr, ap, ◌∙◌}
+-- Lists whose first part passes a test and whose rest fails it: that part, and what one look tells.
+use Rattle.std.proofs.Common.{arith, ◌≡◌, ℕ, zero, suc, ◌+◌, ◌-◌, ◌*◌, ◌/◌, ◌^◌, ◌<◌, ◌≤◌, List, [], ◌∷◌, length, length-drop, take, drop, get_or, Bool, true, false, cond, inl, inr, refl, sym, ap, ◌∙◌}
 use Rattle.std.proofs.lemmas.Bool.{cases_Bool, cases_lt}
 use Rattle.std.proofs.lemmas.Nat.{pow_pos}
 use Rattle.std.proofs.lemmas.Grind.{pow_more}
-use Rattle.std.specs.List.{AllWithin}
+use Rattle.std.proofs.lemmas.List.{get_or-drop}
+use Rattle.std.proofs.lemmas.List.Sums.{prefix_len_is, take_while-cons}
+use Rattle.std.specs.Prelude.{if◌then◌else◌}
+use Rattle.std.specs.List.{AllWithin, take_while}
 use Rattle.std.specs.List.Sorted.{IsPartitionedBy}
+use Rattle.rangemap_core.specs.engine.Shape.{PassesUpTo}
 
 module _ {X : Type 0} (p : X → Bool) (xs : List X) (parted : IsPartitionedBy p xs) (at : ℕ) (a : X) (l : at < length xs) (here : (d : X) → get_or xs at d ≡ a) where
   -- what stands no later than a value that passes
@@ -17,6 +21,28 @@ module _ {X : Type 0} (p : X → Bool) (xs : List X) (parted : IsPartitionedBy p
     | inl passed ↦ let again : p (get_or xs at d) ≡ true = parted at k d (omega arith) v passed in let failed : p (get_or xs at d) ≡ false = rw (here d) h in cc
     | inr failed ↦ failed
   ]
+
+module _ {X : Type 0} (p : X → Bool) where
+  -- what is left of such a list
+  pub parted-rest : (x : X) (xs : List X) → IsPartitionedBy p (x ∷ xs) → IsPartitionedBy p xs
+  parted-rest x xs parted i j d le l h = parted (suc i) (suc j) d (omega arith) (omega arith) h
+
+  pub parted-drop : (n : ℕ) (xs : List X) → IsPartitionedBy p xs → IsPartitionedBy p (drop n xs)
+  parted-drop n xs parted i j d le l h =
+      ap p (get_or-drop n xs i d) ∙ parted (n + i) (n + j) d (omega arith) (omega (arith, length-drop n xs)) (sym (ap p (get_or-drop n xs j d)) ∙ h)
+
+  -- the first part
+  pub take_while-up_to : (xs : List X) (n : ℕ) → n ≤ length xs → PassesUpTo p xs n → take_while p xs ≡ take n xs
+  take_while-up_to [] zero le point = refl
+  take_while-up_to [] (suc n) le point = absurd (omega arith)
+  take_while-up_to (x ∷ xs) n le point =
+      ap (λ m. take m (x ∷ xs)) (prefix_len_is p (x ∷ xs) n x le (λ k l. point.0 k x (omega arith) l) (λ l. point.1 n x (omega arith) l))
+
+  -- the first of the values that pass, of which it may be known that there are no others
+  pub first_passed : (all_pass : Bool) (x : X) (xs : List X) → (all_pass ≡ false → p x ≡ true)
+      → (if all_pass then (x ∷ xs) else take_while p (x ∷ xs)) ≡ x ∷ (if all_pass then xs else take_while p xs)
+  first_passed true x xs h = refl
+  first_passed false x xs h = take_while-cons p x xs ∙ ap (λ b. cond b (x ∷ take_while p xs) []) (h refl)
 
 -- the power of two before one
 pub twice : (m n : ℕ) → m + 1 ≡ n → 2 ^ n ≡ 2 ^ m * 2

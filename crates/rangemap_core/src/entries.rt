@@ -8,13 +8,14 @@
 ghost use Rattle.std.specs.Prelude.{◌≡◌, ◌*◌, ◌^◌, ◌<◌, ◌≤◌, [], length, map, nat_eq, nat_lt};
 ghost use Rattle.std.specs.Option.{option_copied};
 ghost use Rattle.rangemap_core.specs.Ranges.{AreGaps, IsCanonical, covering, overlapped};
+ghost use Rattle.rangemap_core.specs.engine.Intervals.{ReachAlike};
 ghost use Rattle.rangemap_core.specs.engine.Shape.{shape_of};
 ghost use Rattle.rangemap_core.specs.engine.Stretch.{IsOverlap};
 
 use crate::gaps::Gaps;
 use crate::iter::Iter;
-use crate::kind::Kind;
-use crate::overlapping::{Overlapping, Reach, overlap, overlaps};
+use crate::kind::{Interval, Kind};
+use crate::overlapping::{Overlapping, overlap, overlaps};
 use crate::probe::Probe;
 use crate::search::count_up_to;
 use std::alloc::Allocator;
@@ -146,16 +147,20 @@ impl<Q: Kind<K, R>, K: Ord + Clone, R, V: Eq, A: Allocator> Entries<Q, K, R, V, 
         requires { IsCanonical Q.kind V.eq self.now }
         ensures { IsOverlap (shape_of Q.kind Q.end_place V.eq) self.now range.now result.0 result.1 }
     {
-        overlap::<Q, K, R, V>(self.as_slice(), range, Reach::Near)
+        overlap::<Q, K, R, V>(self.as_slice(), range)
     }
 
     /// Returns the pairs that overlap the query, which may be empty or reversed, in order and from
     /// both ends.
-    pub fn overlapping<'a>(&'a self, query: &'a R) -> Overlapping<'a, R, V>
-        requires { IsCanonical Q.kind V.eq self.now }
+    ///
+    /// The end of what overlaps is searched for when the back is first asked for. `I` reads ranges
+    /// as `Q` does, but for the steps of keys, which a query does not ask for.
+    pub fn overlapping<'a, I: Interval<K, R>>(&'a self, query: &'a R) -> Overlapping<'a, I, K, R, V>
+        requires canonical { IsCanonical Q.kind V.eq self.now }
+        requires alike { ReachAlike Q.kind Q.has_end I.kind I.has_end }
         ensures { result ≡ overlapped Q.kind self.now query.now }
     {
-        Overlapping::new::<Q, K>(self.as_slice(), query)
+        Overlapping::new::<Q>(self.as_slice(), query)
     }
 
     /// Returns whether a pair overlaps the query.

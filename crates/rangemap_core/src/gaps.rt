@@ -27,11 +27,12 @@ pub struct Gaps<'a, Q: Kind<K, R>, K: Ord + Clone, R, V> {
 
 impl<'a, Q: Kind<K, R>, K: Ord + Clone, R, V> Model for Gaps<'a, Q, K, R, V> {
     ghost use Rattle.std.specs.Prelude.{List, [], if◌then◌else◌, take_while};
-    ghost use Rattle.rangemap_core.specs.engine.Endpoints.{endpoint_of, gaps_from, starts_before};
+    ghost use Rattle.rangemap_core.specs.engine.Endpoints.{endpoint_of, gaps_from};
+    ghost use Rattle.rangemap_core.specs.engine.Intervals.{is_begun};
 
     ghost Value = { List R };
 
-    ghost view = { λ s. if s.is_done then [] else gaps_from Q.kind Q.end_place Q.part_of (endpoint_of s.from) s.outer_range.now (take_while (starts_before Q.kind Q.end_place s.outer_range.now) s.pairs.now) };
+    ghost view = { λ s. if s.is_done then [] else gaps_from Q.kind Q.end_place Q.part_of (endpoint_of s.from) s.outer_range.now (take_while (is_begun Q.kind Q.has_end s.outer_range.now) s.pairs.now) };
 }
 
 impl<'a, Q: Kind<K, R>, K: Ord + Clone, R, V> Gaps<'a, Q, K, R, V> {

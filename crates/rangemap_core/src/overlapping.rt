@@ -1,50 +1,67 @@
-//! The pairs that overlap a range, from both ends.
-ghost use Rattle.std.specs.Prelude.{◌≡◌, ◌<◌, ◌-◌, ◌≤◌, ◌∷◌, [], IfSome, MatchOption, None as NoneWord, true, false, drop, length, nat_lt, take, take_while};
+//! The pairs that overlap a range: for queries an iterator over them, for changes their places.
+ghost use Rattle.std.specs.Prelude.{◌≡◌, ◌<◌, ◌≤◌, ◌∷◌, [], IfSome, MatchOption, None as NoneWord, true, false, length, nat_lt, take_while};
 ghost use Rattle.std.specs.List.{AllWithin};
+ghost use Rattle.std.specs.List.Sorted.{IsPartitionedBy};
 ghost use Rattle.std.specs.Iterator.{UpTo, at_most};
 ghost use Rattle.std.specs.Iterator.SizeHint.{IsWithinCount};
 ghost use Rattle.std.specs.Map.Iter.{TakesFirst, TakesLast, deref_pair};
-ghost use Rattle.rangemap_core.specs.engine.Endpoints.{starts_before};
+ghost use Rattle.rangemap_core.specs.engine.Intervals.{ReachAlike, is_begun};
 ghost use Rattle.rangemap_core.specs.Ranges.{IsCanonical, overlapped};
 ghost use Rattle.rangemap_core.specs.engine.Shape.{PassesUpTo, shape_of};
 ghost use Rattle.rangemap_core.specs.engine.Stretch.{IsOverlap, ends_by, starts_within};
 
-use crate::iter::Iter;
-use crate::kind::{Endpoint, Kind, known_ends};
+use crate::kind::{Endpoint, Interval, Kind, known_ends};
 use crate::partition_point::{Test, partition_point_from, partition_point_near};
 use crate::search::starts_up_to;
 use std::iter::{DoubleEndedIterator, Iterator};
 use std::marker::{Model, PhantomData};
 
-/// The pairs that overlap a range, in order.
+/// The pairs that overlap a range, in order. `I` reads the ranges `R`, over keys `K`.
+///
+/// One search finds the first of them, when this is made. `next` stops at the first pair that
+/// starts behind the range. Their end is searched for when the back is first asked for, and only
+/// then.
 #[derive(Drop)]
-pub struct Overlapping<'a, R, V> {
-    pairs: Iter<'a, R, V>,
+pub struct Overlapping<'a, I: Interval<K, R>, K: Ord + Clone, R, V> {
+    // The pairs that are left, from the first that overlaps the query on. Those that overlap it
+    // come first: they start before it ends.
+    pairs: &'a [(R, V)],
+    query: &'a R,
+    // Whether the end was searched for. Then all of these pairs overlap the query.
+    is_bounded: bool,
+    kind: PhantomData<(I, K)>,
 }
 
-impl<'a, R, V> Model for Overlapping<'a, R, V> {
-    ghost use Rattle.std.specs.Prelude.{List};
+impl<'a, I: Interval<K, R>, K: Ord + Clone, R, V> Model for Overlapping<'a, I, K, R, V> {
+    ghost use Rattle.std.specs.Prelude.{◌≡◌, List, false, if◌then◌else◌, take_while};
+    ghost use Rattle.std.specs.List.Sorted.{IsPartitionedBy};
+    ghost use Rattle.rangemap_core.specs.engine.Intervals.{is_begun};
 
     ghost Value = { List (R × V) };
 
-    ghost view = { λ s. s.pairs };
+    ghost view = { λ s. if s.is_bounded then s.pairs.now else take_while (is_begun I.kind I.has_end s.query.now) s.pairs.now };
+
+    ghost invariant = { λ s. s.is_bounded ≡ false → IsPartitionedBy (is_begun I.kind I.has_end s.query.now) s.pairs.now };
 }
 
-impl<'a, R, V: Eq> Overlapping<'a, R, V> {
+impl<'a, I: Interval<K, R>, K: Ord + Clone, R, V: Eq> Overlapping<'a, I, K, R, V> {
     /// Returns the pairs of a canonical list that overlap the query, which may be empty or
     /// reversed.
-    pub(crate) fn new<Q: Kind<K, R>, K: Ord + Clone>(pairs: &'a [(R, V)], query: &R) -> Self
-        requires { IsCanonical Q.kind V.eq pairs.now }
+    pub(crate) fn new<Q: Kind<K, R>>(pairs: &'a [(R, V)], query: &'a R) -> Self
+        requires canonical { IsCanonical Q.kind V.eq pairs.now }
+        requires alike { ReachAlike Q.kind Q.has_end I.kind I.has_end }
         ensures { result ≡ overlapped Q.kind pairs.now query.now }
     {
-        let (start, end) = overlap::<Q, K, R, V>(pairs, query, Reach::Far);
         Overlapping {
-            pairs: Iter::over(&pairs[start..end]),
+            pairs: overlapping_tail::<Q, K, R, V>(pairs, query),
+            query,
+            is_bounded: false,
+            kind: PhantomData,
         }
     }
 }
 
-impl<'a, R, V> Iterator for Overlapping<'a, R, V> {
+impl<'a, I: Interval<K, R>, K: Ord + Clone, R, V> Iterator for Overlapping<'a, I, K, R, V> {
     type Item = (&'a R, &'a V);
 
     ghost next_gives = { TakesFirst deref_pair };
@@ -52,7 +69,13 @@ impl<'a, R, V> Iterator for Overlapping<'a, R, V> {
     ghost remaining = { λ s. at_most (length s) };
 
     fn next(&mut self) -> Option<(&'a R, &'a V)> {
-        self.pairs.next()
+        let (pair, rest) = self.pairs.split_first()?;
+        if self.is_bounded || I::reaches(self.query, &pair.0) {
+            self.pairs = rest;
+            Some((&pair.0, &pair.1))
+        } else {
+            None
+        }
     }
 
     fn size_hint(&self) -> (usize, Option<usize>)
@@ -64,11 +87,18 @@ impl<'a, R, V> Iterator for Overlapping<'a, R, V> {
     }
 }
 
-impl<'a, R, V> DoubleEndedIterator for Overlapping<'a, R, V> {
+impl<'a, I: Interval<K, R>, K: Ord + Clone, R, V> DoubleEndedIterator
+    for Overlapping<'a, I, K, R, V> {
     ghost next_back_gives = { TakesLast deref_pair };
 
     fn next_back(&mut self) -> Option<(&'a R, &'a V)> {
-        self.pairs.next_back()
+        if !self.is_bounded {
+            self.pairs = take_begun::<I, K, R, V>(self.pairs, self.query);
+            self.is_bounded = true;
+        }
+        let (pair, rest) = self.pairs.split_last()?;
+        self.pairs = rest;
+        Some((&pair.0, &pair.1))
     }
 }
 
@@ -88,49 +118,52 @@ pub(crate) fn overlapping_tail<'a, Q: Kind<K, R>, K: Ord + Clone, R, V: Eq>(
     query: &R,
 ) -> &'a [(R, V)]
     requires { IsCanonical Q.kind V.eq pairs.now }
-    ensures { take_while (starts_before Q.kind Q.end_place query.now) result.now ≡ overlapped Q.kind pairs.now query.now }
+    ensures overlapped { take_while (is_begun Q.kind Q.has_end query.now) result.now ≡ overlapped Q.kind pairs.now query.now }
+    ensures begun_first { IsPartitionedBy (is_begun Q.kind Q.has_end query.now) result.now }
 {
     known_ends::<Q, K, R>(query);
     &pairs[overlap_start::<Q, K, R, V>(pairs, query)..]
 }
 
 // The first pair and those behind it, if it starts before the query ends.
-pub(crate) fn split_begun<'a, Q: Kind<K, R>, K: Ord + Clone, R, V>(
+pub(crate) fn split_begun<'a, I: Interval<K, R>, K: Ord + Clone, R, V>(
     pairs: &'a [(R, V)],
     query: &R,
 ) -> Option<(&'a (R, V), &'a [(R, V)])>
-    ensures begun { MatchOption result (take_while (starts_before Q.kind Q.end_place query.now) pairs.now ≡ []) (λ split. take_while (starts_before Q.kind Q.end_place query.now) pairs.now ≡ split.0.now ∷ take_while (starts_before Q.kind Q.end_place query.now) split.1.now) }
+    ensures begun { MatchOption result (take_while (is_begun I.kind I.has_end query.now) pairs.now ≡ []) (λ split. take_while (is_begun I.kind I.has_end query.now) pairs.now ≡ split.0.now ∷ take_while (is_begun I.kind I.has_end query.now) split.1.now) }
     ensures shorter { IfSome result (λ split. length split.1.now < length pairs.now) }
 {
     let (first, rest) = pairs.split_first()?;
-    if Q::is_before(Endpoint::Start(&first.0), Endpoint::End(query)) {
+    if I::reaches(query, &first.0) {
         Some((first, rest))
     } else {
         None
     }
 }
 
-/// How far the end of an overlap is thought to be from its start.
-pub(crate) enum Reach {
-    /// A few pairs, as with most changes: the end is looked for pair by pair first.
-    Near,
-    /// Any number of pairs, as with queries: the end is searched for at once.
-    Far,
+// The pairs that start before the query ends, where these come first: by a search.
+fn take_begun<'a, I: Interval<K, R>, K: Ord + Clone, R, V>(
+    pairs: &'a [(R, V)],
+    query: &R,
+) -> &'a [(R, V)]
+    requires { IsPartitionedBy (is_begun I.kind I.has_end query.now) pairs.now }
+    ensures { result.now ≡ take_while (is_begun I.kind I.has_end query.now) pairs.now }
+{
+    let count = pairs.partition_point(|pair| I::reaches(query, &pair.0));
+    &pairs[..count]
 }
 
-/// Returns the places of the pairs that overlap the query: from the first up to the second.
+/// Returns the places of the pairs that overlap a range which is to be changed: from the first up
+/// to the second.
 pub(crate) fn overlap<Q: Kind<K, R>, K: Ord + Clone, R, V: Eq>(
     pairs: &[(R, V)],
-    query: &R,
-    reach: Reach,
+    range: &R,
 ) -> (usize, usize)
     requires { IsCanonical Q.kind V.eq pairs.now }
-    ensures found { IsOverlap (shape_of Q.kind Q.end_place V.eq) pairs.now query.now result.0 result.1 }
-    ensures part { take (result.1 - result.0) (drop result.0 pairs.now) ≡ overlapped Q.kind pairs.now query.now }
+    ensures { IsOverlap (shape_of Q.kind Q.end_place V.eq) pairs.now range.now result.0 result.1 }
 {
-    known_ends::<Q, K, R>(query);
-    let start = overlap_start::<Q, K, R, V>(pairs, query);
-    (start, overlap_end::<Q, K, R, V>(pairs, query, start, reach))
+    let start = overlap_start::<Q, K, R, V>(pairs, range);
+    (start, overlap_end::<Q, K, R, V>(pairs, range, start))
 }
 
 // The place of the first pair that ends after the query starts.
@@ -150,31 +183,12 @@ fn overlap_start<Q: Kind<K, R>, K: Ord + Clone, R, V: Eq>(pairs: &[(R, V)], quer
     partition_point_near(pairs, &ended, near_start)
 }
 
-// How far on from a place the pairs start before the query ends.
-fn overlap_end<Q: Kind<K, R>, K: Ord + Clone, R, V: Eq>(
-    pairs: &[(R, V)],
-    query: &R,
-    start: usize,
-    reach: Reach,
-) -> usize
-    requires canonical { IsCanonical Q.kind V.eq pairs.now }
-    requires in_bounds { start ≤ length pairs.now }
-    ensures start { start ≤ result }
-    ensures bound { result ≤ length pairs.now }
-    ensures begun { AllWithin (λ b. starts_within (shape_of Q.kind Q.end_place V.eq) query.now b ≡ true) pairs.now start result }
-    ensures later { AllWithin (λ b. starts_within (shape_of Q.kind Q.end_place V.eq) query.now b ≡ false) pairs.now result (length pairs.now) }
-{
-    match reach {
-        Reach::Near => near_end::<Q, K, R, V>(pairs, query, start),
-        Reach::Far => searched_end::<Q, K, R, V>(pairs, query, start),
-    }
-}
-
 // How many pairs a stretch may have for its end to be looked for from its start.
 const SHORT: usize = 4;
 
-// The end of an overlap, by a look at each pair from its start on where there are at most four.
-fn near_end<Q: Kind<K, R>, K: Ord + Clone, R, V: Eq>(
+// How far on from a place the pairs start before the query ends: by a look at each where there are
+// at most four, as with most changes.
+fn overlap_end<Q: Kind<K, R>, K: Ord + Clone, R, V: Eq>(
     pairs: &[(R, V)],
     query: &R,
     start: usize,

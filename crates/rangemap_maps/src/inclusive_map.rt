@@ -3,14 +3,14 @@
 //! It does what `map::RangeMap` does, over `a..=b`: two ranges touch where no key
 //! lies between them, which is told by the steps of the keys. `StepFnsT` is the type whose steps
 //! they are: mostly the key type itself.
-ghost use Rattle.std.specs.Prelude.{◌≡◌, IsTrue, true, false, ◌≤◌, ◌+◌, [], ◌-◌, length, slice_get, is_some, map, nat_eq, nat_lt, IsOk, OnOk, OnErr};
+ghost use Rattle.std.specs.Prelude.{◌≡◌, IsTrue, true, false, ◌≤◌, ◌+◌, [], ◌-◌, length, slice_get, is_some, map, nat_eq, nat_lt, IfSome, IsOk, OnOk, OnErr};
 ghost use Rattle.std.specs.Option.{option_copied, option_map};
 ghost use Rattle.std.specs.Ordering.{is_le};
 ghost use Rattle.std.specs.Range.{range_inclusive_start, range_inclusive_end, range_inclusive_exhausted};
 ghost use Rattle.rangemap_core.specs.Clones.{KeysCloneFaithfully, ValuesCloneFaithfully};
 ghost use Rattle.rangemap_core.specs.Ranges.{AreGaps, IsCanonOf, IsCanonical, covering, erase, closed, overlapped, override, value_at};
 
-use crate::closed::Closed;
+use crate::closed::{Closed, Unstepped};
 use rangemap_core::entries::Entries;
 use rangemap_core::std_ext::{StepFns, StepLite};
 use rangemap_core::{gaps, into_iter, iter, overlapping};
@@ -29,8 +29,9 @@ pub type Iter<'a, K, V> = iter::Iter<'a, RangeInclusive<K>, V>;
 /// The pairs that a map hands over, from both ends.
 pub type IntoIter<K, V, A> = into_iter::IntoIter<RangeInclusive<K>, V, A>;
 
-/// The pairs of a map that overlap a range, from both ends.
-pub type Overlapping<'a, K, V> = overlapping::Overlapping<'a, RangeInclusive<K>, V>;
+/// The pairs of a map that overlap a range, from both ends. The first `next_back` searches for the
+/// end, in *O*(log *n*).
+pub type Overlapping<'a, K, V> = overlapping::Overlapping<'a, Unstepped, K, RangeInclusive<K>, V>;
 
 /// The parts of a range that a map does not cover.
 pub type Gaps<'a, K, V, StepFnsT> = gaps::Gaps<'a, Closed<StepFnsT>, K, RangeInclusive<K>, V>;
@@ -143,7 +144,8 @@ impl<K: Ord + Clone, V: Eq + Clone, StepFnsT: StepFns<K>, A: Allocator> RangeInc
 
     /// Returns the stored range that has the key, and its value, if there is one.
     pub fn get_key_value(&self, key: &K) -> Option<(&RangeInclusive<K>, &V)>
-        ensures { option_map (λ pair. (pair.0.now, pair.1.now)) result ≡ covering (closed StepFnsT.is_key K.cmp) self.now key.now }
+        ensures found { option_map (λ pair. (pair.0.now, pair.1.now)) result ≡ covering (closed StepFnsT.is_key K.cmp) self.now key.now }
+        ensures canonical { IsCanonical (closed StepFnsT.is_key K.cmp) V.eq self.now }
     {
         let pair = self.entries.covering(key).0?;
         Some((&pair.0, &pair.1))
@@ -158,7 +160,9 @@ impl<K: Ord + Clone, V: Eq + Clone, StepFnsT: StepFns<K>, A: Allocator> RangeInc
 
     /// Returns the first stored range and its value, if there is one.
     pub fn first_range_value(&self) -> Option<(&RangeInclusive<K>, &V)>
-        ensures { option_map (λ pair. (pair.0.now, pair.1.now)) result ≡ slice_get self.now 0 }
+        ensures found { option_map (λ pair. (pair.0.now, pair.1.now)) result ≡ slice_get self.now 0 }
+        ensures canonical { IsCanonical (closed StepFnsT.is_key K.cmp) V.eq self.now }
+        ensures non_empty { IfSome result (λ pair. (closed StepFnsT.is_key K.cmp).IsNonEmpty pair.0.now) }
     {
         match self.entries.as_slice().first() {
             Some(pair) => Some((&pair.0, &pair.1)),
@@ -168,7 +172,9 @@ impl<K: Ord + Clone, V: Eq + Clone, StepFnsT: StepFns<K>, A: Allocator> RangeInc
 
     /// Returns the last stored range and its value, if there is one.
     pub fn last_range_value(&self) -> Option<(&RangeInclusive<K>, &V)>
-        ensures { option_map (λ pair. (pair.0.now, pair.1.now)) result ≡ slice_get self.now (length self.now - 1) }
+        ensures found { option_map (λ pair. (pair.0.now, pair.1.now)) result ≡ slice_get self.now (length self.now - 1) }
+        ensures canonical { IsCanonical (closed StepFnsT.is_key K.cmp) V.eq self.now }
+        ensures non_empty { IfSome result (λ pair. (closed StepFnsT.is_key K.cmp).IsNonEmpty pair.0.now) }
     {
         match self.entries.as_slice().last() {
             Some(pair) => Some((&pair.0, &pair.1)),
@@ -198,7 +204,8 @@ impl<K: Ord + Clone, V: Eq + Clone, StepFnsT: StepFns<K>, A: Allocator> RangeInc
 
     /// Returns whether `overlapping` has an item for the range.
     pub fn overlaps(&self, range: &RangeInclusive<K>) -> bool
-        ensures { result ≡ nat_lt 0 (length (overlapped (closed StepFnsT.is_key K.cmp) self.now range.now)) }
+        ensures any { result ≡ nat_lt 0 (length (overlapped (closed StepFnsT.is_key K.cmp) self.now range.now)) }
+        ensures canonical { IsCanonical (closed StepFnsT.is_key K.cmp) V.eq self.now }
     {
         self.entries.overlaps(range)
     }

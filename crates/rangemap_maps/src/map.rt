@@ -1,5 +1,5 @@
 //! A map whose keys are half-open ranges.
-ghost use Rattle.std.specs.Prelude.{◌≡◌, true, ◌≤◌, ◌+◌, [], ◌-◌, length, slice_get, is_some, map, nat_eq, nat_lt, IsOk, OnOk, OnErr};
+ghost use Rattle.std.specs.Prelude.{◌≡◌, true, ◌≤◌, ◌+◌, [], ◌-◌, length, slice_get, is_some, map, nat_eq, nat_lt, IfSome, IsOk, OnOk, OnErr};
 ghost use Rattle.std.specs.Option.{option_copied, option_map};
 ghost use Rattle.rangemap_core.specs.Clones.{KeysCloneFaithfully, ValuesCloneFaithfully};
 ghost use Rattle.rangemap_core.specs.Ranges.{AreGaps, IsCanonOf, IsCanonical, covering, erase, half_open, overlapped, override, value_at};
@@ -22,8 +22,9 @@ pub type Iter<'a, K, V> = iter::Iter<'a, Range<K>, V>;
 /// The pairs that a map hands over, from both ends.
 pub type IntoIter<K, V, A> = into_iter::IntoIter<Range<K>, V, A>;
 
-/// The pairs of a map that overlap a range, from both ends.
-pub type Overlapping<'a, K, V> = overlapping::Overlapping<'a, Range<K>, V>;
+/// The pairs of a map that overlap a range, from both ends. The first `next_back` searches for the
+/// end, in *O*(log *n*).
+pub type Overlapping<'a, K, V> = overlapping::Overlapping<'a, HalfOpen, K, Range<K>, V>;
 
 /// The parts of a range that a map does not cover.
 pub type Gaps<'a, K, V> = gaps::Gaps<'a, HalfOpen, K, Range<K>, V>;
@@ -121,7 +122,8 @@ impl<K: Ord + Clone, V: Eq + Clone, A: Allocator> RangeMap<K, V, A> {
 
     /// Returns the stored range that has the key, and its value, if there is one.
     pub fn get_key_value(&self, key: &K) -> Option<(&Range<K>, &V)>
-        ensures { option_map (λ pair. (pair.0.now, pair.1.now)) result ≡ covering (half_open K.cmp) self.now key.now }
+        ensures found { option_map (λ pair. (pair.0.now, pair.1.now)) result ≡ covering (half_open K.cmp) self.now key.now }
+        ensures canonical { IsCanonical (half_open K.cmp) V.eq self.now }
     {
         let pair = self.entries.covering(key).0?;
         Some((&pair.0, &pair.1))
@@ -136,7 +138,9 @@ impl<K: Ord + Clone, V: Eq + Clone, A: Allocator> RangeMap<K, V, A> {
 
     /// Returns the first stored range and its value, if there is one.
     pub fn first_range_value(&self) -> Option<(&Range<K>, &V)>
-        ensures { option_map (λ pair. (pair.0.now, pair.1.now)) result ≡ slice_get self.now 0 }
+        ensures found { option_map (λ pair. (pair.0.now, pair.1.now)) result ≡ slice_get self.now 0 }
+        ensures canonical { IsCanonical (half_open K.cmp) V.eq self.now }
+        ensures non_empty { IfSome result (λ pair. (half_open K.cmp).IsNonEmpty pair.0.now) }
     {
         match self.entries.as_slice().first() {
             Some(pair) => Some((&pair.0, &pair.1)),
@@ -146,7 +150,9 @@ impl<K: Ord + Clone, V: Eq + Clone, A: Allocator> RangeMap<K, V, A> {
 
     /// Returns the last stored range and its value, if there is one.
     pub fn last_range_value(&self) -> Option<(&Range<K>, &V)>
-        ensures { option_map (λ pair. (pair.0.now, pair.1.now)) result ≡ slice_get self.now (length self.now - 1) }
+        ensures found { option_map (λ pair. (pair.0.now, pair.1.now)) result ≡ slice_get self.now (length self.now - 1) }
+        ensures canonical { IsCanonical (half_open K.cmp) V.eq self.now }
+        ensures non_empty { IfSome result (λ pair. (half_open K.cmp).IsNonEmpty pair.0.now) }
     {
         match self.entries.as_slice().last() {
             Some(pair) => Some((&pair.0, &pair.1)),
@@ -175,7 +181,8 @@ impl<K: Ord + Clone, V: Eq + Clone, A: Allocator> RangeMap<K, V, A> {
 
     /// Returns whether `overlapping` has an item for the range.
     pub fn overlaps(&self, range: &Range<K>) -> bool
-        ensures { result ≡ nat_lt 0 (length (overlapped (half_open K.cmp) self.now range.now)) }
+        ensures any { result ≡ nat_lt 0 (length (overlapped (half_open K.cmp) self.now range.now)) }
+        ensures canonical { IsCanonical (half_open K.cmp) V.eq self.now }
     {
         self.entries.overlaps(range)
     }

@@ -1,5 +1,5 @@
 //! A set of keys that are stored as closed ranges.
-ghost use Rattle.std.specs.Prelude.{◌≡◌, IsTrue, false, ◌≤◌, ◌+◌, ◌-◌, [], ◌∷◌, length, slice_get, nat_eq, nat_lt, IsOk, OnOk, OnErr};
+ghost use Rattle.std.specs.Prelude.{◌≡◌, IsTrue, false, ◌≤◌, ◌+◌, ◌-◌, [], ◌∷◌, length, slice_get, nat_eq, nat_lt, IfSome, IsOk, OnOk, OnErr};
 ghost use Rattle.std.specs.Option.{option_copied};
 ghost use Rattle.std.specs.Ordering.{is_le};
 ghost use Rattle.std.specs.Range.{range_inclusive_start, range_inclusive_end, range_inclusive_exhausted};
@@ -26,7 +26,8 @@ pub type Iter<'a, T> = iter::Iter<'a, RangeInclusive<T>>;
 /// The ranges that a set hands over, in order and from both ends.
 pub type IntoIter<T, A> = into_iter::IntoIter<RangeInclusive<T>, A>;
 
-/// The ranges of a set that overlap a range, in order and from both ends.
+/// The ranges of a set that overlap a range, in order and from both ends. The first `next_back`
+/// searches for the end, in *O*(log *n*).
 pub type Overlapping<'a, T> = overlapping::Overlapping<'a, RangeInclusive<T>>;
 
 /// The parts of a range that a set does not cover, in order.
@@ -127,7 +128,8 @@ impl<T: Ord + Clone, StepFnsT: StepFns<T>, A: Allocator> RangeInclusiveSet<T, St
 
     /// Returns the stored range that has the key, if there is one.
     pub fn get(&self, value: &T) -> Option<&RangeInclusive<T>>
-        ensures { option_copied result ≡ range_at (closed StepFnsT.is_key T.cmp) self.now value.now }
+        ensures found { option_copied result ≡ range_at (closed StepFnsT.is_key T.cmp) self.now value.now }
+        ensures canonical { IsCanonicalSet (closed StepFnsT.is_key T.cmp) self.now }
     {
         match self.pairs.get_key_value(value) {
             Some((range, _)) => Some(range),
@@ -144,7 +146,9 @@ impl<T: Ord + Clone, StepFnsT: StepFns<T>, A: Allocator> RangeInclusiveSet<T, St
 
     /// Returns the first stored range, if there is one.
     pub fn first(&self) -> Option<&RangeInclusive<T>>
-        ensures { option_copied result ≡ slice_get self.now 0 }
+        ensures found { option_copied result ≡ slice_get self.now 0 }
+        ensures canonical { IsCanonicalSet (closed StepFnsT.is_key T.cmp) self.now }
+        ensures non_empty { IfSome result (λ range. (closed StepFnsT.is_key T.cmp).IsNonEmpty range.now) }
     {
         match self.pairs.first_range_value() {
             Some((range, _)) => Some(range),
@@ -154,7 +158,9 @@ impl<T: Ord + Clone, StepFnsT: StepFns<T>, A: Allocator> RangeInclusiveSet<T, St
 
     /// Returns the last stored range, if there is one.
     pub fn last(&self) -> Option<&RangeInclusive<T>>
-        ensures { option_copied result ≡ slice_get self.now (length self.now - 1) }
+        ensures found { option_copied result ≡ slice_get self.now (length self.now - 1) }
+        ensures canonical { IsCanonicalSet (closed StepFnsT.is_key T.cmp) self.now }
+        ensures non_empty { IfSome result (λ range. (closed StepFnsT.is_key T.cmp).IsNonEmpty range.now) }
     {
         match self.pairs.last_range_value() {
             Some((range, _)) => Some(range),
@@ -173,7 +179,8 @@ impl<T: Ord + Clone, StepFnsT: StepFns<T>, A: Allocator> RangeInclusiveSet<T, St
 
     /// Returns whether `overlapping` has an item for the range.
     pub fn overlaps(&self, range: &RangeInclusive<T>) -> bool
-        ensures { result ≡ nat_lt 0 (length (met (closed StepFnsT.is_key T.cmp) self.now range.now)) }
+        ensures any { result ≡ nat_lt 0 (length (met (closed StepFnsT.is_key T.cmp) self.now range.now)) }
+        ensures canonical { IsCanonicalSet (closed StepFnsT.is_key T.cmp) self.now }
     {
         self.pairs.overlaps(range)
     }

@@ -4,17 +4,18 @@ ghost use Rattle.std.specs.Iterator.{UpTo, at_most};
 ghost use Rattle.std.specs.Iterator.SizeHint.{IsWithinCount};
 ghost use Rattle.std.specs.Map.Iter.{TakesFirst, TakesLast, deref};
 
+use crate::set_range::SetRange;
 use rangemap_core::overlapping;
 use std::iter::{DoubleEndedIterator, Iterator};
 use std::marker::Model;
 
 /// The ranges of a set that overlap a range, in order and from both ends.
 #[derive(Drop)]
-pub struct Overlapping<'a, R> {
-    pairs: overlapping::Overlapping<'a, R, ()>,
+pub struct Overlapping<'a, R: SetRange> {
+    pairs: overlapping::Overlapping<'a, R::Kind, R::Key, R, ()>,
 }
 
-impl<'a, R> Model for Overlapping<'a, R> {
+impl<'a, R: SetRange> Model for Overlapping<'a, R> {
     ghost use Rattle.std.specs.Prelude.{List, map};
 
     ghost Value = { List R };
@@ -22,16 +23,16 @@ impl<'a, R> Model for Overlapping<'a, R> {
     ghost view = { λ s. map (λ p. p.0) s.pairs };
 }
 
-impl<'a, R> Overlapping<'a, R> {
+impl<'a, R: SetRange> Overlapping<'a, R> {
     /// Returns the ranges of what is left of the pairs that overlap a range.
-    pub fn over(pairs: overlapping::Overlapping<'a, R, ()>) -> Overlapping<'a, R>
+    pub fn over(pairs: overlapping::Overlapping<'a, R::Kind, R::Key, R, ()>) -> Overlapping<'a, R>
         ensures { result ≡ map (λ p. p.0) pairs.entry }
     {
         Overlapping { pairs }
     }
 }
 
-impl<'a, R> Iterator for Overlapping<'a, R> {
+impl<'a, R: SetRange> Iterator for Overlapping<'a, R> {
     type Item = &'a R;
 
     ghost next_gives = { TakesFirst deref };
@@ -54,7 +55,7 @@ impl<'a, R> Iterator for Overlapping<'a, R> {
     }
 }
 
-impl<'a, R> DoubleEndedIterator for Overlapping<'a, R> {
+impl<'a, R: SetRange> DoubleEndedIterator for Overlapping<'a, R> {
     ghost next_back_gives = { TakesLast deref };
 
     fn next_back(&mut self) -> Option<&'a R> {

@@ -1,5 +1,5 @@
 //! A set of keys that are stored as half-open ranges.
-ghost use Rattle.std.specs.Prelude.{◌≡◌, ◌≤◌, ◌+◌, ◌-◌, [], ◌∷◌, length, slice_get, nat_eq, nat_lt, IsOk, OnOk, OnErr};
+ghost use Rattle.std.specs.Prelude.{◌≡◌, ◌≤◌, ◌+◌, ◌-◌, [], ◌∷◌, length, slice_get, nat_eq, nat_lt, IfSome, IsOk, OnOk, OnErr};
 ghost use Rattle.std.specs.Option.{option_copied};
 ghost use Rattle.rangemap_core.specs.Clones.{KeysCloneFaithfully};
 ghost use Rattle.rangemap_core.specs.Ranges.{AreGaps, covers, half_open};
@@ -23,7 +23,8 @@ pub type Iter<'a, T> = iter::Iter<'a, Range<T>>;
 /// The ranges that a set hands over, in order and from both ends.
 pub type IntoIter<T, A> = into_iter::IntoIter<Range<T>, A>;
 
-/// The ranges of a set that overlap a range, in order and from both ends.
+/// The ranges of a set that overlap a range, in order and from both ends. The first `next_back`
+/// searches for the end, in *O*(log *n*).
 pub type Overlapping<'a, T> = overlapping::Overlapping<'a, Range<T>>;
 
 /// The parts of a range that a set does not cover, in order.
@@ -113,7 +114,8 @@ impl<T: Ord + Clone, A: Allocator> RangeSet<T, A> {
 
     /// Returns the stored range that has the key, if there is one.
     pub fn get(&self, value: &T) -> Option<&Range<T>>
-        ensures { option_copied result ≡ range_at (half_open T.cmp) self.now value.now }
+        ensures found { option_copied result ≡ range_at (half_open T.cmp) self.now value.now }
+        ensures canonical { IsCanonicalSet (half_open T.cmp) self.now }
     {
         match self.pairs.get_key_value(value) {
             Some((range, _)) => Some(range),
@@ -130,7 +132,9 @@ impl<T: Ord + Clone, A: Allocator> RangeSet<T, A> {
 
     /// Returns the first stored range, if there is one.
     pub fn first(&self) -> Option<&Range<T>>
-        ensures { option_copied result ≡ slice_get self.now 0 }
+        ensures found { option_copied result ≡ slice_get self.now 0 }
+        ensures canonical { IsCanonicalSet (half_open T.cmp) self.now }
+        ensures non_empty { IfSome result (λ range. (half_open T.cmp).IsNonEmpty range.now) }
     {
         match self.pairs.first_range_value() {
             Some((range, _)) => Some(range),
@@ -140,7 +144,9 @@ impl<T: Ord + Clone, A: Allocator> RangeSet<T, A> {
 
     /// Returns the last stored range, if there is one.
     pub fn last(&self) -> Option<&Range<T>>
-        ensures { option_copied result ≡ slice_get self.now (length self.now - 1) }
+        ensures found { option_copied result ≡ slice_get self.now (length self.now - 1) }
+        ensures canonical { IsCanonicalSet (half_open T.cmp) self.now }
+        ensures non_empty { IfSome result (λ range. (half_open T.cmp).IsNonEmpty range.now) }
     {
         match self.pairs.last_range_value() {
             Some((range, _)) => Some(range),
@@ -159,7 +165,8 @@ impl<T: Ord + Clone, A: Allocator> RangeSet<T, A> {
 
     /// Returns whether `overlapping` has an item for the range.
     pub fn overlaps(&self, range: &Range<T>) -> bool
-        ensures { result ≡ nat_lt 0 (length (met (half_open T.cmp) self.now range.now)) }
+        ensures any { result ≡ nat_lt 0 (length (met (half_open T.cmp) self.now range.now)) }
+        ensures canonical { IsCanonicalSet (half_open T.cmp) self.now }
     {
         self.pairs.overlaps(range)
     }

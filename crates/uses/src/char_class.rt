@@ -1,6 +1,6 @@
 //! Classes of characters, as `[a-zA-Z0-9_]`.
 ghost use Rattle.std.specs.Prelude.{◌≡◌, not, ◌&&◌, ◌||◌, IfOk, [], true};
-ghost use Rattle.rangemap.specs.Ranges.{IsCanonOfPoints};
+ghost use Rattle.rangemap.specs.Ranges.{IsCanonOfPoints, same_ranges};
 ghost use Rattle.rangemap.specs.Sets.{AreNonEmptyRanges};
 ghost use Rattle.uses.specs.Characters.{characters, has, is_word};
 
@@ -89,23 +89,38 @@ impl CharClass {
     }
 }
 
-/// The law of De Morgan: makes "not in one or the other" and "not in one, and not in the other",
-/// and returns whether they are equal. They always are.
-pub fn de_morgan(alloc: Global, one: &CharClass, other: &CharClass) -> Result<bool, AllocError>
-    ensures { IfOk result (λ equal. equal ≡ true) }
+/// The law of De Morgan: returns "not in one or the other", and "not in one, and not in the other",
+/// which are equal.
+///
+/// # Errors
+///
+/// Memory was refused.
+pub fn de_morgan(
+    alloc: Global,
+    one: &CharClass,
+    other: &CharClass,
+) -> Result<(CharClass, CharClass), AllocError>
+    ensures neither { IfOk result (λ sides. IsCanonOfPoints characters (λ c. not (has one.now.members c || has other.now.members c)) sides.0.members) }
+    ensures not_both { IfOk result (λ sides. IsCanonOfPoints characters (λ c. not (has one.now.members c) && not (has other.now.members c)) sides.1.members) }
+    ensures equal { IfOk result (λ sides. same_ranges characters sides.0.members sides.1.members ≡ true) }
 {
     let left = one.union(other)?.complement(alloc)?;
     let right = one
         .complement(alloc)?
         .intersection(&other.complement(alloc)?)?;
-    Ok(left.members == right.members)
+    Ok((left, right))
 }
 
-/// Takes the complement of a complement, and returns whether it is the class. It always is.
-pub fn complement_twice(alloc: Global, class: &CharClass) -> Result<bool, AllocError>
-    ensures { IfOk result (λ equal. equal ≡ true) }
+/// Returns the complement of the complement, which is equal to the class.
+///
+/// # Errors
+///
+/// Memory was refused.
+pub fn complement_twice(alloc: Global, class: &CharClass) -> Result<CharClass, AllocError>
+    ensures same { IfOk result (λ twice. IsCanonOfPoints characters (has class.now.members) twice.members) }
+    ensures equal { IfOk result (λ twice. same_ranges characters twice.members class.now.members ≡ true) }
 {
     class.members.known();
     let twice = class.complement(alloc)?.complement(alloc)?;
-    Ok(twice.members == class.members)
+    Ok(twice)
 }

@@ -6,7 +6,6 @@ ghost use Rattle.uses.specs.Blocks.{IsFree, IsLowestFree, owner_of};
 mod tests;
 
 use rangemap::RangeInclusiveMap;
-use rangemap::ranged_map::RangedMap;
 use std::alloc::{AllocError, Global};
 
 /// Which addresses are held, and by whom. Owners are numbers.
@@ -51,7 +50,6 @@ impl Planner {
         ensures kept { IfOk result (λ granted. granted ≡ false → self.new.blocks ≡ self.old.blocks) }
         ensures refused { OnErr result (self.new.blocks ≡ self.old.blocks) }
     {
-        self.blocks.known();
         let block = first..=last;
         if self.blocks.overlaps(&block) {
             return Ok(false);

@@ -6,7 +6,6 @@ ghost use Rattle.uses.specs.Numbers.{IsLowestMissing, is_in};
 mod tests;
 
 use rangemap::RangeInclusiveSet;
-use rangemap::ranged_map::RangedMap;
 use std::alloc::{AllocError, Global};
 
 /// The numbers that were received. A run of them takes the room of one range.
@@ -48,7 +47,6 @@ impl Received {
         ensures found { IfSome result (λ number. IsLowestMissing self.now.numbers start number) }
         ensures none { IfNone result ((other : ℕ) → start ≤ other → other < 2 ^ 64 → is_in self.now.numbers other ≡ true) }
     {
-        self.numbers.known();
         match self.numbers.get(&start) {
             None => Some(start),
             Some(run) => {

@@ -7,7 +7,6 @@ mod tests;
 
 use rangemap::RangeMap;
 use rangemap::map::Gaps;
-use rangemap::ranged_map::RangedMap;
 use std::alloc::{AllocError, Global};
 use std::ops::Range;
 
@@ -67,7 +66,6 @@ impl Rota {
         ensures kept { IfOk result (λ done. done ≡ false → self.new.shifts ≡ self.old.shifts) }
         ensures refused { OnErr result (self.new.shifts ≡ self.old.shifts) }
     {
-        self.shifts.known();
         let Some((one, alice)) = self.shifts.get_key_value(&first) else {
             return Ok(false);
         };

@@ -5,9 +5,11 @@
 ghost use Rattle.std.specs.Prelude.{◌≡◌, ◌+◌, ◌*◌, ◌%◌, ◌^◌, fold};
 
 use rangemap::laws::comparisons::{equal_maps_hash_alike, equality_agrees_with_order};
-use rangemap::{range_inclusive_map, range_map};
+use rangemap::{RangeMap, range_inclusive_map, range_map};
+use std::alloc::{AllocError, Global};
 use std::cmp::Ordering;
 use std::hash::{Hash, Hasher};
+use std::process::Abort;
 use std::test::Fail;
 
 /// A hasher that folds each byte as `h * 31 + byte`, wrapping.
@@ -37,43 +39,63 @@ pub fn folded<T: Hash>(value: &T) -> u64 {
     state.finish()
 }
 
+/// What the hasher makes of a map that was made, unless it was refused memory.
+fn folded_made<M: Hash + Drop>(made: Result<M, AllocError>) -> Result<u64, AllocError> {
+    Ok(folded(&made?))
+}
+
 #[test]
 fn each_part_of_a_pair_is_fed(rt: HostRuntime) -> Result<(), Fail> {
     let alloc = rt.alloc();
-    let first = folded(&range_map! { in alloc; 0..5u32 => 'a' }?);
-    assert!(rt; first == folded(&range_map! { in alloc; 0..3u32 => 'a', 3..5 => 'a' }?));
-    assert!(rt; first != folded(&range_map! { in alloc; 0..6u32 => 'a' }?));
-    assert!(rt; first != folded(&range_map! { in alloc; 1..5u32 => 'a' }?));
-    assert!(rt; first != folded(&range_map! { in alloc; 0..5u32 => 'b' }?));
-    assert!(rt; first != folded(&range_map! { in alloc; 0..5u32 => 'a', 7..8 => 'a' }?));
+    let first = folded_made(range_map! { in alloc; 0..5u32 => 'a' })?;
+    let same = folded_made(range_map! { in alloc; 0..3u32 => 'a', 3..5 => 'a' })?;
+    let longer = folded_made(range_map! { in alloc; 0..6u32 => 'a' })?;
+    let later = folded_made(range_map! { in alloc; 1..5u32 => 'a' })?;
+    let other = folded_made(range_map! { in alloc; 0..5u32 => 'b' })?;
+    let more = folded_made(range_map! { in alloc; 0..5u32 => 'a', 7..8 => 'a' })?;
+    assert!(rt; first == same);
+    assert!(rt; first != longer && first != later && first != other && first != more);
     Ok(())
 }
 
 #[test]
 fn each_part_of_a_closed_pair_is_fed(rt: HostRuntime) -> Result<(), Fail> {
     let alloc = rt.alloc();
-    let first = folded(&range_inclusive_map! { in alloc; 0..=5u32 => 'a' }?);
-    assert!(rt;
-        first == folded(&range_inclusive_map! { in alloc; 0..=2u32 => 'a', 3..=5 => 'a' }?)
-    );
-    assert!(rt; first != folded(&range_inclusive_map! { in alloc; 0..=6u32 => 'a' }?));
-    assert!(rt; first != folded(&range_inclusive_map! { in alloc; 1..=5u32 => 'a' }?));
-    assert!(rt; first != folded(&range_inclusive_map! { in alloc; 0..=5u32 => 'b' }?));
+    let first = folded_made(range_inclusive_map! { in alloc; 0..=5u32 => 'a' })?;
+    let same = folded_made(range_inclusive_map! { in alloc; 0..=2u32 => 'a', 3..=5 => 'a' })?;
+    let longer = folded_made(range_inclusive_map! { in alloc; 0..=6u32 => 'a' })?;
+    let later = folded_made(range_inclusive_map! { in alloc; 1..=5u32 => 'a' })?;
+    let other = folded_made(range_inclusive_map! { in alloc; 0..=5u32 => 'b' })?;
+    assert!(rt; first == same);
+    assert!(rt; first != longer && first != later && first != other);
     Ok(())
 }
 
 #[test]
 fn the_laws_of_comparisons_make_their_calls(rt: HostRuntime) -> Result<(), Fail> {
-    let alloc = rt.alloc();
-    let one = range_map! { in alloc; 0..5u32 => 'a' }?;
+    let one = range_map! { in rt.alloc(); 0..5u32 => 'a' }?;
+    check_same(&rt, &one)?;
+    check_greater(&rt, &one)
+}
+
+/// Runs the laws on a map and a copy of it.
+fn check_same<R: Abort>(rt: &R, one: &RangeMap<u32, char, Global>) -> Result<(), Fail> {
     let same = one.clone()?;
-    let greater = range_map! { in alloc; 0..6u32 => 'a' }?;
-    assert!(rt; equality_agrees_with_order(&one, &same) == (true, Ordering::Equal));
-    assert!(rt; equality_agrees_with_order(&one, &greater) == (false, Ordering::Less));
+    assert!(rt; equality_agrees_with_order(one, &same) == (true, Ordering::Equal));
     let mut left = Folding(7);
     let mut right = Folding(7);
-    equal_maps_hash_alike(&one, &same, &mut left, &mut right);
+    equal_maps_hash_alike(one, &same, &mut left, &mut right);
     assert!(rt; left.finish() == right.finish());
     assert!(rt; left.finish() != 7);
+    Ok(())
+}
+
+/// Runs the law on a map and a greater one.
+fn check_greater<R: AllocGlobal + Abort>(
+    rt: &R,
+    one: &RangeMap<u32, char, Global>,
+) -> Result<(), Fail> {
+    let greater = range_map! { in rt.alloc(); 0..6u32 => 'a' }?;
+    assert!(rt; equality_agrees_with_order(one, &greater) == (false, Ordering::Less));
     Ok(())
 }

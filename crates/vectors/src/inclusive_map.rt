@@ -5,9 +5,9 @@ ghost use Rattle.std.specs.Range.{range_inclusive_start, range_inclusive_end, ra
 
 use crate::rows::Call::{Clear, Insert, Remove};
 use crate::rows::tables::{Changed, check_changes};
-use crate::rows::{InRows, check_ends, check_found, check_row, make};
+use crate::rows::{InRows, check_nothing, check_row, make};
 use rangemap::{RangeInclusiveMap, StepFns};
-use std::alloc::Global;
+use std::alloc::{AllocError, Global};
 use std::fmt::Debug;
 use std::ops::RangeInclusive;
 use std::process::Abort;
@@ -49,6 +49,10 @@ impl<K: Ord + Clone + Copy + Debug, V: Eq + Clone + Copy + Debug, StepFnsT: Step
 
     fn value(_alloc: Global, row: &V) -> Result<V, Fail> {
         Ok(*row)
+    }
+
+    fn copy(&self) -> Result<Self, AllocError> {
+        self.clone()
     }
 
     fn is_range(range: &RangeInclusive<K>, row: &RangeInclusive<K>) -> bool {
@@ -115,8 +119,7 @@ fn ends_are_removed(rt: HostRuntime) -> Result<(), Fail> {
 #[test]
 fn an_empty_map_has_nothing(rt: HostRuntime) -> Result<(), Fail> {
     let map: Map = RangeInclusiveMap::new(rt.alloc());
-    check_found(&rt, &map, &[(5, None)])?;
-    check_ends(&rt, &map, &None, &None)?;
+    check_nothing(&rt, &map, &5);
     check_row(&rt, &map, &[])
 }
 

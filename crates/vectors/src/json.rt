@@ -13,6 +13,7 @@ use std::test::Fail;
 
 mod long;
 mod maps;
+mod refusals;
 mod roster;
 mod round_trips;
 

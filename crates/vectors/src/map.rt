@@ -4,7 +4,7 @@ ghost use Rattle.rangemap.specs.Ranges.{half_open};
 
 use crate::rows::InRows;
 use rangemap::RangeMap;
-use std::alloc::Global;
+use std::alloc::{AllocError, Global};
 use std::fmt::Debug;
 use std::ops::Range;
 use std::test::Fail;
@@ -43,6 +43,10 @@ impl<V: Eq + Clone + Copy + Debug> InRows for RangeMap<u32, V, Global> {
 
     fn value(_alloc: Global, row: &V) -> Result<V, Fail> {
         Ok(*row)
+    }
+
+    fn copy(&self) -> Result<Self, AllocError> {
+        self.clone()
     }
 
     fn is_range(range: &Range<u32>, row: &Range<u32>) -> bool {

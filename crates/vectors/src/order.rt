@@ -1,7 +1,7 @@
 //! Rows about the order of maps.
 
 use rangemap::{RangeInclusiveMap, RangeMap, range_inclusive_map, range_map};
-use std::alloc::Global;
+use std::alloc::{AllocError, Global};
 use std::cmp::Ordering;
 use std::process::Abort;
 use std::test::Fail;
@@ -16,57 +16,68 @@ fn assert_less<M: Ord, R: Abort>(rt: &R, less: &M, greater: &M) -> Result<(), Fa
     Ok(())
 }
 
+/// Shows that a map is less than one that was made, unless that was refused memory.
+fn assert_less_than<M: Ord + Drop, R: Abort>(
+    rt: &R,
+    less: &M,
+    made: Result<M, AllocError>,
+) -> Result<(), Fail> {
+    assert_less(rt, less, &made?)
+}
+
+/// Maps over half-open ranges.
+type Map = RangeMap<u32, char, Global>;
+
 #[test]
 fn maps_lie_by_their_first_difference(rt: HostRuntime) -> Result<(), Fail> {
     let alloc = rt.alloc();
-    let none: RangeMap<u32, char, Global> = range_map! { in alloc; }?;
-    let first = range_map! { in alloc; 0..5u32 => 'a' }?;
-    assert_less(&rt, &none, &first)?;
-    assert_less(&rt, &first, &range_map! { in alloc; 0..6u32 => 'a' }?)?;
-    assert_less(
-        &rt,
-        &first,
-        &range_map! { in alloc; 0..5u32 => 'a', 7..8 => 'a' }?,
-    )?;
-    assert_less(&rt, &first, &range_map! { in alloc; 1..2u32 => 'a' }?)?;
-    assert_less(&rt, &first, &range_map! { in alloc; 0..5u32 => 'b' }?)?;
-    assert!(rt; first.cmp(&range_map! { in alloc; 0..5u32 => 'a' }?) == Ordering::Equal);
+    let none: Map = range_map! { in alloc; }?;
+    assert_less_than(&rt, &none, range_map! { in alloc; 0..5 => 'a' })?;
+    let first = range_map! { in alloc; 0..5 => 'a' }?;
+    check_greater(&rt, &first)
+}
+
+/// Compares a map with greater ones, and with an equal one.
+fn check_greater<R: AllocGlobal + Abort>(rt: &R, first: &Map) -> Result<(), Fail> {
+    let alloc = rt.alloc();
+    assert_less_than(rt, first, range_map! { in alloc; 0..6 => 'a' })?;
+    assert_less_than(rt, first, range_map! { in alloc; 0..5 => 'a', 7..8 => 'a' })?;
+    assert_less_than(rt, first, range_map! { in alloc; 1..2 => 'a' })?;
+    assert_less_than(rt, first, range_map! { in alloc; 0..5 => 'b' })?;
+    assert!(rt; first.cmp(&range_map! { in alloc; 0..5 => 'a' }?) == Ordering::Equal);
     Ok(())
 }
 
 #[test]
 fn a_difference_weighs_more_than_the_lengths(rt: HostRuntime) -> Result<(), Fail> {
     let alloc = rt.alloc();
-    let longer = range_map! { in alloc; 0..5u32 => 'a', 7..8 => 'a' }?;
-    assert_less(&rt, &longer, &range_map! { in alloc; 0..6u32 => 'a' }?)
+    let longer: Map = range_map! { in alloc; 0..5 => 'a', 7..8 => 'a' }?;
+    assert_less_than(&rt, &longer, range_map! { in alloc; 0..6 => 'a' })
 }
+
+/// Maps over closed ranges.
+type ClosedMap = RangeInclusiveMap<u32, char, u32, Global>;
 
 #[test]
 fn closed_maps_lie_by_their_first_difference(rt: HostRuntime) -> Result<(), Fail> {
     let alloc = rt.alloc();
-    let none: RangeInclusiveMap<u32, char, u32, Global> = range_inclusive_map! { in alloc; }?;
-    let first = range_inclusive_map! { in alloc; 0..=5u32 => 'a' }?;
-    assert_less(&rt, &none, &first)?;
-    assert_less(
-        &rt,
-        &first,
-        &range_inclusive_map! { in alloc; 0..=6u32 => 'a' }?,
+    let none: ClosedMap = range_inclusive_map! { in alloc; }?;
+    assert_less_than(&rt, &none, range_inclusive_map! { in alloc; 0..=5 => 'a' })?;
+    let first = range_inclusive_map! { in alloc; 0..=5 => 'a' }?;
+    check_greater_closed(&rt, &first)
+}
+
+/// Compares a map over closed ranges with greater ones, and with an equal one.
+fn check_greater_closed<R: AllocGlobal + Abort>(rt: &R, first: &ClosedMap) -> Result<(), Fail> {
+    let alloc = rt.alloc();
+    assert_less_than(rt, first, range_inclusive_map! { in alloc; 0..=6 => 'a' })?;
+    assert_less_than(
+        rt,
+        first,
+        range_inclusive_map! { in alloc; 0..=5 => 'a', 7..=8 => 'a' },
     )?;
-    assert_less(
-        &rt,
-        &first,
-        &range_inclusive_map! { in alloc; 0..=5u32 => 'a', 7..=8 => 'a' }?,
-    )?;
-    assert_less(
-        &rt,
-        &first,
-        &range_inclusive_map! { in alloc; 1..=2u32 => 'a' }?,
-    )?;
-    assert_less(
-        &rt,
-        &first,
-        &range_inclusive_map! { in alloc; 0..=5u32 => 'b' }?,
-    )?;
-    assert!(rt; first.cmp(&range_inclusive_map! { in alloc; 0..=5u32 => 'a' }?) == Ordering::Equal);
+    assert_less_than(rt, first, range_inclusive_map! { in alloc; 1..=2 => 'a' })?;
+    assert_less_than(rt, first, range_inclusive_map! { in alloc; 0..=5 => 'b' })?;
+    assert!(rt; first.cmp(&range_inclusive_map! { in alloc; 0..=5 => 'a' }?) == Ordering::Equal);
     Ok(())
 }

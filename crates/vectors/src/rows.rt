@@ -4,12 +4,13 @@ ghost use Rattle.std.specs.Prelude.{IfOk};
 ghost use Rattle.std.specs.Iterator.{IsFinite};
 ghost use Rattle.rangemap.specs.Clones.{KeysCloneFaithfully, ValuesCloneFaithfully};
 
-use rangemap::ranged_map::{ClonesItself, LeavesGaps, RangedMap, ReadsGaps, ReadsPairs, tell_gaps};
+use rangemap::ranged_map::{LeavesGaps, RangedMap, ReadsGaps, ReadsPairs, tell_gaps};
 use std::alloc::AllocError;
 use std::fmt::Debug;
 use std::process::Abort;
 use std::test::Fail;
 
+pub mod iterators;
 pub mod tables;
 
 /// A call that changes a map over ranges `R`.
@@ -24,7 +25,10 @@ pub enum Call<R, V> {
 }
 
 /// A container that rows speak of.
-pub trait InRows: LeavesGaps + ClonesItself {
+///
+/// It builds on one trait alone: over two that share a third, each function here takes many times
+/// as long to prove.
+pub trait InRows: LeavesGaps {
     /// A range as it stands in a row.
     type RowRange;
 
@@ -37,6 +41,11 @@ pub trait InRows: LeavesGaps + ClonesItself {
 
     /// Makes a value of a row.
     fn value(alloc: Self::Alloc, row: &Self::RowValue) -> Result<Self::Value, Fail>;
+
+    /// Copies the container, by its own `clone`.
+    fn copy(&self) -> Result<Self, AllocError>
+        requires faithful_keys { KeysCloneFaithfully Self.Key.is_clone Self.Key.cmp }
+        requires faithful_values { ValuesCloneFaithfully Self.Value.is_clone Self.Value.eq };
 
     /// Whether a range is that of a row.
     fn is_range(range: &Self::Range, row: &Self::RowRange) -> bool;
@@ -77,6 +86,22 @@ struct Compared<'a, M: InRows> {
     are_equal: bool,
 }
 
+impl<'a, M: InRows> Compared<'a, M> {
+    /// Nothing was compared with these pairs yet.
+    fn with(rest: &'a [(M::RowRange, M::RowValue)]) -> Self {
+        Compared {
+            rest,
+            are_equal: true,
+        }
+    }
+
+    /// Shows that what came was the pairs of the row, and all of them.
+    fn check<R: Abort>(&self, rt: &R) {
+        assert!(rt; self.are_equal, "a pair differs");
+        assert!(rt; self.rest.is_empty(), "a pair is missing");
+    }
+}
+
 impl<'a, M: InRows> ReadsPairs<M::Range, M::Value> for Compared<'a, M> {
     fn pair(&mut self, range: &M::Range, value: &M::Value) -> Result<(), AllocError> {
         match self.rest.split_first() {
@@ -99,6 +124,20 @@ struct ComparedRanges<'a, M: InRows> {
 }
 
 impl<'a, M: InRows> ComparedRanges<'a, M> {
+    /// Nothing was compared with these ranges yet.
+    fn with(rest: &'a [M::RowRange]) -> Self {
+        ComparedRanges {
+            rest,
+            are_equal: true,
+        }
+    }
+
+    /// Shows that what came was the ranges of the row, and all of them.
+    fn check<R: Abort>(&self, rt: &R) {
+        assert!(rt; self.are_equal, "a range differs");
+        assert!(rt; self.rest.is_empty(), "a range is missing");
+    }
+
     /// Compares one more range.
     fn compare(&mut self, range: &M::Range) {
         match self.rest.split_first() {
@@ -131,63 +170,29 @@ pub fn check_row<M: InRows, R: Abort>(
     map: &M,
     pairs: &[(M::RowRange, M::RowValue)],
 ) -> Result<(), Fail> {
-    let mut compared: Compared<'_, M> = Compared {
-        rest: pairs,
-        are_equal: true,
-    };
+    let mut compared: Compared<'_, M> = Compared::with(pairs);
     map.read_all(&mut compared)?;
-    assert!(rt; compared.are_equal, "a pair differs");
-    assert!(rt; compared.rest.is_empty(), "a pair is missing");
-    assert_eq!(rt; map.len(), pairs.len());
-    assert_eq!(rt; map.is_empty(), pairs.is_empty());
-    Ok(())
-}
-
-/// Whether what was found is the pair of a row, or nothing where there is none.
-fn is_found<M: InRows>(
-    found: Option<(&M::Range, &M::Value)>,
-    row: &Option<(M::RowRange, M::RowValue)>,
-) -> bool {
-    match (found, row) {
-        (Some((range, value)), Some(row)) => {
-            M::is_range(range, &row.0) && M::is_value(value, &row.1)
-        }
-        (found, row) => found.is_none() && row.is_none(),
-    }
-}
-
-/// A key, and the pair whose range has it, if there is one.
-pub type Found<K, R, V> = (K, Option<(R, V)>);
-
-/// Looks each key up, and compares what is found.
-pub fn check_found<M: InRows, R: Abort>(
-    rt: &R,
-    map: &M,
-    rows: &[Found<M::Key, M::RowRange, M::RowValue>],
-) -> Result<(), Fail> {
-    for (key, pair) in rows {
-        assert!(rt; is_found::<M>(map.get_key_value(key), pair));
-        assert_eq!(rt; map.contains_key(key), pair.is_some());
-    }
-    Ok(())
-}
-
-/// Compares the first and the last pair with those of a row.
-pub fn check_ends<M: InRows, R: Abort>(
-    rt: &R,
-    map: &M,
-    first: &Option<(M::RowRange, M::RowValue)>,
-    last: &Option<(M::RowRange, M::RowValue)>,
-) -> Result<(), Fail> {
-    assert!(rt;
-        is_found::<M>(map.first_range_value(), first),
-        "the first pair differs"
-    );
-    assert!(rt;
-        is_found::<M>(map.last_range_value(), last),
-        "the last pair differs"
+    compared.check(rt);
+    assert_eq!(rt;
+        (map.len(), map.is_empty()),
+        (pairs.len(), pairs.is_empty())
     );
     Ok(())
+}
+
+/// Compares a map that was made, unless it was refused memory, with a row.
+pub fn check_made<M: InRows, R: Abort>(
+    rt: &R,
+    made: Result<M, AllocError>,
+    pairs: &[(M::RowRange, M::RowValue)],
+) -> Result<(), Fail> {
+    check_row(rt, &made?, pairs)
+}
+
+/// Shows that nothing is found in an empty map, at the key or at an end.
+pub fn check_nothing<M: InRows, R: Abort>(rt: &R, map: &M, key: &M::Key) {
+    assert!(rt; map.get_key_value(key).is_none() && !map.contains_key(key));
+    assert!(rt; map.first_range_value().is_none() && map.last_range_value().is_none());
 }
 
 /// Compares the pairs that a query overlaps with those of a row.
@@ -197,13 +202,9 @@ pub fn check_overlapping<M: InRows, R: Abort>(
     query: &M::Range,
     pairs: &[(M::RowRange, M::RowValue)],
 ) -> Result<(), Fail> {
-    let mut compared: Compared<'_, M> = Compared {
-        rest: pairs,
-        are_equal: true,
-    };
+    let mut compared: Compared<'_, M> = Compared::with(pairs);
     map.read_overlapping(query, &mut compared)?;
-    assert!(rt; compared.are_equal, "a pair differs");
-    assert!(rt; compared.rest.is_empty(), "a pair is missing");
+    compared.check(rt);
     assert_eq!(rt; map.overlaps(query), !pairs.is_empty());
     Ok(())
 }
@@ -217,13 +218,9 @@ pub fn check_gaps<M: InRows, R: Abort>(
 ) -> Result<(), Fail>
     requires faithful_keys { KeysCloneFaithfully M.Key.is_clone M.Key.cmp }
 {
-    let mut compared: ComparedRanges<'_, M> = ComparedRanges {
-        rest: gaps,
-        are_equal: true,
-    };
+    let mut compared: ComparedRanges<'_, M> = ComparedRanges::with(gaps);
     map.read_gaps(outer_range, &mut compared)?;
-    assert!(rt; compared.are_equal, "a gap differs");
-    assert!(rt; compared.rest.is_empty(), "a gap is missing");
+    compared.check(rt);
     Ok(())
 }
 
@@ -249,16 +246,23 @@ pub fn check_set<S: InRows<Value = ()>, R: Abort>(
     set: &S,
     ranges: &[S::RowRange],
 ) -> Result<(), Fail> {
-    let mut compared: ComparedRanges<'_, S> = ComparedRanges {
-        rest: ranges,
-        are_equal: true,
-    };
+    let mut compared: ComparedRanges<'_, S> = ComparedRanges::with(ranges);
     set.read_all(&mut compared)?;
-    assert!(rt; compared.are_equal, "a range differs");
-    assert!(rt; compared.rest.is_empty(), "a range is missing");
-    assert_eq!(rt; set.len(), ranges.len());
-    assert_eq!(rt; set.is_empty(), ranges.is_empty());
+    compared.check(rt);
+    assert_eq!(rt;
+        (set.len(), set.is_empty()),
+        (ranges.len(), ranges.is_empty())
+    );
     Ok(())
+}
+
+/// Compares a set that was made, unless it was refused memory, with a row.
+pub fn check_made_set<S: InRows<Value = ()>, R: Abort>(
+    rt: &R,
+    made: Result<S, AllocError>,
+    ranges: &[S::RowRange],
+) -> Result<(), Fail> {
+    check_set(rt, &made?, ranges)
 }
 
 /// Compares a set with the one that the ranges of a row make: whether both are equal.
@@ -287,24 +291,22 @@ pub fn check_items<
     requires can { I.can_next items }
     requires ends { IsFinite (I.remaining items) }
 {
-    let mut compared: ComparedRanges<'_, S> = ComparedRanges {
-        rest: ranges,
-        are_equal: true,
-    };
+    let mut compared: ComparedRanges<'_, S> = ComparedRanges::with(ranges);
     tell_gaps(items, &mut compared)?;
-    assert!(rt; compared.are_equal, "an item differs");
-    assert!(rt; compared.rest.is_empty(), "an item is missing");
+    compared.check(rt);
     Ok(())
 }
 
-/// Compares which calls of a replay were accepted, and the maps that it left, with those of a row.
+/// Compares which calls of a replay were accepted, unless it was refused memory, and the maps that
+/// it left, with those of a row.
 pub fn check_replayed<M: InRows, R: Abort>(
     rt: &R,
-    answers: (&[bool], &[bool]),
+    answers: Result<Vec<bool>, AllocError>,
+    expected: &[bool],
     maps: &[M],
     pairs: &[&[(M::RowRange, M::RowValue)]],
 ) -> Result<(), Fail> {
-    assert_eq!(rt; answers.0, answers.1);
+    assert_eq!(rt; answers?.as_slice(), expected);
     assert_eq!(rt; maps.len(), pairs.len());
     for (map, pairs) in maps.iter().zip(pairs) {
         check_row(rt, map, *pairs)?;
@@ -312,14 +314,16 @@ pub fn check_replayed<M: InRows, R: Abort>(
     Ok(())
 }
 
-/// Compares which calls of a replay were accepted, and the sets that it left, with those of a row.
+/// Compares which calls of a replay were accepted, unless it was refused memory, and the sets that
+/// it left, with those of a row.
 pub fn check_replayed_sets<S: InRows<Value = ()>, R: Abort>(
     rt: &R,
-    answers: (&[bool], &[bool]),
+    answers: Result<Vec<bool>, AllocError>,
+    expected: &[bool],
     sets: &[S],
     ranges: &[&[S::RowRange]],
 ) -> Result<(), Fail> {
-    assert_eq!(rt; answers.0, answers.1);
+    assert_eq!(rt; answers?.as_slice(), expected);
     assert_eq!(rt; sets.len(), ranges.len());
     for (set, ranges) in sets.iter().zip(ranges) {
         check_set(rt, set, *ranges)?;

@@ -2,7 +2,7 @@
 
 use rangemap::laws::texts::{ascii_text, signed_text, unsigned_text};
 use rangemap::{RangeInclusiveMap, RangeMap, range_inclusive_map, range_map};
-use std::alloc::Global;
+use std::alloc::{AllocError, Global};
 use std::fmt::Debug;
 use std::process::Abort;
 use std::test::Fail;
@@ -40,22 +40,32 @@ fn other_keys_and_values_are_written_by_their_own_text(rt: HostRuntime) -> Resul
     assert_text(&rt, &map, "{'a'..'f': Some(true), 'x'..'z': None}")
 }
 
+/// Shows that `{:#?}` writes the text of a map that was made, unless it was refused memory.
+fn assert_long_text<M: Debug + Drop, R: AllocGlobal + Abort>(
+    rt: &R,
+    made: Result<M, AllocError>,
+    text: &str,
+) -> Result<(), Fail> {
+    let map = made?;
+    assert_eq!(rt; format!(in rt.alloc(); "{map:#?}")?.as_str(), text);
+    Ok(())
+}
+
 #[test]
 fn the_long_form_gives_each_pair_a_line(rt: HostRuntime) -> Result<(), Fail> {
     let alloc = rt.alloc();
-    let map = range_map! { in alloc; 0..100u32 => "abc", 200..300 => "ghi" }?;
-    assert_eq!(rt;
-        format!(in alloc; "{map:#?}")?.as_str(),
-        "{\n    0..100: \"abc\",\n    200..300: \"ghi\",\n}"
-    );
-    let closed = range_inclusive_map! { in alloc; 0..=100u32 => 'a' }?;
-    assert_eq!(rt;
-        format!(in alloc; "{closed:#?}")?.as_str(),
-        "{\n    0..=100: 'a',\n}"
-    );
-    let none: RangeMap<u32, bool, Global> = RangeMap::new(alloc);
-    assert_eq!(rt; format!(in alloc; "{none:#?}")?.as_str(), "{}");
-    Ok(())
+    assert_long_text(
+        &rt,
+        range_map! { in alloc; 0..100u32 => "abc", 200..300 => "ghi" },
+        "{\n    0..100: \"abc\",\n    200..300: \"ghi\",\n}",
+    )?;
+    assert_long_text(
+        &rt,
+        range_inclusive_map! { in alloc; 0..=100u32 => 'a' },
+        "{\n    0..=100: 'a',\n}",
+    )?;
+    let none: Result<RangeMap<u32, bool, Global>, AllocError> = range_map! { in alloc; };
+    assert_long_text(&rt, none, "{}")
 }
 
 #[test]

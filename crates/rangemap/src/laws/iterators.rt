@@ -6,13 +6,15 @@ ghost use Rattle.std.specs.Prelude.{◌≡◌, ◌<◌, ℕ, IfNone, IfOk, IsNon
 ghost use Rattle.rangemap.specs.Ended.{GoesToEnd, TriesToEnd};
 
 use rangemap_core::gaps::Gaps;
-use rangemap_core::kind::Kind;
+use rangemap_core::kind::{Interval, Kind};
 use rangemap_core::{into_iter, iter, overlapping};
 use rangemap_sets::operations::intersection::Intersection;
 use rangemap_sets::operations::union::Union;
 use rangemap_sets::set_range::SetRange;
+use rangemap_tree::tree_map;
 use std::alloc::{AllocError, Allocator};
 use std::iter::{DoubleEndedIterator, Iterator};
+use std::ops::Range;
 
 /// An iterator of the library, as these laws see it.
 pub trait StaysEnded: Iterator {
@@ -153,7 +155,8 @@ impl<R: Drop, V: Drop, A: Allocator> StaysEndedAtBack for into_iter::IntoIter<R,
     ghost goes_back_to_end = { λ before answer after gives. last_taken (λ pair. pair) before answer after gives };
 }
 
-impl<'a, R, V> StaysEnded for overlapping::Overlapping<'a, R, V> {
+impl<'a, I: Interval<K, R>, K: Ord + Clone, R, V> StaysEnded
+    for overlapping::Overlapping<'a, I, K, R, V> {
     ghost use Rattle.std.specs.Prelude.{length};
     ghost use Rattle.std.specs.Map.Iter.{deref_pair};
     ghost use Rattle.rangemap.specs.Ended.{first_taken};
@@ -163,7 +166,63 @@ impl<'a, R, V> StaysEnded for overlapping::Overlapping<'a, R, V> {
     ghost goes_to_end = { λ before answer after gives. first_taken deref_pair before answer after gives };
 }
 
-impl<'a, R, V> StaysEndedAtBack for overlapping::Overlapping<'a, R, V> {
+impl<'a, I: Interval<K, R>, K: Ord + Clone, R, V> StaysEndedAtBack
+    for overlapping::Overlapping<'a, I, K, R, V> {
+    ghost use Rattle.std.specs.Map.Iter.{deref_pair};
+    ghost use Rattle.rangemap.specs.Ended.{last_taken};
+
+    ghost is_ready = { λ iter. (tt {0}, tt {0}) };
+
+    ghost goes_back_to_end = { λ before answer after gives. last_taken deref_pair before answer after gives };
+}
+
+impl<'a, K, V> StaysEnded for tree_map::Iter<'a, K, V> {
+    ghost use Rattle.std.specs.Prelude.{length};
+    ghost use Rattle.std.specs.Map.Iter.{deref_pair};
+    ghost use Rattle.rangemap.specs.Ended.{first_taken};
+
+    ghost left = { λ s. length s };
+
+    ghost goes_to_end = { λ before answer after gives. first_taken deref_pair before answer after gives };
+}
+
+impl<'a, K, V> StaysEndedAtBack for tree_map::Iter<'a, K, V> {
+    ghost use Rattle.std.specs.Map.Iter.{deref_pair};
+    ghost use Rattle.rangemap.specs.Ended.{last_taken};
+
+    ghost is_ready = { λ iter. (tt {0}, tt {0}) };
+
+    ghost goes_back_to_end = { λ before answer after gives. last_taken deref_pair before answer after gives };
+}
+
+impl<K: Drop, V: Drop, A: Allocator> StaysEnded for tree_map::IntoIter<K, V, A> {
+    ghost use Rattle.std.specs.Prelude.{length};
+    ghost use Rattle.rangemap.specs.Ended.{first_taken};
+
+    ghost left = { λ s. length s };
+
+    ghost goes_to_end = { λ before answer after gives. first_taken (λ pair. pair) before answer after gives };
+}
+
+impl<K: Drop, V: Drop, A: Allocator> StaysEndedAtBack for tree_map::IntoIter<K, V, A> {
+    ghost use Rattle.rangemap.specs.Ended.{last_taken};
+
+    ghost is_ready = { λ iter. (tt {0}, tt {0}) };
+
+    ghost goes_back_to_end = { λ before answer after gives. last_taken (λ pair. pair) before answer after gives };
+}
+
+impl<'a, K, V> StaysEnded for tree_map::Overlapping<'a, K, V> {
+    ghost use Rattle.std.specs.Prelude.{length};
+    ghost use Rattle.std.specs.Map.Iter.{deref_pair};
+    ghost use Rattle.rangemap.specs.Ended.{first_taken};
+
+    ghost left = { λ s. length s };
+
+    ghost goes_to_end = { λ before answer after gives. first_taken deref_pair before answer after gives };
+}
+
+impl<'a, K, V> StaysEndedAtBack for tree_map::Overlapping<'a, K, V> {
     ghost use Rattle.std.specs.Map.Iter.{deref_pair};
     ghost use Rattle.rangemap.specs.Ended.{last_taken};
 
@@ -208,7 +267,7 @@ impl<R: Drop, A: Allocator> StaysEndedAtBack for rangemap_sets::into_iter::IntoI
     ghost goes_back_to_end = { λ before answer after gives. last_taken (λ range. range) before answer after gives };
 }
 
-impl<'a, R> StaysEnded for rangemap_sets::overlapping::Overlapping<'a, R> {
+impl<'a, R: SetRange> StaysEnded for rangemap_sets::overlapping::Overlapping<'a, R> {
     ghost use Rattle.std.specs.Prelude.{length};
     ghost use Rattle.std.specs.Map.Iter.{deref};
     ghost use Rattle.rangemap.specs.Ended.{first_taken};
@@ -218,7 +277,7 @@ impl<'a, R> StaysEnded for rangemap_sets::overlapping::Overlapping<'a, R> {
     ghost goes_to_end = { λ before answer after gives. first_taken deref before answer after gives };
 }
 
-impl<'a, R> StaysEndedAtBack for rangemap_sets::overlapping::Overlapping<'a, R> {
+impl<'a, R: SetRange> StaysEndedAtBack for rangemap_sets::overlapping::Overlapping<'a, R> {
     ghost use Rattle.std.specs.Map.Iter.{deref};
     ghost use Rattle.rangemap.specs.Ended.{last_taken};
 
@@ -234,6 +293,16 @@ impl<'a, Q: Kind<K, R>, K: Ord + Clone, R, V> StaysEnded for Gaps<'a, Q, K, R, V
     ghost left = { λ s. length s };
 
     ghost goes_to_end = { λ before answer after gives. range_given Q.kind before answer after gives };
+}
+
+impl<'a, K: Ord + Clone, V> StaysEnded for tree_map::Gaps<'a, K, V> {
+    ghost use Rattle.std.specs.Prelude.{length};
+    ghost use Rattle.rangemap.specs.Ended.{range_given};
+    ghost use Rattle.rangemap.specs.Ranges.{half_open};
+
+    ghost left = { λ s. length s };
+
+    ghost goes_to_end = { λ before answer after gives. range_given (half_open K.cmp) before answer after gives };
 }
 
 impl<'a, R: SetRange> StaysEnded for Union<'a, R> {
@@ -258,6 +327,14 @@ impl<'a, Q: Kind<K, R>, K: Ord + Clone, R: Drop, V> StaysEndedByTries for Gaps<'
     type Range = R;
 
     fn try_next(&mut self) -> Result<Option<R>, AllocError> {
+        self.try_next()
+    }
+}
+
+impl<'a, K: Ord + Clone, V> StaysEndedByTries for tree_map::Gaps<'a, K, V> {
+    type Range = Range<K>;
+
+    fn try_next(&mut self) -> Result<Option<Range<K>>, AllocError> {
         self.try_next()
     }
 }

@@ -15,6 +15,10 @@ module _ {K X : Type 0} (k : RangeKind K X) (has_end : Bool) where
   abbrev pub reaches : K → K → Bool
   reaches end x = goes_past has_end (k.cmp x end)
 
+  -- the pair's range starts before q ends
+  abbrev pub is_begun : {V : Type 0} → X → X × V → Bool
+  is_begun q pair = reaches (k.end q) (k.start pair.0)
+
   -- what holds of ranges that have their end, or don't
   pub record IsInterval : Type 0 where
     pub total : IsTotalOrder k.cmp
@@ -28,3 +32,7 @@ module _ {K X : Type 0} (k : RangeKind K X) (has_end : Bool) where
   abbrev pub IsBetween : K → K → Option X → Type 0
   IsBetween start end None = reaches end start ≡ false
   IsBetween start end (Some range) = IsStorable k range × (k.start range ≡ start) × (k.end range ≡ end)
+
+-- both kinds of range tell alike whether a range starts before another ends
+abbrev pub ReachAlike : {K X : Type 0} → RangeKind K X → Bool → RangeKind K X → Bool → Type 0
+ReachAlike {K} {X} k has_end j j_has_end = (q r : X) → reaches k has_end (k.end q) (k.start r) ≡ reaches j j_has_end (j.end q) (j.start r)

@@ -12,8 +12,9 @@ fn words_and_what_is_none(rt: HostRuntime) -> Result<(), Fail> {
     assert!(rt; !other.contains('_') && other.contains('-') && other.contains('\u{10FFFF}'));
     assert!(rt; word.union(&other)?.contains('-'));
     assert!(rt; !word.intersection(&other)?.contains('z'));
-    assert!(rt; de_morgan(rt.alloc(), &word, &other)?);
-    assert!(rt; complement_twice(rt.alloc(), &word)?);
+    let (neither, not_both) = de_morgan(rt.alloc(), &word, &other)?;
+    assert!(rt; neither.members == not_both.members && neither.members.is_empty());
+    assert!(rt; complement_twice(rt.alloc(), &word)?.members == word.members);
     Ok(())
 }
 

@@ -10,6 +10,7 @@ use crate::trials::maps::{Row, check_refusals};
 use crate::trials::{Heap, MANY};
 use rangemap::RangeInclusiveMap;
 use refusing::Refusing;
+use std::alloc::AllocError;
 use std::ops::RangeInclusive;
 use std::test::Fail;
 
@@ -33,6 +34,10 @@ impl<'a> InRows for CostlyMap<'a> {
 
     fn value(_heap: &'a Heap, row: &char) -> Result<char, Fail> {
         Ok(*row)
+    }
+
+    fn copy(&self) -> Result<Self, AllocError> {
+        self.clone()
     }
 
     fn is_range(range: &RangeInclusive<Costly<'a>>, row: &Ends) -> bool {

@@ -9,7 +9,6 @@ use std::test::Fail;
 
 #[test]
 fn bytes_go_to_their_end(rt: HostRuntime) -> Result<(), Fail> {
-    let mut maps = Vec::new(rt.alloc());
     let calls = [
         Call::Change(Change::New),
         Call::Change(Change::Insert {
@@ -28,10 +27,13 @@ fn bytes_go_to_their_end(rt: HostRuntime) -> Result<(), Fail> {
             value: false,
         }),
     ];
-    let answers = replay(rt.alloc(), &mut maps, Vec::from_array(rt.alloc(), calls)?)?;
+    let calls = Vec::from_array(rt.alloc(), calls)?;
+    let mut maps = Vec::new(rt.alloc());
+    let answers = replay(rt.alloc(), &mut maps, calls);
     check_replayed(
         &rt,
-        (answers.as_slice(), &[true; 4]),
+        answers,
+        &[true; 4],
         maps.as_slice(),
         &[&[(0..=255, false)]],
     )
@@ -39,7 +41,6 @@ fn bytes_go_to_their_end(rt: HostRuntime) -> Result<(), Fail> {
 
 #[test]
 fn ends_are_removed(rt: HostRuntime) -> Result<(), Fail> {
-    let mut maps = Vec::new(rt.alloc());
     let pairs = Vec::from_array(rt.alloc(), [(-128..=127i8, true)])?;
     let calls = [
         Call::FromIter { pairs },
@@ -53,10 +54,13 @@ fn ends_are_removed(rt: HostRuntime) -> Result<(), Fail> {
             range: 127..=127,
         }),
     ];
-    let answers = replay(rt.alloc(), &mut maps, Vec::from_array(rt.alloc(), calls)?)?;
+    let calls = Vec::from_array(rt.alloc(), calls)?;
+    let mut maps = Vec::new(rt.alloc());
+    let answers = replay(rt.alloc(), &mut maps, calls);
     check_replayed(
         &rt,
-        (answers.as_slice(), &[true; 4]),
+        answers,
+        &[true; 4],
         maps.as_slice(),
         &[&[(-127..=126, true)], &[(-128..=127, true)]],
     )
@@ -64,7 +68,6 @@ fn ends_are_removed(rt: HostRuntime) -> Result<(), Fail> {
 
 #[test]
 fn changes_by_own_steps(rt: HostRuntime) -> Result<(), Fail> {
-    let mut maps: Vec<RangeInclusiveMap<u8, bool, u8, Global>, _> = Vec::new(rt.alloc());
     let changes = [
         Change::New,
         Change::Insert {
@@ -92,10 +95,12 @@ fn changes_by_own_steps(rt: HostRuntime) -> Result<(), Fail> {
         },
     ];
     let changes = Vec::from_array(rt.alloc(), changes)?;
-    let answers = replay_with_step_fns(rt.alloc(), &mut maps, changes)?;
+    let mut maps: Vec<RangeInclusiveMap<u8, bool, u8, Global>, _> = Vec::new(rt.alloc());
+    let answers = replay_with_step_fns(rt.alloc(), &mut maps, changes);
     check_replayed(
         &rt,
-        (answers.as_slice(), &[true; 6]),
+        answers,
+        &[true; 6],
         maps.as_slice(),
         &[&[(1..=254, false)]],
     )
@@ -103,7 +108,6 @@ fn changes_by_own_steps(rt: HostRuntime) -> Result<(), Fail> {
 
 #[test]
 fn changes_by_steps_of_another_type(rt: HostRuntime) -> Result<(), Fail> {
-    let mut maps: Vec<SignedMap, _> = Vec::new(rt.alloc());
     let changes = [
         Change::New,
         Change::Insert {
@@ -128,10 +132,12 @@ fn changes_by_steps_of_another_type(rt: HostRuntime) -> Result<(), Fail> {
         },
     ];
     let changes = Vec::from_array(rt.alloc(), changes)?;
-    let answers = replay_with_step_fns(rt.alloc(), &mut maps, changes)?;
+    let mut maps: Vec<SignedMap, _> = Vec::new(rt.alloc());
+    let answers = replay_with_step_fns(rt.alloc(), &mut maps, changes);
     check_replayed(
         &rt,
-        (answers.as_slice(), &[true; 7]),
+        answers,
+        &[true; 7],
         maps.as_slice(),
         &[
             &[(-127..=126, true)],

@@ -2,7 +2,7 @@
 
 use super::Set;
 use crate::inclusive_map::steps::SignedSteps;
-use crate::rows::{check_items, check_set, make_set};
+use crate::rows::{check_items, check_made_set, make_set};
 use rangemap::RangeInclusiveSet;
 use rangemap::inclusive_set::{Intersection, Iter, Union};
 use std::alloc::Global;
@@ -65,7 +65,7 @@ fn check_union<R: Abort>(
     row: (Ranges<'_>, Ranges<'_>),
 ) -> Result<(), Fail> {
     check_items::<Set, _, _>(rt, left.union(right), row.0)?;
-    check_set(rt, &(left | right)?, row.1)
+    check_made_set(rt, left | right, row.1)
 }
 
 /// Compares the items of the intersection, and the set of `&`.
@@ -76,7 +76,7 @@ fn check_intersection<R: Abort>(
     row: Ranges<'_>,
 ) -> Result<(), Fail> {
     check_items::<Set, _, _>(rt, left.intersection(right), row)?;
-    check_set(rt, &(left & right)?, row)
+    check_made_set(rt, left & right, row)
 }
 
 #[test]
@@ -118,8 +118,28 @@ fn take_in_part<R: Abort>(
         (one.next(), other.next_back()),
         (Some(&(0..=1)), Some(&(8..=9)))
     );
-    check_items::<Set, _, _>(rt, Intersection::new(one, right.iter()), &[5..=5, 8..=8])?;
-    check_items::<Set, _, _>(rt, Union::new(other, right.iter()), &[0..=1, 4..=8])
+    check_common(rt, one, right, &[5..=5, 8..=8])?;
+    check_either(rt, other, right, &[0..=1, 4..=8])
+}
+
+/// Compares what the rest of a set and another set have in common.
+fn check_common<R: Abort>(
+    rt: &R,
+    rest: Iter<'_, u32>,
+    right: &Set,
+    row: Ranges<'_>,
+) -> Result<(), Fail> {
+    check_items::<Set, _, _>(rt, Intersection::new(rest, right.iter()), row)
+}
+
+/// Compares what either the rest of a set or another set has.
+fn check_either<R: Abort>(
+    rt: &R,
+    rest: Iter<'_, u32>,
+    right: &Set,
+    row: Ranges<'_>,
+) -> Result<(), Fail> {
+    check_items::<Set, _, _>(rt, Union::new(rest, right.iter()), row)
 }
 
 /// A set of signed bytes by the steps of another type.
@@ -129,8 +149,17 @@ type SignedSet = RangeInclusiveSet<i8, SignedSteps, Global>;
 fn any_steps_will_do(rt: HostRuntime) -> Result<(), Fail> {
     let mut left: SignedSet = RangeInclusiveSet::new_with_step_fns(rt.alloc());
     left.insert(-128..=-1)?;
-    let mut right: SignedSet = RangeInclusiveSet::new_with_step_fns(rt.alloc());
-    right.insert(-1..=127)?;
-    check_items::<SignedSet, _, _>(&rt, left.union(&right), &[-128..=127])?;
-    check_items::<SignedSet, _, _>(&rt, left.intersection(&right), &[-1..=-1])
+    meet_at_the_end(&rt, &left)
+}
+
+/// Compares what a set and one that begins with the set's last key make.
+fn meet_at_the_end<R: AllocGlobal + Abort>(rt: &R, left: &SignedSet) -> Result<(), Fail> {
+    let right: SignedSet = make_set(rt.alloc(), &[-1..=127])?;
+    check_signed(rt, left, &right)
+}
+
+/// Compares the items of the union and of the intersection.
+fn check_signed<R: Abort>(rt: &R, left: &SignedSet, right: &SignedSet) -> Result<(), Fail> {
+    check_items::<SignedSet, _, _>(rt, left.union(right), &[-128..=127])?;
+    check_items::<SignedSet, _, _>(rt, left.intersection(right), &[-1..=-1])
 }

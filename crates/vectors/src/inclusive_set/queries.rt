@@ -2,11 +2,11 @@
 
 use super::Set;
 use crate::rows::Call::Insert;
+use crate::rows::iterators::check_found_three;
 use crate::rows::make_set;
-use crate::rows::tables::check_free;
+use crate::rows::tables::{check_free, check_queries};
 use rangemap::RangeInclusiveSet;
 use std::alloc::Global;
-use std::ops::RangeInclusive;
 use std::process::Abort;
 use std::test::Fail;
 
@@ -49,49 +49,27 @@ fn take_gaps<R: Abort>(rt: &R, set: &Set) -> Result<(), Fail> {
     Ok(())
 }
 
-/// What a set has, the ends of a query, and whether it overlaps.
-type Row = (RangeInclusive<u32>, (u32, u32), bool);
-
 #[test]
 fn a_query_may_be_reversed(rt: HostRuntime) -> Result<(), Fail> {
-    check_query_rows(
+    let (early, late) = ([Insert(3..=8, ())], [Insert(5..=8, ())]);
+    check_queries::<Set, _>(
         &rt,
+        rt.alloc(),
         &[
-            (3..=8, (6, 4), true),
-            (5..=8, (6, 4), false),
-            (5..=8, (8, 9), true),
-            (5..=8, (9, 12), false),
-            (3..=8, (8, 0), false),
+            (&early, 6..=4, &[(3..=8, ())]),
+            (&late, 6..=4, &[]),
+            (&late, 8..=9, &[(5..=8, ())]),
+            (&late, 9..=12, &[]),
+            (&early, 8..=0, &[]),
         ],
     )
-}
-
-/// Compares whether the query of each row overlaps the one stored range.
-fn check_query_rows<R: AllocGlobal + Abort>(rt: &R, rows: &[Row]) -> Result<(), Fail> {
-    for (stored, (start, end), overlaps) in rows {
-        let set: Set = make_set(rt.alloc(), &[*stored.start()..=*stored.end()])?;
-        let query = *start..=*end;
-        assert_eq!(rt; set.overlaps(&query), *overlaps);
-        let found = set.overlapping(&query).next();
-        assert_eq!(rt; found, if *overlaps { Some(stored) } else { None });
-    }
-    Ok(())
 }
 
 #[test]
 fn overlapping_ranges_come_from_both_ends(rt: HostRuntime) -> Result<(), Fail> {
     let set: Set = make_set(rt.alloc(), &[0..=1, 3..=3, 5..=5, 8..=9])?;
-    take_overlapping(&rt, &set)
-}
-
-/// Takes what a query overlaps from both ends, and asks on.
-fn take_overlapping<R: Abort>(rt: &R, set: &Set) -> Result<(), Fail> {
     let query = 1..=7;
-    let mut found = set.overlapping(&query);
-    assert_eq!(rt; found.size_hint(), (0, None));
-    let taken = (found.next(), found.next_back(), found.next());
-    assert_eq!(rt; taken, (Some(&(0..=1)), Some(&(5..=5)), Some(&(3..=3))));
-    assert!(rt; found.next().is_none() && found.next_back().is_none());
-    assert!(rt; found.next().is_none());
+    let found = set.overlapping(&query);
+    check_found_three(&rt, found, (&(0..=1), &(3..=3), &(5..=5)));
     Ok(())
 }

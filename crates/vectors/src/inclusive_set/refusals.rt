@@ -10,11 +10,13 @@ use crate::trials::maps::{Row, check_refusals};
 use crate::trials::{Heap, MANY};
 use rangemap::RangeInclusiveSet;
 use refusing::Refusing;
+use std::alloc::AllocError;
 use std::ops::RangeInclusive;
 use std::test::Fail;
 
 mod makers;
 mod operations;
+mod replays;
 
 /// A set of keys whose clones take memory.
 type CostlySet<'a> = RangeInclusiveSet<Costly<'a>, Costly<'a>, &'a Heap>;
@@ -33,6 +35,10 @@ impl<'a> InRows for CostlySet<'a> {
 
     fn value(_heap: &'a Heap, _row: &()) -> Result<(), Fail> {
         Ok(())
+    }
+
+    fn copy(&self) -> Result<Self, AllocError> {
+        self.clone()
     }
 
     fn is_range(range: &RangeInclusive<Costly<'a>>, row: &Ends) -> bool {

@@ -12,7 +12,6 @@ type Bytes = RangeInclusiveSet<u8, u8, Global>;
 
 #[test]
 fn what_nothing_covers_is_free(rt: HostRuntime) -> Result<(), Fail> {
-    let mut sets: Vec<Bytes, _> = Vec::new(rt.alloc());
     let calls = [
         Call::New,
         Call::Insert {
@@ -29,10 +28,13 @@ fn what_nothing_covers_is_free(rt: HostRuntime) -> Result<(), Fail> {
             range: 10..=249,
         },
     ];
-    let answers = replay(rt.alloc(), &mut sets, Vec::from_array(rt.alloc(), calls)?)?;
+    let calls = Vec::from_array(rt.alloc(), calls)?;
+    let mut sets: Vec<Bytes, _> = Vec::new(rt.alloc());
+    let answers = replay(rt.alloc(), &mut sets, calls);
     check_replayed_sets(
         &rt,
-        (answers.as_slice(), &[true; 5]),
+        answers,
+        &[true; 5],
         sets.as_slice(),
         &[&[0..=9, 250..=255], &[0..=255]],
     )?;
@@ -47,7 +49,6 @@ fn what_nothing_covers_is_free(rt: HostRuntime) -> Result<(), Fail> {
 
 #[test]
 fn what_nothing_covers_is_free_by_own_steps(rt: HostRuntime) -> Result<(), Fail> {
-    let mut sets: Vec<Bytes, _> = Vec::new(rt.alloc());
     let changes = [
         Change::New,
         Change::Insert {
@@ -65,10 +66,12 @@ fn what_nothing_covers_is_free_by_own_steps(rt: HostRuntime) -> Result<(), Fail>
         },
     ];
     let changes = Vec::from_array(rt.alloc(), changes)?;
-    let answers = replay_with_step_fns(rt.alloc(), &mut sets, changes)?;
+    let mut sets: Vec<Bytes, _> = Vec::new(rt.alloc());
+    let answers = replay_with_step_fns(rt.alloc(), &mut sets, changes);
     check_replayed_sets(
         &rt,
-        (answers.as_slice(), &[true; 5]),
+        answers,
+        &[true; 5],
         sets.as_slice(),
         &[&[0..=9, 250..=255], &[0..=255]],
     )?;
@@ -83,7 +86,6 @@ fn what_nothing_covers_is_free_by_own_steps(rt: HostRuntime) -> Result<(), Fail>
 
 #[test]
 fn two_sets_are_put_together(rt: HostRuntime) -> Result<(), Fail> {
-    let mut sets: Vec<Set, _> = Vec::new(rt.alloc());
     let calls = [
         Call::FromIter {
             ranges: Vec::from_array(rt.alloc(), [0..=4u32])?,
@@ -103,10 +105,13 @@ fn two_sets_are_put_together(rt: HostRuntime) -> Result<(), Fail> {
         },
         Call::Clear { at: 0 },
     ];
-    let answers = replay(rt.alloc(), &mut sets, Vec::from_array(rt.alloc(), calls)?)?;
+    let calls = Vec::from_array(rt.alloc(), calls)?;
+    let mut sets: Vec<Set, _> = Vec::new(rt.alloc());
+    let answers = replay(rt.alloc(), &mut sets, calls);
     check_replayed_sets(
         &rt,
-        (answers.as_slice(), &[true; 7]),
+        answers,
+        &[true; 7],
         sets.as_slice(),
         &[&[], &[4..=9], &[0..=2, 7..=9], &[4..=4]],
     )

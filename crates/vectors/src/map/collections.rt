@@ -1,6 +1,7 @@
 //! Rows about maps that are made of pairs and of other maps, and that hand their pairs over.
 
-use crate::rows::check_row;
+use crate::rows::iterators::check_counted_back;
+use crate::rows::{check_made, check_row};
 use rangemap::RangeMap;
 use std::test::Fail;
 
@@ -32,8 +33,8 @@ fn pairs_are_inserted_in_order(rt: HostRuntime) -> Result<(), Fail> {
             (20..25, 'c'),
         ],
     )?;
-    let all = RangeMap::from_iter(rt.alloc(), (0u32..3).map(|i| (0..i + 1, 'd')))?;
-    check_row(&rt, &all, &[(0..3, 'd')])
+    let made = RangeMap::from_iter(rt.alloc(), (0u32..3).map(|i| (0..i + 1, 'd')));
+    check_made(&rt, made, &[(0..3, 'd')])
 }
 
 #[test]
@@ -49,16 +50,11 @@ fn an_array_and_a_chain_are_taken(rt: HostRuntime) -> Result<(), Fail> {
 #[test]
 fn a_map_hands_its_pairs_over_from_both_ends(rt: HostRuntime) -> Result<(), Fail> {
     let map = RangeMap::from(rt.alloc(), [(0u32..2, 'a'), (4..6, 'b'), (8..9, 'c')])?;
-    let mut pairs = map.into_iter();
-    let all = pairs.size_hint();
-    let taken = (pairs.next(), pairs.next_back(), pairs.next_back());
-    let left = (pairs.size_hint(), pairs.next(), pairs.next_back());
-    assert_eq!(rt; all, (3, Some(3)));
-    assert_eq!(rt;
-        taken,
-        (Some((0..2, 'a')), Some((8..9, 'c')), Some((4..6, 'b')))
+    check_counted_back(
+        &rt,
+        map.into_iter(),
+        ((0..2, 'a'), (4..6, 'b'), (8..9, 'c')),
     );
-    assert_eq!(rt; left, ((0, Some(0)), None, None));
     Ok(())
 }
 

@@ -2,7 +2,7 @@
 
 use super::Map;
 use crate::rows::Call::Insert;
-use crate::rows::{check_ends, check_found, check_row, make};
+use crate::rows::{check_nothing, check_row, make};
 use rangemap::RangeMap;
 use std::process::Abort;
 use std::test::Fail;
@@ -11,8 +11,7 @@ use std::test::Fail;
 fn an_empty_map_has_nothing(rt: HostRuntime) -> Result<(), Fail> {
     let mut map: Map = RangeMap::new(rt.alloc());
     map.remove(0..3)?;
-    check_found(&rt, &map, &[(5, None)])?;
-    check_ends(&rt, &map, &None, &None)?;
+    check_nothing(&rt, &map, &5);
     check_row(&rt, &map, &[])
 }
 

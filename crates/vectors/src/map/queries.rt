@@ -2,6 +2,7 @@
 
 use super::Map;
 use crate::rows::Call::Insert;
+use crate::rows::iterators::check_found_three;
 use crate::rows::make;
 use crate::rows::tables::{Free, Overlapped, check_free, check_queries};
 use rangemap::RangeMap;
@@ -40,26 +41,18 @@ fn overlapping_pairs_come_from_both_ends(rt: HostRuntime) -> Result<(), Fail> {
             Insert(8..9, 'c'),
         ],
     )?;
-    take_overlapping(&rt, &map)
+    take_overlapping(&rt, &map);
+    Ok(())
 }
 
 /// Takes what a query overlaps from both ends, and asks on.
-fn take_overlapping<R: Abort>(rt: &R, map: &Map) -> Result<(), Fail> {
+fn take_overlapping<R: Abort>(rt: &R, map: &Map) {
     let query = 1..8;
-    let mut found = map.overlapping(&query);
-    assert_eq!(rt; found.size_hint(), (0, None));
-    let taken = (found.next(), found.next_back(), found.next());
-    assert_eq!(rt;
-        taken,
-        (
-            Some((&(0..2), &'a')),
-            Some((&(4..6), &'a')),
-            Some((&(2..4), &'b'))
-        )
+    check_found_three(
+        rt,
+        map.overlapping(&query),
+        ((&(0..2), &'a'), (&(2..4), &'b'), (&(4..6), &'a')),
     );
-    assert!(rt; found.next().is_none() && found.next_back().is_none());
-    assert!(rt; found.next().is_none());
-    Ok(())
 }
 
 #[test]

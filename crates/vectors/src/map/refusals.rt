@@ -9,7 +9,9 @@ use crate::trials::maps::{Row, check_refusals};
 use crate::trials::{Heap, MANY};
 use rangemap::RangeMap;
 use refusing::Refusing;
+use std::alloc::AllocError;
 use std::ops::Range;
+use std::process::Abort;
 use std::test::Fail;
 
 mod makers;
@@ -38,6 +40,10 @@ impl<'a> InRows for Texts<'a> {
         Ok(String::from_str(heap, *row)?)
     }
 
+    fn copy(&self) -> Result<Self, AllocError> {
+        self.clone()
+    }
+
     fn is_range(range: &Range<u32>, row: &Range<u32>) -> bool {
         range == row
     }
@@ -61,6 +67,10 @@ impl<'a> InRows for Names<'a> {
 
     fn value(_heap: &'a Heap, row: &char) -> Result<char, Fail> {
         Ok(*row)
+    }
+
+    fn copy(&self) -> Result<Self, AllocError> {
+        self.clone()
     }
 
     fn is_range(range: &Range<Text<'a>>, row: &Ends) -> bool {
@@ -118,9 +128,15 @@ fn each_request_may_be_refused(rt: HostRuntime) -> Result<(), Fail> {
 /// A row over the map over texts.
 type NamesRow<'r> = Row<'r, Ends, char>;
 
+/// Tries the call of each row.
+#[tactic(auto, using(crate::proofs::Texts::clones_tie))]
+fn check_names<R: AllocGlobal + Abort>(rt: &R, rows: &[NamesRow<'_>]) -> Result<(), Fail> {
+    let heap = Refusing::new(rt.alloc(), MANY);
+    check_refusals::<_, Names<'_>>(rt, &heap, rows)
+}
+
 // Both ends of each piece that stays are cloned, and both ends of a gap.
 #[test]
-#[tactic(auto, using(crate::proofs::Texts::clones_tie))]
 fn each_clone_of_a_key_may_be_refused(rt: HostRuntime) -> Result<(), Fail> {
     let rows: [NamesRow<'_>; 2] = [
         (
@@ -137,6 +153,5 @@ fn each_clone_of_a_key_may_be_refused(rt: HostRuntime) -> Result<(), Fail> {
             2,
         ),
     ];
-    let heap = Refusing::new(rt.alloc(), MANY);
-    check_refusals::<_, Names<'_>>(&rt, &heap, &rows)
+    check_names(&rt, &rows)
 }

@@ -6,7 +6,6 @@ use std::test::Fail;
 
 #[test]
 fn insert_inside_and_back(rt: HostRuntime) -> Result<(), Fail> {
-    let mut maps = Vec::new(rt.alloc());
     let calls = [
         Call::Change(Change::New),
         Call::Change(Change::Insert {
@@ -20,10 +19,13 @@ fn insert_inside_and_back(rt: HostRuntime) -> Result<(), Fail> {
             value: true,
         }),
     ];
-    let answers = replay(rt.alloc(), &mut maps, Vec::from_array(rt.alloc(), calls)?)?;
+    let calls = Vec::from_array(rt.alloc(), calls)?;
+    let mut maps = Vec::new(rt.alloc());
+    let answers = replay(rt.alloc(), &mut maps, calls);
     check_replayed(
         &rt,
-        (answers.as_slice(), &[true; 3]),
+        answers,
+        &[true; 3],
         maps.as_slice(),
         &[&[(0..3, false), (3..6, true), (6..10, false)]],
     )?;
@@ -32,18 +34,13 @@ fn insert_inside_and_back(rt: HostRuntime) -> Result<(), Fail> {
         range: 3u32..6,
         value: false,
     })];
-    let answers = replay(rt.alloc(), &mut maps, Vec::from_array(rt.alloc(), calls)?)?;
-    check_replayed(
-        &rt,
-        (answers.as_slice(), &[true]),
-        maps.as_slice(),
-        &[&[(0..10, false)]],
-    )
+    let calls = Vec::from_array(rt.alloc(), calls)?;
+    let answers = replay(rt.alloc(), &mut maps, calls);
+    check_replayed(&rt, answers, &[true], maps.as_slice(), &[&[(0..10, false)]])
 }
 
 #[test]
 fn two_that_touch(rt: HostRuntime) -> Result<(), Fail> {
-    let mut maps = Vec::new(rt.alloc());
     let calls = [
         Call::Change(Change::New),
         Call::Change(Change::Insert {
@@ -62,10 +59,13 @@ fn two_that_touch(rt: HostRuntime) -> Result<(), Fail> {
             value: 'a',
         }),
     ];
-    let answers = replay(rt.alloc(), &mut maps, Vec::from_array(rt.alloc(), calls)?)?;
+    let calls = Vec::from_array(rt.alloc(), calls)?;
+    let mut maps = Vec::new(rt.alloc());
+    let answers = replay(rt.alloc(), &mut maps, calls);
     check_replayed(
         &rt,
-        (answers.as_slice(), &[true; 4]),
+        answers,
+        &[true; 4],
         maps.as_slice(),
         &[&[(0..7, 'a'), (7..9, 'b')]],
     )
@@ -73,7 +73,6 @@ fn two_that_touch(rt: HostRuntime) -> Result<(), Fail> {
 
 #[test]
 fn remove_inside(rt: HostRuntime) -> Result<(), Fail> {
-    let mut maps = Vec::new(rt.alloc());
     let calls = [
         Call::Change(Change::New),
         Call::Change(Change::Insert {
@@ -84,10 +83,13 @@ fn remove_inside(rt: HostRuntime) -> Result<(), Fail> {
         Call::Change(Change::Remove { at: 0, range: 3..6 }),
         Call::Change(Change::Remove { at: 0, range: 4..5 }),
     ];
-    let answers = replay(rt.alloc(), &mut maps, Vec::from_array(rt.alloc(), calls)?)?;
+    let calls = Vec::from_array(rt.alloc(), calls)?;
+    let mut maps = Vec::new(rt.alloc());
+    let answers = replay(rt.alloc(), &mut maps, calls);
     check_replayed(
         &rt,
-        (answers.as_slice(), &[true; 4]),
+        answers,
+        &[true; 4],
         maps.as_slice(),
         &[&[(0..3, 'a'), (6..10, 'a')]],
     )
@@ -95,7 +97,6 @@ fn remove_inside(rt: HostRuntime) -> Result<(), Fail> {
 
 #[test]
 fn maps_of_maps_and_of_pairs(rt: HostRuntime) -> Result<(), Fail> {
-    let mut maps = Vec::new(rt.alloc());
     let first = Vec::from_array(rt.alloc(), [(0u32..10, 'a'), (3..6, 'b')])?;
     let second = Vec::from_array(rt.alloc(), [(20u32..30, 'c')])?;
     let calls = [
@@ -115,13 +116,13 @@ fn maps_of_maps_and_of_pairs(rt: HostRuntime) -> Result<(), Fail> {
         }),
         Call::Change(Change::Remove { at: 2, range: 0..1 }),
     ];
-    let answers = replay(rt.alloc(), &mut maps, Vec::from_array(rt.alloc(), calls)?)?;
+    let calls = Vec::from_array(rt.alloc(), calls)?;
+    let mut maps = Vec::new(rt.alloc());
+    let answers = replay(rt.alloc(), &mut maps, calls);
     check_replayed(
         &rt,
-        (
-            answers.as_slice(),
-            &[true, true, true, true, false, false, false],
-        ),
+        answers,
+        &[true, true, true, true, false, false, false],
         maps.as_slice(),
         &[&[(20..30, 'c')], &[(0..3, 'a'), (3..6, 'b'), (6..10, 'a')]],
     )

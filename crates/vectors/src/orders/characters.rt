@@ -1,6 +1,7 @@
 //! A set of characters, whose ranges touch over the surrogates.
 
-use crate::rows::{check_gaps, check_set, make_set};
+use crate::rows::Call::Insert;
+use crate::rows::tables::{check_free, check_inserts, check_removals};
 use rangemap::RangeInclusiveSet;
 use std::alloc::Global;
 use std::test::Fail;
@@ -10,25 +11,38 @@ type Chars = RangeInclusiveSet<char, char, Global>;
 
 #[test]
 fn characters_touch_over_the_surrogates(rt: HostRuntime) -> Result<(), Fail> {
-    let mut set: Chars = make_set(
-        rt.alloc(),
-        &['\u{0}'..='\u{D7FF}', '\u{E000}'..='\u{10FFFF}'],
-    )?;
-    check_set(&rt, &set, &['\u{0}'..='\u{10FFFF}'])?;
-    set.remove('\u{E000}'..='\u{E000}')?;
-    check_set(
+    check_inserts::<Chars, _>(
         &rt,
-        &set,
-        &['\u{0}'..='\u{D7FF}', '\u{E001}'..='\u{10FFFF}'],
+        rt.alloc(),
+        &[(
+            &['\u{0}'..='\u{D7FF}'],
+            '\u{E000}'..='\u{10FFFF}',
+            &['\u{0}'..='\u{10FFFF}'],
+        )],
+    )?;
+    check_removals::<Chars, _>(
+        &rt,
+        rt.alloc(),
+        &[(
+            &['\u{0}'..='\u{D7FF}', '\u{E000}'..='\u{10FFFF}'],
+            '\u{E000}'..='\u{E000}',
+            &['\u{0}'..='\u{D7FF}', '\u{E001}'..='\u{10FFFF}'],
+        )],
     )
 }
 
 #[test]
 fn a_gap_goes_over_the_surrogates(rt: HostRuntime) -> Result<(), Fail> {
-    let set: Chars = make_set(
+    check_free::<Chars, _>(
+        &rt,
         rt.alloc(),
-        &['\u{0}'..='\u{D7FE}', '\u{E001}'..='\u{10FFFF}'],
-    )?;
-    let whole = '\u{0}'..='\u{10FFFF}';
-    check_gaps(&rt, &set, &whole, &['\u{D7FF}'..='\u{E000}'])
+        &[(
+            &[
+                Insert('\u{0}'..='\u{D7FE}', ()),
+                Insert('\u{E001}'..='\u{10FFFF}', ()),
+            ],
+            '\u{0}'..='\u{10FFFF}',
+            &['\u{D7FF}'..='\u{E000}'],
+        )],
+    )
 }

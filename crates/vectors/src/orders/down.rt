@@ -80,7 +80,7 @@ impl StepLite for Down {
 #[cfg(test)]
 mod tests {
     use super::Down;
-    use crate::rows::{check_set, make_set};
+    use crate::rows::tables::check_inserts;
     use rangemap::{RangeInclusiveSet, StepLite};
     use std::alloc::Global;
     use std::test::Fail;
@@ -96,10 +96,14 @@ mod tests {
     #[test]
     fn a_reversed_order_goes_down(rt: HostRuntime) -> Result<(), Fail> {
         assert_eq!(rt; step_up(&Down(5), &Down(0)), Down(4));
-        let set: RangeInclusiveSet<Down, Down, Global> = make_set(
+        check_inserts::<RangeInclusiveSet<Down, Down, Global>, _>(
+            &rt,
             rt.alloc(),
-            &[Down(255)..=Down(128), Down(127)..=Down(0)],
-        )?;
-        check_set(&rt, &set, &[Down(255)..=Down(0)])
+            &[(
+                &[Down(255)..=Down(128)],
+                Down(127)..=Down(0),
+                &[Down(255)..=Down(0)],
+            )],
+        )
     }
 }

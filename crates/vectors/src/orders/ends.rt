@@ -19,6 +19,9 @@ struct Ends<K> {
     max: K,
 }
 
+/// A set of keys that have steps of their own.
+type Set<K> = RangeInclusiveSet<K, K, Global>;
+
 /// From its least key to its greatest a type is one range, from which the ends are taken and to
 /// which they are given back.
 fn goes_to_its_ends<K: StepLite + Clone + Copy + Debug, R: AllocGlobal + Abort>(
@@ -27,34 +30,79 @@ fn goes_to_its_ends<K: StepLite + Clone + Copy + Debug, R: AllocGlobal + Abort>(
 ) -> Result<(), Fail>
     requires { KeysCloneFaithfully K.is_clone K.cmp }
 {
-    let mut set: RangeInclusiveSet<K, K, Global> = RangeInclusiveSet::new(rt.alloc());
-    let whole = ends.min..=ends.max;
+    let mut set: Set<K> = RangeInclusiveSet::new(rt.alloc());
+    fill(rt, &mut set, &ends)?;
+    take_ends(rt, &mut set, &ends)?;
+    give_back_ends(rt, &mut set, &ends)
+}
+
+/// Inserts all keys, which leaves no gap.
+fn fill<K: StepLite + Clone + Copy + Debug, R: Abort>(
+    rt: &R,
+    set: &mut Set<K>,
+    ends: &Ends<K>,
+) -> Result<(), Fail>
+    requires { KeysCloneFaithfully K.is_clone K.cmp }
+{
     let all = filled(ends.min, ends.max)?;
     set.insert(all)?;
-    assert_whole(rt, &set, &whole)?;
+    let whole = ends.min..=ends.max;
+    assert_whole(rt, set, &whole)?;
     assert!(rt; set.gaps(&whole).try_next()?.is_none());
+    Ok(())
+}
 
+/// Takes the least and the greatest key out, which leaves two gaps.
+fn take_ends<K: StepLite + Clone + Copy + Debug, R: Abort>(
+    rt: &R,
+    set: &mut Set<K>,
+    ends: &Ends<K>,
+) -> Result<(), Fail>
+    requires { KeysCloneFaithfully K.is_clone K.cmp }
+{
     let first = filled(ends.min, ends.min)?;
     let last = filled(ends.max, ends.max)?;
     set.remove(last)?;
     set.remove(first)?;
-    assert_whole(rt, &set, &(ends.second..=ends.last_but_one))?;
+    assert_whole(rt, set, &(ends.second..=ends.last_but_one))?;
+    check_end_gaps(rt, set, ends)
+}
+
+/// The gaps are the least key and the greatest.
+fn check_end_gaps<K: StepLite + Clone + Copy + Debug, R: Abort>(
+    rt: &R,
+    set: &Set<K>,
+    ends: &Ends<K>,
+) -> Result<(), Fail>
+    requires { KeysCloneFaithfully K.is_clone K.cmp }
+{
+    let whole = ends.min..=ends.max;
     let mut gaps = set.gaps(&whole);
     assert_eq!(rt; gaps.try_next()?, Some(ends.min..=ends.min));
     assert_eq!(rt; gaps.try_next()?, Some(ends.max..=ends.max));
     assert!(rt; gaps.try_next()?.is_none());
+    Ok(())
+}
 
+/// Inserts the least and the greatest key again.
+fn give_back_ends<K: StepLite + Clone + Copy + Debug, R: Abort>(
+    rt: &R,
+    set: &mut Set<K>,
+    ends: &Ends<K>,
+) -> Result<(), Fail>
+    requires { KeysCloneFaithfully K.is_clone K.cmp }
+{
     let first = filled(ends.min, ends.min)?;
     let last = filled(ends.max, ends.max)?;
     set.insert(first)?;
     set.insert(last)?;
-    assert_whole(rt, &set, &whole)
+    assert_whole(rt, set, &(ends.min..=ends.max))
 }
 
 /// The set has this one range.
 fn assert_whole<K: StepLite + Clone + Copy + Debug, R: Abort>(
     rt: &R,
-    set: &RangeInclusiveSet<K, K, Global>,
+    set: &Set<K>,
     range: &RangeInclusive<K>,
 ) -> Result<(), Fail> {
     assert_eq!(rt; set.len(), 1);

@@ -2,7 +2,8 @@
 
 use crate::map::filled;
 use rangemap::RangeMap;
-use std::alloc::{AllocError, Global};
+use std::alloc::{AllocError, AllocGlobal, Global};
+use std::process::Abort;
 use std::test::Fail;
 
 /// A text of its own.
@@ -10,35 +11,103 @@ fn text(text: &str, alloc: Global) -> Result<String, AllocError> {
     String::from_str(alloc, text)
 }
 
-#[test]
+/// Numbers at texts.
+type Texts = RangeMap<String, u32, Global>;
+
+/// Gives the texts between two ends a value.
 #[tactic(auto, using(crate::proofs::Texts::clones_tie))]
-fn texts_are_keys(rt: HostRuntime) -> Result<(), Fail> {
-    let alloc = rt.alloc();
-    let mut map: RangeMap<String, u32, Global> = RangeMap::new(alloc);
-    map.insert(filled(text("a", alloc)?, text("m", alloc)?)?, 1)?;
-    map.insert(filled(text("m", alloc)?, text("z", alloc)?)?, 1)?;
-    assert_eq!(rt; map.len(), 1);
-    map.insert(filled(text("fig", alloc)?, text("figs", alloc)?)?, 2)?;
-    assert_eq!(rt; map.len(), 3);
-    assert_eq!(rt; map.get(&text("fi", alloc)?), Some(&1));
-    assert_eq!(rt; map.get(&text("fig", alloc)?), Some(&2));
-    assert_eq!(rt; map.get(&text("figs", alloc)?), Some(&1));
-    assert_eq!(rt; map.get(&text("z", alloc)?), None);
+fn insert_texts(
+    map: &mut Texts,
+    alloc: Global,
+    ends: (&str, &str),
+    value: u32,
+) -> Result<(), Fail> {
+    let end = text(ends.1, alloc)?;
+    map.insert(filled(text(ends.0, alloc)?, end)?, value)?;
     Ok(())
+}
+
+/// The value at a text.
+fn at_text(map: &Texts, alloc: Global, key: &str) -> Result<Option<u32>, AllocError> {
+    Ok(map.get(&text(key, alloc)?).copied())
+}
+
+#[test]
+fn texts_are_keys(rt: HostRuntime) -> Result<(), Fail> {
+    let mut map: Texts = RangeMap::new(rt.alloc());
+    check_texts(&rt, &mut map)
+}
+
+/// Inserts texts into an empty map, and looks them up.
+fn check_texts<R: AllocGlobal + Abort>(rt: &R, map: &mut Texts) -> Result<(), Fail> {
+    let alloc = rt.alloc();
+    insert_texts(map, alloc, ("a", "m"), 1)?;
+    insert_texts(map, alloc, ("m", "z"), 1)?;
+    assert_eq!(rt; map.len(), 1);
+    insert_texts(map, alloc, ("fig", "figs"), 2)?;
+    assert_eq!(rt; map.len(), 3);
+    let inner = (at_text(map, alloc, "fi")?, at_text(map, alloc, "fig")?);
+    let outer = (at_text(map, alloc, "figs")?, at_text(map, alloc, "z")?);
+    assert_eq!(rt; (inner, outer), ((Some(1), Some(2)), (Some(1), None)));
+    Ok(())
+}
+
+/// Letters at pairs of a text and a number.
+type Pairs = RangeMap<(String, u32), char, Global>;
+
+/// A pair as it stands in a test.
+type Pair<'a> = (&'a str, u32);
+
+/// Gives the pairs between two ends a value.
+fn insert_pairs(
+    map: &mut Pairs,
+    alloc: Global,
+    (start, end): (Pair<'_>, Pair<'_>),
+    value: char,
+) -> Result<(), Fail> {
+    let last = (text(end.0, alloc)?, end.1);
+    map.insert(filled((text(start.0, alloc)?, start.1), last)?, value)?;
+    Ok(())
+}
+
+/// Takes the pairs between two ends out.
+fn remove_pairs(
+    map: &mut Pairs,
+    alloc: Global,
+    (start, end): (Pair<'_>, Pair<'_>),
+) -> Result<(), Fail> {
+    let last = (text(end.0, alloc)?, end.1);
+    map.remove(filled((text(start.0, alloc)?, start.1), last)?)?;
+    Ok(())
+}
+
+/// The value at a pair.
+fn at_pair(map: &Pairs, alloc: Global, key: Pair<'_>) -> Result<Option<char>, AllocError> {
+    Ok(map.get(&(text(key.0, alloc)?, key.1)).copied())
 }
 
 #[test]
 fn pairs_of_a_text_and_a_number_are_keys(rt: HostRuntime) -> Result<(), Fail> {
+    let mut map: Pairs = RangeMap::new(rt.alloc());
+    check_pairs(&rt, &mut map)
+}
+
+/// Inserts pairs into an empty map, removes one, and looks them up.
+fn check_pairs<R: AllocGlobal + Abort>(rt: &R, map: &mut Pairs) -> Result<(), Fail> {
     let alloc = rt.alloc();
-    let mut map: RangeMap<(String, u32), char, Global> = RangeMap::new(alloc);
-    map.insert(filled((text("a", alloc)?, 5), (text("b", alloc)?, 0))?, 'x')?;
-    map.insert(filled((text("b", alloc)?, 0), (text("b", alloc)?, 7))?, 'x')?;
+    insert_pairs(map, alloc, (("a", 5), ("b", 0)), 'x')?;
+    insert_pairs(map, alloc, (("b", 0), ("b", 7)), 'x')?;
     assert_eq!(rt; map.len(), 1);
-    map.remove(filled((text("a", alloc)?, 9), (text("a", alloc)?, 10))?)?;
+    remove_pairs(map, alloc, (("a", 9), ("a", 10)))?;
     assert_eq!(rt; map.len(), 2);
-    assert_eq!(rt; map.get(&(text("a", alloc)?, 4)), None);
-    assert_eq!(rt; map.get(&(text("a", alloc)?, 9)), None);
-    assert_eq!(rt; map.get(&(text("a", alloc)?, 10)), Some(&'x'));
-    assert_eq!(rt; map.get(&(text("b", alloc)?, 6)), Some(&'x'));
+    let before = (
+        at_pair(map, alloc, ("a", 4))?,
+        at_pair(map, alloc, ("a", 9))?,
+    );
+    let behind = (
+        at_pair(map, alloc, ("a", 10))?,
+        at_pair(map, alloc, ("b", 6))?,
+    );
+    assert_eq!(rt; (before, behind), ((None, None), (Some('x'), Some('x'))));
     Ok(())
 }

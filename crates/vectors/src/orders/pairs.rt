@@ -43,7 +43,8 @@ impl StepFns<(u8, u8)> for PairSteps {
 #[cfg(test)]
 mod tests {
     use super::PairSteps;
-    use crate::rows::{check_gaps, check_set, make_set};
+    use crate::rows::Call::Insert;
+    use crate::rows::tables::{check_free, check_inserts, check_removals};
     use rangemap::RangeInclusiveSet;
     use std::alloc::Global;
     use std::test::Fail;
@@ -53,16 +54,32 @@ mod tests {
 
     #[test]
     fn pairs_touch_over_their_second_byte(rt: HostRuntime) -> Result<(), Fail> {
-        let set: Pairs = make_set(rt.alloc(), &[(0, 0)..=(1, 255), (2, 0)..=(2, 0)])?;
-        check_set(&rt, &set, &[(0, 0)..=(2, 0)])
+        check_inserts::<Pairs, _>(
+            &rt,
+            rt.alloc(),
+            &[(&[(0, 0)..=(1, 255)], (2, 0)..=(2, 0), &[(0, 0)..=(2, 0)])],
+        )
     }
 
     #[test]
     fn the_last_pair_is_not_stepped_past(rt: HostRuntime) -> Result<(), Fail> {
-        let mut set: Pairs = make_set(rt.alloc(), &[(0, 0)..=(2, 0), (2, 2)..=(255, 255)])?;
-        let whole = (0, 0)..=(255, 255);
-        check_gaps(&rt, &set, &whole, &[(2, 1)..=(2, 1)])?;
-        set.remove((255, 255)..=(255, 255))?;
-        check_set(&rt, &set, &[(0, 0)..=(2, 0), (2, 2)..=(255, 254)])
+        check_free::<Pairs, _>(
+            &rt,
+            rt.alloc(),
+            &[(
+                &[Insert((0, 0)..=(2, 0), ()), Insert((2, 2)..=(255, 255), ())],
+                (0, 0)..=(255, 255),
+                &[(2, 1)..=(2, 1)],
+            )],
+        )?;
+        check_removals::<Pairs, _>(
+            &rt,
+            rt.alloc(),
+            &[(
+                &[(0, 0)..=(2, 0), (2, 2)..=(255, 255)],
+                (255, 255)..=(255, 255),
+                &[(0, 0)..=(2, 0), (2, 2)..=(255, 254)],
+            )],
+        )
     }
 }

@@ -1,21 +1,18 @@
 //! What a map over closed ranges gives of its pairs: their count, and the newest of equal values.
 
 use crate::map::inserts::Noted;
+use crate::rows::iterators::check_counted;
 use rangemap::RangeInclusiveMap;
 use std::test::Fail;
 
 #[test]
 fn an_iterator_counts_what_is_left(rt: HostRuntime) -> Result<(), Fail> {
     let map = RangeInclusiveMap::from(rt.alloc(), [(0..=1u8, 'a'), (4..=5, 'b'), (8..=9, 'c')])?;
-    let mut pairs = map.iter();
-    assert_eq!(rt; pairs.size_hint(), (3, Some(3)));
-    assert_eq!(rt; pairs.next(), Some((&(0..=1), &'a')));
-    assert_eq!(rt; pairs.next_back(), Some((&(8..=9), &'c')));
-    assert_eq!(rt; pairs.size_hint(), (1, Some(1)));
-    assert_eq!(rt; pairs.next(), Some((&(4..=5), &'b')));
-    assert_eq!(rt; pairs.size_hint(), (0, Some(0)));
-    assert!(rt; pairs.next().is_none() && pairs.next_back().is_none());
-    assert_eq!(rt; pairs.size_hint(), (0, Some(0)));
+    check_counted(
+        &rt,
+        map.iter(),
+        ((&(0..=1), &'a'), (&(4..=5), &'b'), (&(8..=9), &'c')),
+    );
     Ok(())
 }
 

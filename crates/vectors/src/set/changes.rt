@@ -2,7 +2,7 @@
 
 use super::Set;
 use crate::rows::tables::{SetChanged, check_inserts, check_removals};
-use crate::rows::{check_ends, check_found, check_set, make_set};
+use crate::rows::{check_nothing, check_set, make_set};
 use std::ops::Range;
 use std::process::Abort;
 use std::test::Fail;
@@ -52,7 +52,6 @@ fn check_ranges<R: Abort>(rt: &R, set: &Set) -> Result<(), Fail> {
 fn an_empty_set_has_nothing(rt: HostRuntime) -> Result<(), Fail> {
     let mut set: Set = make_set(rt.alloc(), &[0..100])?;
     set.clear();
-    check_found(&rt, &set, &[(5, None)])?;
-    check_ends(&rt, &set, &None, &None)?;
+    check_nothing(&rt, &set, &5);
     check_set(&rt, &set, &[])
 }

@@ -1,8 +1,10 @@
 //! Rows about sets that are made of ranges and of other sets, and that hand their ranges over.
 
 use super::Set;
-use crate::rows::{check_equality, check_set, make_set};
+use crate::rows::iterators::{check_counted, check_counted_back};
+use crate::rows::{check_equality, check_made_set, check_set, make_set};
 use rangemap::{RangeSet, range_set};
+use std::alloc::AllocError;
 use std::process::Abort;
 use std::test::Fail;
 
@@ -11,68 +13,56 @@ fn equality_forgets_the_calls(rt: HostRuntime) -> Result<(), Fail> {
     let mut set: Set = make_set(rt.alloc(), &[0..10])?;
     set.remove(3..6)?;
     set.insert(3..6)?;
-    check_equality(&rt, rt.alloc(), &set, &[0..10], true)?;
-    check_equality(&rt, rt.alloc(), &set, &[0..9], false)?;
-    check_equality(&rt, rt.alloc(), &set, &[0..10, 11..12], false)
+    check_others(&rt, &set)
+}
+
+/// Compares a set with equal and with other ones.
+fn check_others<R: AllocGlobal + Abort>(rt: &R, set: &Set) -> Result<(), Fail> {
+    check_equality(rt, rt.alloc(), set, &[0..10], true)?;
+    check_equality(rt, rt.alloc(), set, &[0..9], false)?;
+    check_equality(rt, rt.alloc(), set, &[0..10, 11..12], false)
 }
 
 #[test]
 fn ranges_are_inserted_in_order(rt: HostRuntime) -> Result<(), Fail> {
-    let mut set = RangeSet::from(rt.alloc(), [0u32..5, 5..9])?;
-    check_set(&rt, &set, &[0..9])?;
+    let mut set: Set = RangeSet::from(rt.alloc(), [0..5, 5..9])?;
+    extend_beside_a_copy(&rt, &mut set)
+}
+
+/// Extends a set, which leaves a copy of it as it was.
+fn extend_beside_a_copy<R: Abort>(rt: &R, set: &mut Set) -> Result<(), Fail> {
+    check_set(rt, set, &[0..9])?;
     let copy = set.clone()?;
-    assert!(rt; copy == set);
+    assert!(rt; copy == *set);
     set.extend((1u32..3).map(|i| 10 * i..10 * i + 5))?;
-    check_set(&rt, &set, &[0..9, 10..15, 20..25])?;
-    check_set(&rt, &copy, &[0..9])
+    check_set(rt, set, &[0..9, 10..15, 20..25])?;
+    check_set(rt, &copy, &[0..9])
 }
 
 #[test]
 fn a_set_is_made_of_an_iterator(rt: HostRuntime) -> Result<(), Fail> {
-    let set = RangeSet::from_iter(rt.alloc(), (0u32..3).map(|i| 10 * i..10 * i + 5))?;
-    check_set(&rt, &set, &[0..5, 10..15, 20..25])
+    let made = RangeSet::from_iter(rt.alloc(), (0u32..3).map(|i| 10 * i..10 * i + 5));
+    check_made_set(&rt, made, &[0..5, 10..15, 20..25])
 }
 
 #[test]
 fn a_list_makes_a_set(rt: HostRuntime) -> Result<(), Fail> {
-    let set = range_set![in rt.alloc(); 0u32..100, 200..300, 400..500]?;
-    check_set(&rt, &set, &[0..100, 200..300, 400..500])?;
-    let none: Set = range_set![in rt.alloc();]?;
-    check_set(&rt, &none, &[])
+    let made = range_set![in rt.alloc(); 0u32..100, 200..300, 400..500];
+    check_made_set(&rt, made, &[0..100, 200..300, 400..500])?;
+    let none: Result<Set, AllocError> = range_set![in rt.alloc();];
+    check_made_set(&rt, none, &[])
 }
 
 #[test]
 fn an_iterator_counts_what_is_left(rt: HostRuntime) -> Result<(), Fail> {
     let set: Set = make_set(rt.alloc(), &[0..2, 4..6, 8..9])?;
-    take_lent(&rt, &set)
-}
-
-/// Takes the ranges from both ends, and asks on.
-fn take_lent<R: Abort>(rt: &R, set: &Set) -> Result<(), Fail> {
-    let mut ranges = set.iter();
-    assert_eq!(rt; ranges.size_hint(), (3, Some(3)));
-    assert_eq!(rt;
-        (ranges.next(), ranges.next_back()),
-        (Some(&(0..2)), Some(&(8..9)))
-    );
-    assert_eq!(rt; ranges.size_hint(), (1, Some(1)));
-    assert_eq!(rt; (ranges.next(), ranges.next()), (Some(&(4..6)), None));
-    assert_eq!(rt;
-        (ranges.size_hint(), ranges.next_back()),
-        ((0, Some(0)), None)
-    );
+    check_counted(&rt, set.iter(), (&(0..2), &(4..6), &(8..9)));
     Ok(())
 }
 
 #[test]
 fn a_set_hands_its_ranges_over_from_both_ends(rt: HostRuntime) -> Result<(), Fail> {
     let set: Set = make_set(rt.alloc(), &[0..2, 4..6, 8..9])?;
-    let mut ranges = set.into_iter();
-    let all = ranges.size_hint();
-    let taken = (ranges.next(), ranges.next_back(), ranges.next_back());
-    let left = (ranges.size_hint(), ranges.next(), ranges.next_back());
-    assert_eq!(rt; all, (3, Some(3)));
-    assert_eq!(rt; taken, (Some(0..2), Some(8..9), Some(4..6)));
-    assert_eq!(rt; left, ((0, Some(0)), None, None));
+    check_counted_back(&rt, set.into_iter(), (0..2, 4..6, 8..9));
     Ok(())
 }

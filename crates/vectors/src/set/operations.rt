@@ -1,7 +1,7 @@
 //! Rows about unions and intersections.
 
 use super::Set;
-use crate::rows::{check_items, check_set, make_set};
+use crate::rows::{check_items, check_made_set, make_set};
 use rangemap::set::{Intersection, Iter, Union};
 use std::ops::Range;
 use std::process::Abort;
@@ -62,7 +62,7 @@ fn check_union<R: Abort>(
     row: (Ranges<'_>, Ranges<'_>),
 ) -> Result<(), Fail> {
     check_items::<Set, _, _>(rt, left.union(right), row.0)?;
-    check_set(rt, &(left | right)?, row.1)
+    check_made_set(rt, left | right, row.1)
 }
 
 /// Compares the items of the intersection, and the set of `&`.
@@ -73,7 +73,7 @@ fn check_intersection<R: Abort>(
     row: Ranges<'_>,
 ) -> Result<(), Fail> {
     check_items::<Set, _, _>(rt, left.intersection(right), row)?;
-    check_set(rt, &(left & right)?, row)
+    check_made_set(rt, left & right, row)
 }
 
 #[test]
@@ -112,8 +112,8 @@ fn without_the_first<R: Abort>(
     right: &Set,
 ) -> Result<(), Fail> {
     assert_eq!(rt; (one.next(), other.next()), (Some(&(0..2)), Some(&(0..2))));
-    check_items::<Set, _, _>(rt, Intersection::new(one, right.iter()), &[5..6, 8..9])?;
-    check_items::<Set, _, _>(rt, Union::new(other, right.iter()), &[4..10])
+    check_common(rt, one, right, &[5..6, 8..9])?;
+    check_either(rt, other, right, &[4..10])
 }
 
 /// Takes the last range of each iterator, and compares what the rest and a set make.
@@ -127,18 +127,67 @@ fn without_the_last<R: Abort>(
         (one.next_back(), other.next_back()),
         (Some(&(8..10)), Some(&(8..10)))
     );
-    check_items::<Set, _, _>(rt, Union::new(one, right.iter()), &[0..2, 4..9])?;
-    check_items::<Set, _, _>(rt, Intersection::new(other, right.iter()), &[5..6])
+    check_either(rt, one, right, &[0..2, 4..9])?;
+    check_common(rt, other, right, &[5..6])
+}
+
+/// Compares what the rest of a set and another set have in common.
+fn check_common<R: Abort>(
+    rt: &R,
+    rest: Iter<'_, u32>,
+    right: &Set,
+    row: Ranges<'_>,
+) -> Result<(), Fail> {
+    check_items::<Set, _, _>(rt, Intersection::new(rest, right.iter()), row)
+}
+
+/// Compares what either the rest of a set or another set has.
+fn check_either<R: Abort>(
+    rt: &R,
+    rest: Iter<'_, u32>,
+    right: &Set,
+    row: Ranges<'_>,
+) -> Result<(), Fail> {
+    check_items::<Set, _, _>(rt, Union::new(rest, right.iter()), row)
 }
 
 #[test]
 fn what_is_common_distributes(rt: HostRuntime) -> Result<(), Fail> {
     let first: Set = make_set(rt.alloc(), &[0..5])?;
     let second: Set = make_set(rt.alloc(), &[5..10])?;
+    check_distributed(&rt, &first, &second)
+}
+
+/// Compares what either set has in common with a third, and what each has in common with it.
+fn check_distributed<R: AllocGlobal + Abort>(
+    rt: &R,
+    first: &Set,
+    second: &Set,
+) -> Result<(), Fail> {
     let third: Set = make_set(rt.alloc(), &[3..7])?;
-    let either = (&first | &second)?;
-    check_set(&rt, &(&either & &third)?, &[3..7])?;
-    let left = (&first & &third)?;
-    let right = (&second & &third)?;
-    check_set(&rt, &(&left | &right)?, &[3..7])
+    check_common_of_either(rt, first, second, &third)?;
+    check_either_of_common(rt, first, second, &third)
+}
+
+/// Compares what either of two sets has in common with a third.
+fn check_common_of_either<R: Abort>(
+    rt: &R,
+    first: &Set,
+    second: &Set,
+    third: &Set,
+) -> Result<(), Fail> {
+    let either = (first | second)?;
+    check_made_set(rt, &either & third, &[3..7])
+}
+
+/// Compares what each of two sets has in common with a third, put together.
+fn check_either_of_common<R: Abort>(
+    rt: &R,
+    first: &Set,
+    second: &Set,
+    third: &Set,
+) -> Result<(), Fail> {
+    let left = (first & third)?;
+    let right = (second & third)?;
+    check_made_set(rt, &left | &right, &[3..7])
 }

@@ -2,9 +2,9 @@
 
 use super::Set;
 use crate::rows::Call::Insert;
+use crate::rows::iterators::check_found_three;
 use crate::rows::make_set;
-use crate::rows::tables::check_free;
-use std::ops::Range;
+use crate::rows::tables::{check_free, check_queries};
 use std::process::Abort;
 use std::test::Fail;
 
@@ -47,46 +47,26 @@ fn take_gaps<R: Abort>(rt: &R, set: &Set) -> Result<(), Fail> {
 
 #[test]
 fn a_query_may_be_empty_or_reversed(rt: HostRuntime) -> Result<(), Fail> {
-    check_query_rows(
+    let (early, late) = ([Insert(3..8, ())], [Insert(5..8, ())]);
+    let stored = [(3..8, ())];
+    check_queries::<Set, _>(
         &rt,
+        rt.alloc(),
         &[
-            (3..8, 5..5, true),
-            (5..8, 5..5, false),
-            (3..8, 7..4, true),
-            (3..8, 8..0, false),
-            (3..8, 7..9, true),
+            (&early, 5..5, &stored),
+            (&late, 5..5, &[]),
+            (&early, 7..4, &stored),
+            (&early, 8..0, &[]),
+            (&early, 7..9, &stored),
         ],
     )
-}
-
-/// Compares whether the query of each row overlaps the one stored range.
-fn check_query_rows<R: AllocGlobal + Abort>(
-    rt: &R,
-    rows: &[(Range<u32>, Range<u32>, bool)],
-) -> Result<(), Fail> {
-    for (stored, query, overlaps) in rows {
-        let set: Set = make_set(rt.alloc(), &[stored.start..stored.end])?;
-        assert_eq!(rt; set.overlaps(query), *overlaps);
-        let found = set.overlapping(query).next();
-        assert_eq!(rt; found, if *overlaps { Some(stored) } else { None });
-    }
-    Ok(())
 }
 
 #[test]
 fn overlapping_ranges_come_from_both_ends(rt: HostRuntime) -> Result<(), Fail> {
     let set: Set = make_set(rt.alloc(), &[0..2, 3..4, 5..6, 8..9])?;
-    take_overlapping(&rt, &set)
-}
-
-/// Takes what a query overlaps from both ends, and asks on.
-fn take_overlapping<R: Abort>(rt: &R, set: &Set) -> Result<(), Fail> {
     let query = 1..8;
-    let mut found = set.overlapping(&query);
-    assert_eq!(rt; found.size_hint(), (0, None));
-    let taken = (found.next(), found.next_back(), found.next());
-    assert_eq!(rt; taken, (Some(&(0..2)), Some(&(5..6)), Some(&(3..4))));
-    assert!(rt; found.next().is_none() && found.next_back().is_none());
-    assert!(rt; found.next().is_none());
+    let found = set.overlapping(&query);
+    check_found_three(&rt, found, (&(0..2), &(3..4), &(5..6)));
     Ok(())
 }

@@ -9,11 +9,14 @@ use crate::trials::maps::{Row, check_refusals};
 use crate::trials::{Heap, MANY};
 use rangemap::RangeSet;
 use refusing::Refusing;
+use std::alloc::AllocError;
 use std::ops::Range;
+use std::process::Abort;
 use std::test::Fail;
 
 mod makers;
 mod operations;
+mod replays;
 
 type Text<'a> = String<&'a Heap>;
 
@@ -39,6 +42,10 @@ impl<'a> InRows for Names<'a> {
         Ok(())
     }
 
+    fn copy(&self) -> Result<Self, AllocError> {
+        self.clone()
+    }
+
     fn is_range(range: &Range<Text<'a>>, row: &Ends) -> bool {
         range.start.as_str() == row.0 && range.end.as_str() == row.1
     }
@@ -61,37 +68,38 @@ const INNER: [(Ends, ()); 1] = [(("b", "d"), ())];
 /// A row over the set of texts.
 type NamesRow<'r> = Row<'r, Ends, ()>;
 
+/// Tries the call of each row.
+#[tactic(auto, using(crate::proofs::Texts::clones_tie))]
+fn check_names<R: AllocGlobal + Abort>(rt: &R, rows: &[NamesRow<'_>]) -> Result<(), Fail> {
+    let heap = Refusing::new(rt.alloc(), MANY);
+    check_refusals::<_, Names<'_>>(rt, &heap, rows)
+}
+
 // The first growth takes a request, and a clone of either end of each piece that stays, of a joined
 // range and of a gap another. (A table of several changes over such rows has no proof: the checker
 // finds several lifetimes where its type names one.)
 #[test]
-#[tactic(auto, using(crate::proofs::Texts::clones_tie))]
 fn each_request_of_an_insert_may_be_refused(rt: HostRuntime) -> Result<(), Fail> {
     let first: [NamesRow<'_>; 1] = [(&NOTHING, Change(Insert(("a", "k"), ()), &WHOLE), 1)];
     let joined: [NamesRow<'_>; 1] = [(&BEGINNING, Change(Insert(("f", "k"), ()), &WHOLE), 2)];
-    let heap = Refusing::new(rt.alloc(), MANY);
-    check_refusals::<_, Names<'_>>(&rt, &heap, &first)?;
-    check_refusals::<_, Names<'_>>(&rt, &heap, &joined)
+    check_names(&rt, &first)?;
+    check_names(&rt, &joined)
 }
 
 #[test]
-#[tactic(auto, using(crate::proofs::Texts::clones_tie))]
 fn each_request_of_a_removal_may_be_refused(rt: HostRuntime) -> Result<(), Fail> {
     let inside: [NamesRow<'_>; 1] = [(&WHOLE, Change(Remove(("c", "f")), &PIECES), 4)];
     let behind: [NamesRow<'_>; 1] = [(&WHOLE, Change(Remove(("m", "p")), &WHOLE), 0)];
-    let heap = Refusing::new(rt.alloc(), MANY);
-    check_refusals::<_, Names<'_>>(&rt, &heap, &inside)?;
-    check_refusals::<_, Names<'_>>(&rt, &heap, &behind)
+    check_names(&rt, &inside)?;
+    check_names(&rt, &behind)
 }
 
 #[test]
-#[tactic(auto, using(crate::proofs::Texts::clones_tie))]
 fn each_request_of_a_gap_and_of_a_clone_may_be_refused(rt: HostRuntime) -> Result<(), Fail> {
     let rows: [NamesRow<'_>; 2] = [
         (&INNER, Gaps(("a", "f"), ("a", "b"), ("d", "f")), 2),
         // the list, and four keys
         (&PIECES, Clone, 5),
     ];
-    let heap = Refusing::new(rt.alloc(), MANY);
-    check_refusals::<_, Names<'_>>(&rt, &heap, &rows)
+    check_names(&rt, &rows)
 }

@@ -7,7 +7,6 @@ use std::test::Fail;
 
 #[test]
 fn what_nothing_covers_is_free(rt: HostRuntime) -> Result<(), Fail> {
-    let mut sets: Vec<Set, _> = Vec::new(rt.alloc());
     let calls = [
         Call::New,
         Call::Insert {
@@ -16,13 +15,10 @@ fn what_nothing_covers_is_free(rt: HostRuntime) -> Result<(), Fail> {
         },
         Call::Insert { at: 0, range: 5..7 },
     ];
-    let answers = replay(rt.alloc(), &mut sets, Vec::from_array(rt.alloc(), calls)?)?;
-    check_replayed_sets(
-        &rt,
-        (answers.as_slice(), &[true; 3]),
-        sets.as_slice(),
-        &[&[1..3, 5..7]],
-    )?;
+    let calls = Vec::from_array(rt.alloc(), calls)?;
+    let mut sets: Vec<Set, _> = Vec::new(rt.alloc());
+    let answers = replay(rt.alloc(), &mut sets, calls);
+    check_replayed_sets(&rt, answers, &[true; 3], sets.as_slice(), &[&[1..3, 5..7]])?;
     let (all, empty, reversed) = (0..8, 4..4, 8..0);
     for set in &sets {
         check_gaps(&rt, set, &all, &[0..1, 3..5, 7..8])?;
@@ -34,7 +30,6 @@ fn what_nothing_covers_is_free(rt: HostRuntime) -> Result<(), Fail> {
 
 #[test]
 fn two_sets_are_put_together(rt: HostRuntime) -> Result<(), Fail> {
-    let mut sets: Vec<Set, _> = Vec::new(rt.alloc());
     let calls = [
         Call::FromIter {
             ranges: Vec::from_array(rt.alloc(), [0u32..5])?,
@@ -51,10 +46,13 @@ fn two_sets_are_put_together(rt: HostRuntime) -> Result<(), Fail> {
         Call::Insert { at: 1, range: 3..5 },
         Call::Union { left: 0, right: 1 },
     ];
-    let answers = replay(rt.alloc(), &mut sets, Vec::from_array(rt.alloc(), calls)?)?;
+    let calls = Vec::from_array(rt.alloc(), calls)?;
+    let mut sets: Vec<Set, _> = Vec::new(rt.alloc());
+    let answers = replay(rt.alloc(), &mut sets, calls);
     check_replayed_sets(
         &rt,
-        (answers.as_slice(), &[true; 7]),
+        answers,
+        &[true; 7],
         sets.as_slice(),
         &[&[0..5, 9..12], &[3..10], &[0..10], &[], &[0..12]],
     )
@@ -62,7 +60,6 @@ fn two_sets_are_put_together(rt: HostRuntime) -> Result<(), Fail> {
 
 #[test]
 fn what_two_sets_have_in_common(rt: HostRuntime) -> Result<(), Fail> {
-    let mut sets: Vec<Set, _> = Vec::new(rt.alloc());
     let calls = [
         Call::FromIter {
             ranges: Vec::from_array(rt.alloc(), [0u32..10, 20..30])?,
@@ -76,10 +73,13 @@ fn what_two_sets_have_in_common(rt: HostRuntime) -> Result<(), Fail> {
         // A set may be both sides.
         Call::Intersection { left: 2, right: 2 },
     ];
-    let answers = replay(rt.alloc(), &mut sets, Vec::from_array(rt.alloc(), calls)?)?;
+    let calls = Vec::from_array(rt.alloc(), calls)?;
+    let mut sets: Vec<Set, _> = Vec::new(rt.alloc());
+    let answers = replay(rt.alloc(), &mut sets, calls);
     check_replayed_sets(
         &rt,
-        (answers.as_slice(), &[true; 5]),
+        answers,
+        &[true; 5],
         sets.as_slice(),
         &[
             &[0..10, 20..30],
@@ -92,7 +92,6 @@ fn what_two_sets_have_in_common(rt: HostRuntime) -> Result<(), Fail> {
 
 #[test]
 fn calls_that_name_no_set(rt: HostRuntime) -> Result<(), Fail> {
-    let mut sets: Vec<Set, _> = Vec::new(rt.alloc());
     let calls = [
         Call::New,
         Call::Insert {
@@ -116,16 +115,16 @@ fn calls_that_name_no_set(rt: HostRuntime) -> Result<(), Fail> {
         Call::Intersection { left: 0, right: 2 },
         Call::Intersection { left: 2, right: 0 },
     ];
-    let answers = replay(rt.alloc(), &mut sets, Vec::from_array(rt.alloc(), calls)?)?;
+    let calls = Vec::from_array(rt.alloc(), calls)?;
+    let mut sets: Vec<Set, _> = Vec::new(rt.alloc());
+    let answers = replay(rt.alloc(), &mut sets, calls);
     check_replayed_sets(
         &rt,
-        (
-            answers.as_slice(),
-            &[
-                true, true, true, true, true, false, false, false, false, false, false, false,
-                false, false,
-            ],
-        ),
+        answers,
+        &[
+            true, true, true, true, true, false, false, false, false, false, false, false, false,
+            false,
+        ],
         sets.as_slice(),
         &[&[0..3, 6..10], &[]],
     )

@@ -169,21 +169,22 @@ fn try_clone<R: Abort, M: InRows>(
     requires faithful_values { ValuesCloneFaithfully M.Value.is_clone M.Value.eq }
 {
     heap.refuse_after(left);
-    let answer = map.clone();
+    let answer = map.copy();
     heap.refuse_after(MANY);
+    let is_made = is_made(rt, answer, stored)?;
     check_row(rt, map, stored)?;
-    is_made(rt, &answer, stored)
+    Ok(is_made)
 }
 
 /// Whether a map was made. One that was has the pairs.
 pub fn is_made<R: Abort, M: InRows>(
     rt: &R,
-    answer: &Result<M, AllocError>,
+    answer: Result<M, AllocError>,
     pairs: &[(M::RowRange, M::RowValue)],
 ) -> Answer {
     match answer {
         Ok(map) => {
-            check_row(rt, map, pairs)?;
+            check_row(rt, &map, pairs)?;
             Ok(true)
         }
         Err(AllocError) => Ok(false),

@@ -142,7 +142,7 @@ fn try_union_set<R: Abort, S: Operand + Combines>(
     heap.refuse_after(left);
     let answer = one.union_set(other);
     heap.refuse_after(MANY);
-    is_made(rt, &answer, row)
+    is_made(rt, answer, row)
 }
 
 /// Tries `&`, which makes a set of the row or nothing.
@@ -159,7 +159,7 @@ fn try_intersection_set<R: Abort, S: Operand + Combines>(
     heap.refuse_after(left);
     let answer = one.intersection_set(other);
     heap.refuse_after(MANY);
-    is_made(rt, &answer, row)
+    is_made(rt, answer, row)
 }
 
 /// Tries to ask for the first of two items, by `try_next` and, of the same items again, by `next`,

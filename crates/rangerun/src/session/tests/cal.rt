@@ -10,6 +10,7 @@ fn bookings_are_answered(rt: HostRuntime) -> Result<(), AllocError> {
         &["cal"],
         "",
         &[
+            ("", ""),
             (
                 "book 10 14 1\nbook 15 20 1\nbook 12 12 2\nbook 21 21 2\niter\nfree 0 25\ncancel 12 13\niter\nbook 4294967295 4294967295 3\nbook 12 13 1\niter",
                 "taken\n{10..=20: 1, 21..=21: 2}\n{0..=9, 22..=25}\n{10..=11: 1, 14..=20: 1, 21..=21: 2}\n{10..=20: 1, 21..=21: 2, 4294967295..=4294967295: 3}\n",
@@ -40,6 +41,7 @@ fn a_line_may_be_at_fault(rt: HostRuntime) -> Result<(), AllocError> {
             ("iter\nbook 5 6\niter\n", "{}\n", 2, 2),
             ("iter\ncancel 5 3\niter\n", "{}\n", 4, 2),
             ("iter\ninsert 5 6 a\niter\n", "{}\n", 2, 2),
+            ("\n", "", 2, 1),
             ("iter\n\niter\n", "{}\n", 2, 2),
             ("iter\nfree 1 4294967296\niter\n", "{}\n", 3, 2),
             // Days that are held make no difference.

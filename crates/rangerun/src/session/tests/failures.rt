@@ -1,23 +1,26 @@
-//! Reads and writes that fail, over each kind of container.
+//! Reads and writes that fail, over each kind of container and over a calendar.
 
 use super::streams::{Failure, Pieces, Sink};
-use super::{KINDS, run, words_for};
+use super::{run, words_for};
 use crate::fault::Fault;
 use std::alloc::AllocError;
 use std::io::ErrorKind;
 use std::process::Abort;
 use std::test::Fail;
 
-/// Three lines, each of four bytes, which are answered by two bytes each.
-const LINES: &[u8] = b"len\nlen\nlen\n";
+/// The words that ask for each kind of container, and for a calendar.
+const KINDS: [&str; 5] = ["map", "imap", "set", "iset", "cal"];
+
+/// Three lines, each of five bytes, which are answered by three bytes each.
+const LINES: &[u8] = b"iter\niter\niter\n";
 
 /// The answers of the lines before one.
 fn answers_before(line: u64) -> &'static str {
     match line {
         1 => "",
-        2 => "0\n",
-        3 => "0\n0\n",
-        _ => "0\n0\n0\n",
+        2 => "{}\n",
+        3 => "{}\n{}\n",
+        _ => "{}\n{}\n{}\n",
     }
 }
 
@@ -25,9 +28,9 @@ fn answers_before(line: u64) -> &'static str {
 fn each_read_may_fail(rt: HostRuntime) -> Result<(), Fail> {
     // For each size of the pieces, the line that is being read at each of the reads.
     let cases: [(usize, &[u64]); 4] = [
-        (1, &[1, 1, 1, 1, 2, 2, 2, 2, 3, 3, 3, 3, 4]),
-        (3, &[1, 1, 2, 3, 4]),
-        (4, &[1, 2, 3, 4]),
+        (1, &[1, 1, 1, 1, 1, 2, 2, 2, 2, 2, 3, 3, 3, 3, 3, 4]),
+        (3, &[1, 1, 2, 2, 3, 4]),
+        (5, &[1, 2, 3, 4]),
         (100, &[1, 4]),
     ];
     for kind in KINDS {
@@ -66,7 +69,7 @@ fn assert_reads_may_fail<R: AllocGlobal + Abort>(
 #[test]
 fn each_write_may_fail(rt: HostRuntime) -> Result<(), Fail> {
     // For each size that is written at once, the line that is being answered at each of the writes.
-    let cases: [(usize, &[u64]); 2] = [(1, &[1, 1, 2, 2, 3, 3]), (100, &[1, 2, 3])];
+    let cases: [(usize, &[u64]); 2] = [(1, &[1, 1, 1, 2, 2, 2, 3, 3, 3]), (100, &[1, 2, 3])];
     for kind in KINDS {
         for error in [ErrorKind::Other, ErrorKind::OutOfMemory] {
             for (size, lines) in cases {
@@ -130,7 +133,7 @@ fn each_flush_may_fail(rt: HostRuntime) -> Result<(), Fail> {
 fn what_was_interrupted_is_tried_again(rt: HostRuntime) -> Result<(), Fail> {
     let alloc = rt.alloc();
     for kind in KINDS {
-        for left in 0..15 {
+        for left in 0..18 {
             let failure = Failure::after(left, ErrorKind::Interrupted);
             let mut held = Vec::new(alloc);
             let input = Pieces::new(LINES, 1, failure);

@@ -30,8 +30,8 @@ fn commands_are_answered(rt: HostRuntime) -> Result<(), AllocError> {
             ("overlapping 10 12\noverlaps 10 12", "{}\nfalse\n"),
             ("overlaps 9 12", "true\n"),
             (
-                "clear\ninsert 3 8 a\noverlapping 5 5\noverlapping 8 0\ngaps 5 5",
-                "{3..8: \"a\"}\n{}\n{}\n",
+                "clear\ninsert 3 8 a\noverlapping 5 5\noverlapping 8 0\ngaps 5 5\nget 0000000000005",
+                "{3..8: \"a\"}\n{}\n{}\n3..8: \"a\"\n",
             ),
             (
                 "insert 10 4294967295 zebra\nlast",

@@ -22,7 +22,7 @@ impl Trial for From {
         heap.refuse_after(left);
         let answer = RangeInclusiveMap::from(heap, [(first, 'a'), (second, 'b')]);
         heap.refuse_after(MANY);
-        is_made(rt, &answer, &STORED)
+        is_made(rt, answer, &STORED)
     }
 }
 
@@ -40,14 +40,27 @@ type Numbers<'a> = RangeInclusiveMap<u32, char, u32, &'a Heap>;
 /// The number of pairs that are given to an extend.
 const GIVEN: u32 = 20;
 
-/// Inserts these pairs until one is refused.
-fn insert_each(map: &mut Numbers<'_>) -> Result<(), Fail> {
+/// Inserts these pairs into a map, until the request is refused that comes after `left` others.
+fn insert_each(heap: &Heap, left: u64) -> Result<Numbers<'_>, Fail> {
+    let mut map = RangeInclusiveMap::new(heap);
+    heap.refuse_after(left);
     for i in 0..GIVEN {
         if map.insert(filled(10 * i, 10 * i + 4)?, 'a').is_err() {
             break;
         }
     }
-    Ok(())
+    Ok(map)
+}
+
+/// Extends a map by these pairs, where the request is refused that comes after `left` others. It
+/// has to keep what the inserts kept.
+fn extend_beside<'a, R: Abort>(rt: &R, heap: &'a Heap, inserted: &Numbers<'a>, left: u64) -> bool {
+    let mut extended: Numbers<'a> = RangeInclusiveMap::new(heap);
+    heap.refuse_after(left);
+    let answer = extended.extend((0..GIVEN).map(|i| (10 * i..=10 * i + 4, 'a')));
+    heap.refuse_after(MANY);
+    assert!(rt; extended == *inserted, "refused after {left} requests");
+    answer.is_ok()
 }
 
 /// An extend by the pairs, beside their inserts.
@@ -55,15 +68,8 @@ struct Extending;
 
 impl Trial for Extending {
     fn is_accepted<R: AllocGlobal + Abort>(&self, rt: &R, heap: &Heap, left: u64) -> Answer {
-        let mut inserted: Numbers<'_> = RangeInclusiveMap::new(heap);
-        let mut extended: Numbers<'_> = RangeInclusiveMap::new(heap);
-        heap.refuse_after(left);
-        insert_each(&mut inserted)?;
-        heap.refuse_after(left);
-        let answer = extended.extend((0..GIVEN).map(|i| (10 * i..=10 * i + 4, 'a')));
-        heap.refuse_after(MANY);
-        assert!(rt; extended == inserted, "refused after {left} requests");
-        Ok(answer.is_ok())
+        let inserted = insert_each(heap, left)?;
+        Ok(extend_beside(rt, heap, &inserted, left))
     }
 }
 

@@ -24,7 +24,7 @@ impl Trial for From {
         heap.refuse_after(left);
         let answer = RangeInclusiveSet::from(heap, [first, second]);
         heap.refuse_after(MANY);
-        is_made(rt, &answer, &STORED)
+        is_made(rt, answer, &STORED)
     }
 }
 
@@ -42,8 +42,9 @@ type Numbers<'a> = RangeInclusiveSet<u32, u32, &'a Heap>;
 /// The number of ranges that are given to an extend.
 const GIVEN: u32 = 100;
 
-/// Inserts these ranges until one is refused. Gives those that were accepted.
-fn insert_each(set: &mut Numbers<'_>, alloc: Global) -> Result<Vec<RangeInclusive<u32>>, Fail> {
+/// Inserts these ranges into a set until one is refused. Gives those that were accepted.
+fn insert_each(heap: &Heap, alloc: Global) -> Result<Vec<RangeInclusive<u32>>, Fail> {
+    let mut set: Numbers<'_> = RangeInclusiveSet::new(heap);
     let mut accepted = Vec::new(alloc);
     for i in 0..GIVEN {
         if set.insert(filled(10 * i, 10 * i + 4)?).is_err() {
@@ -59,10 +60,9 @@ struct Extending;
 
 impl Trial for Extending {
     fn is_accepted<R: AllocGlobal + Abort>(&self, rt: &R, heap: &Heap, left: u64) -> Answer {
-        let mut inserted: Numbers<'_> = RangeInclusiveSet::new(heap);
-        let mut extended: Numbers<'_> = RangeInclusiveSet::new(heap);
         heap.refuse_after(left);
-        let accepted = insert_each(&mut inserted, rt.alloc())?;
+        let accepted = insert_each(heap, rt.alloc())?;
+        let mut extended: Numbers<'_> = RangeInclusiveSet::new(heap);
         heap.refuse_after(left);
         let answer = extended.extend((0..GIVEN).map(|i| 10 * i..=10 * i + 4));
         heap.refuse_after(MANY);

@@ -45,8 +45,8 @@ fn extend<K: Ord + Clone, V: Eq + Clone, A: Allocator>(
 #[test]
 fn a_refused_extend_stops_before_the_refused_pair(rt: HostRuntime) -> Result<(), Fail> {
     let heap = Refusing::new(rt.alloc(), MANY);
-    let mut map: Texts<'_> = RangeMap::new(&heap);
     let pairs = row(&heap)?;
+    let mut map: Texts<'_> = RangeMap::new(&heap);
     // The first pair takes the first growth. The second, inside it, takes a clone of its text.
     heap.refuse_after(1);
     assert_eq!(rt; extend(&mut map, pairs), Err(AllocError));
@@ -64,7 +64,7 @@ impl Trial for From {
         heap.refuse_after(left);
         let answer = RangeMap::from(heap, [(0u32..10, first), (3..6, second)]);
         heap.refuse_after(MANY);
-        is_made(rt, &answer, &[(0..3, "a"), (3..6, "b"), (6..10, "a")])
+        is_made(rt, answer, &[(0..3, "a"), (3..6, "b"), (6..10, "a")])
     }
 }
 
@@ -81,14 +81,27 @@ type Numbers<'a> = RangeMap<u32, char, &'a Heap>;
 /// The number of pairs that are given to an extend.
 const GIVEN: u32 = 20;
 
-/// Inserts these pairs until one is refused.
-fn insert_each(map: &mut Numbers<'_>) -> Result<(), Fail> {
+/// Inserts these pairs into a map, until the request is refused that comes after `left` others.
+fn insert_each(heap: &Heap, left: u64) -> Result<Numbers<'_>, Fail> {
+    let mut map = RangeMap::new(heap);
+    heap.refuse_after(left);
     for i in 0..GIVEN {
         if map.insert(filled(10 * i, 10 * i + 5)?, 'a').is_err() {
             break;
         }
     }
-    Ok(())
+    Ok(map)
+}
+
+/// Extends a map by these pairs, where the request is refused that comes after `left` others. It
+/// has to keep what the inserts kept.
+fn extend_beside<'a, R: Abort>(rt: &R, heap: &'a Heap, inserted: &Numbers<'a>, left: u64) -> bool {
+    let mut extended: Numbers<'a> = RangeMap::new(heap);
+    heap.refuse_after(left);
+    let answer = extended.extend((0..GIVEN).map(|i| (10 * i..10 * i + 5, 'a')));
+    heap.refuse_after(MANY);
+    assert!(rt; extended == *inserted, "refused after {left} requests");
+    answer.is_ok()
 }
 
 /// An extend by the pairs, beside their inserts.
@@ -96,15 +109,8 @@ struct Extending;
 
 impl Trial for Extending {
     fn is_accepted<R: AllocGlobal + Abort>(&self, rt: &R, heap: &Heap, left: u64) -> Answer {
-        let mut inserted: Numbers<'_> = RangeMap::new(heap);
-        let mut extended: Numbers<'_> = RangeMap::new(heap);
-        heap.refuse_after(left);
-        insert_each(&mut inserted)?;
-        heap.refuse_after(left);
-        let answer = extended.extend((0..GIVEN).map(|i| (10 * i..10 * i + 5, 'a')));
-        heap.refuse_after(MANY);
-        assert!(rt; extended == inserted, "refused after {left} requests");
-        Ok(answer.is_ok())
+        let inserted = insert_each(heap, left)?;
+        Ok(extend_beside(rt, heap, &inserted, left))
     }
 }
 

@@ -8,5 +8,5 @@ pub returns : goal.returns
 returns g c =
     let k = g.Q.Interval.kind in
     let q = c.args.outer_range.now in
-    subst (λ part. AreGaps k (map (λ p. p.0) c.args.pairs.now) q (gaps_from k g.Q.Kind.end_place g.Q.Kind.part_of (AtStart q) q part)) (sym c.overlapping_tail.ensures)
+    subst (λ part. AreGaps k (map (λ p. p.0) c.args.pairs.now) q (gaps_from k g.Q.Kind.end_place g.Q.Kind.part_of (AtStart q) q part)) (sym c.overlapping_tail.ensures.overlapped)
     (are_gaps g.met.Q.Kind.placed g.V.PartialEq.eq q c.known_ends.ensures c.args.pairs.now c.requires)

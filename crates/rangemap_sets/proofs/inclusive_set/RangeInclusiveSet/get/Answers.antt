@@ -1,9 +1,15 @@
 use Rattle.rangemap_core.specs.Ranges.{closed}
-use Rattle.rangemap_sets.proofs.MapLemmas.{got}
+use Rattle.rangemap_sets.proofs.MapLemmas.{canonical, got}
 use Rattle.rangemap_sets.proofs.inclusive_set.RangeInclusiveSet.get.Goals as goal
 
-pub returns-in-Some : goal.returns-in-Some
-returns-in-Some g c = got (closed g.StepFnsT.StepFns.is_key g.T.Ord.cmp) _ _ c.self.view_is c.args.value.now _ c.in-Some.ensures
+pub returns-in-Some-clause-found : goal.returns-in-Some-clause-found
+returns-in-Some-clause-found g c = got (closed g.StepFnsT.StepFns.is_key g.T.Ord.cmp) _ _ c.self.view_is c.args.value.now _ c.in-Some.ensures.found
 
-pub returns-in-None : goal.returns-in-None
-returns-in-None g c = got (closed g.StepFnsT.StepFns.is_key g.T.Ord.cmp) _ _ c.self.view_is c.args.value.now _ c.in-None.ensures
+pub returns-in-Some-clause-canonical : goal.returns-in-Some-clause-canonical
+returns-in-Some-clause-canonical g c = canonical (closed g.StepFnsT.StepFns.is_key g.T.Ord.cmp) _ _ c.self.view_is c.in-Some.ensures.canonical
+
+pub returns-in-None-clause-found : goal.returns-in-None-clause-found
+returns-in-None-clause-found g c = got (closed g.StepFnsT.StepFns.is_key g.T.Ord.cmp) _ _ c.self.view_is c.args.value.now _ c.in-None.ensures.found
+
+pub returns-in-None-clause-canonical : goal.returns-in-None-clause-canonical
+returns-in-None-clause-canonical g c = canonical (closed g.StepFnsT.StepFns.is_key g.T.Ord.cmp) _ _ c.self.view_is c.in-None.ensures.canonical

@@ -4,7 +4,7 @@ use Rattle.uses.proofs.received.Received.lowest_missing.Goals as goal
 
 pub returns-then-last-lt18446744073709551615-clause-found : goal.returns-then-last-lt18446744073709551615-clause-found
 returns-then-last-lt18446744073709551615-clause-found c =
-    let run = set_run_found c.args.self.now.numbers c.known.ensures c.ranges.start.fits c.in-Some.ensures in
+    let run = set_run_found c.args.self.now.numbers c.in-Some.ensures.canonical c.ranges.start.fits c.in-Some.ensures.found in
     record {
       missing = rw c.end-last.ensures (run.ends (omega (arith, c.end-last.ensures)));
       from = omega (arith, c.end-last.ensures, run.to);
@@ -13,5 +13,5 @@ returns-then-last-lt18446744073709551615-clause-found c =
 
 pub returns-else-last-lt18446744073709551615-clause-none : goal.returns-else-last-lt18446744073709551615-clause-none
 returns-else-last-lt18446744073709551615-clause-none c = λ other from to.
-    let run = set_run_found c.args.self.now.numbers c.known.ensures c.ranges.start.fits c.in-Some.ensures in
+    let run = set_run_found c.args.self.now.numbers c.in-Some.ensures.canonical c.ranges.start.fits c.in-Some.ensures.found in
     run.covered other (omega (arith, run.from)) (omega (arith, c.end-last.ensures))

@@ -7,16 +7,16 @@ use Rattle.rangemap.proofs.NumberLemmas.{same_number}
 use Rattle.uses.proofs.rota.Rota.swap.Goals as goal
 
 pub insert-requires-clause-non_empty : goal.insert-requires-clause-non_empty
-insert-requires-clause-non_empty c = (half_open_run_found nat_eq_equiv.symm c.known.ensures c.in-Some.ensures).storable.non_empty
+insert-requires-clause-non_empty c = (half_open_run_found nat_eq_equiv.symm c.in-Some.ensures.canonical c.in-Some.ensures.found).storable.non_empty
 
 pub insert-requires-2-clause-non_empty : goal.insert-requires-2-clause-non_empty
-insert-requires-2-clause-non_empty c = (half_open_run_found nat_eq_equiv.symm c.known.ensures c.in-Some-get_key_value.ensures).storable.non_empty
+insert-requires-2-clause-non_empty c = (half_open_run_found nat_eq_equiv.symm c.in-Some-get_key_value.ensures.canonical c.in-Some-get_key_value.ensures.found).storable.non_empty
 
 pub returns-clause-swapped : goal.returns-clause-swapped
 returns-clause-swapped c = λ done. record {
   one = (c.in-Some.one.now, c.in-Some.alice.now);
   other = (c.in-Some-get_key_value.other.now, c.in-Some-get_key_value.bob.now);
-  has_first = sym c.in-Some.ensures;
-  has_second = sym c.in-Some-get_key_value.ensures;
+  has_first = sym c.in-Some.ensures.found;
+  has_second = sym c.in-Some-get_key_value.ensures.found;
   after = λ hour. grind (arith, nat_tests, value_of same_number c.in_ok-insert-2.ensures.ok hour tt, value_of same_number c.in_ok-insert.ensures.ok hour tt, value_of same_number c.in_ok-swapped.ensures.canon hour tt);
 }

@@ -4,4 +4,4 @@ use Rattle.rangemap.proofs.SetLemmas.{met_count}
 use Rattle.rangemap.proofs.set.ranged.RangeSetRangedMap.overlaps.Goals as goal
 
 pub returns : goal.returns
-returns g c = c.overlaps.ensures ∙ ap (λ n. nat_lt 0 n) (sym (met_count (half_open g.T.Ord.cmp) c.args.self.now c.args.range.now))
+returns g c = c.overlaps.ensures.any ∙ ap (λ n. nat_lt 0 n) (sym (met_count (half_open g.T.Ord.cmp) c.args.self.now c.args.range.now))

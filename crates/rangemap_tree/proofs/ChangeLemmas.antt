@@ -1,0 +1,179 @@
+-- What lookups, an insert and a remove make of a canonical list of half-open ranges, by the starts of these.
+use Rattle.std.proofs.Common.{arith, ◌≡◌, ◌+◌, ◌≤◌, List, [], ◌∷◌, ◌++◌, Bool, true, false, cond, ◌&&◌, Option, Some, None, filter, find, refl, sym, ap, ◌∙◌, subst, true≢false, append_assoc, Ordering, Less, Equal, Greater, is_lt, is_le, is_gt, length, length-append}
+use Rattle.std.specs.Cmp.{IsTotalOrder, IsEquivalence, tied_itself}
+use Rattle.std.specs.Option.{unwrap_or}
+use Rattle.std.specs.Ordering.{ordering_reverse}
+use Rattle.std.specs.declared.ops.Range.{Range}
+use Rattle.rangemap_core.specs.Ranges.{half_open, IsCanonical, IsStorable, IsCanonOf, covering, value_at, override, erase}
+use Rattle.rangemap_core.specs.engine.EndpointKinds.{half_open_placed}
+use Rattle.rangemap_core.specs.engine.PlacedKinds.{place_total}
+use Rattle.rangemap_core.specs.engine.Shape.{IsSpaced}
+use Rattle.rangemap_core.specs.engine.Stretch.{Every, IsLeftPart, IsRightPart}
+use Rattle.rangemap_core.proofs.PlaceLemmas.{all_storable, to_spaced, to_override, to_erase}
+use Rattle.rangemap_core.proofs.JoinLemmas.{joined_canonical, joined_overrides}
+use Rattle.rangemap_core.proofs.ListLemmas.{Every-map, Every-right}
+use Rattle.rangemap_core.proofs.InsertPartLemmas.{before_first}
+use Rattle.rangemap_core.proofs.PlaceOrderLemmas.{le_trans, lt_le_trans, le_lt_trans}
+use Rattle.rangemap_core.proofs.RestLemmas.{rests_spaced, rests_erase}
+use Rattle.rangemap_tree.specs.Starts.{before, from, past, up_to, recut, piece_list, IsCutThere, IsNewAt}
+use Rattle.rangemap_tree.specs.Sides.{shape, IsLeft, IsRight, IsLeftCut, IsRightCut}
+use Rattle.rangemap_tree.proofs.StartLemmas.{from_lower}
+use Rattle.rangemap_tree.proofs.SplitLemmas.{le_of, split, split_past}
+use Rattle.rangemap_tree.proofs.RemoveSideLemmas.{untouched}
+
+find_skip : {X : Type 0} (f : X → Bool) (xs ys : List X) → Every (λ x. f x ≡ false) xs → find f (xs ++ ys) ≡ find f ys
+find_skip f [] ys h = refl
+find_skip f (x ∷ xs) ys h = ap (λ b. cond b (Some x) (find f (xs ++ ys))) h.0 ∙ find_skip f xs ys h.1
+
+find_none : {X : Type 0} (f : X → Bool) (xs : List X) → Every (λ x. f x ≡ false) xs → find f xs ≡ None
+find_none f [] h = refl
+find_none f (x ∷ xs) h = ap (λ b. cond b (Some x) (find f xs)) h.0 ∙ find_none f xs h.1
+
+and_no : (b : Bool) → (b && false) ≡ false
+and_no true = refl
+and_no false = refl
+
+reversed_le : (r : Ordering) → r ≡ Less → is_le (ordering_reverse r) ≡ false
+reversed_le Less h = refl
+reversed_le Equal h = cc
+reversed_le Greater h = cc
+
+reversed_lt : (r : Ordering) → is_gt r ≡ false → is_lt (ordering_reverse r) ≡ false
+reversed_lt Less h = refl
+reversed_lt Equal h = refl
+reversed_lt Greater h = absurd (true≢false h)
+
+pub recut_length : {K V : Type 0} (cut : Option (Range K)) (ps : List (Range K × V)) → length (recut cut ps) ≡ length ps
+recut_length None ps = refl
+recut_length (Some g) [] = refl
+recut_length (Some g) (p ∷ []) = refl
+recut_length (Some g) (p ∷ q ∷ ps) = let again = recut_length (Some g) (q ∷ ps) in omega (arith, again)
+
+pub piece_length : {K V : Type 0} (piece : Option (K × (Range K × V))) → length (piece_list piece) ≤ 1
+piece_length None = omega arith
+piece_length (Some q) = omega arith
+
+filter_shorter : {X : Type 0} (f g : X → Bool) → ((x : X) → f x ≡ true → g x ≡ true) → (xs : List X) → length (filter f xs) ≤ length (filter g xs)
+filter_shorter f g h [] = omega arith
+filter_shorter f g h (x ∷ xs) = go (filter_shorter f g h xs) (f x) (g x) (h x)
+  where
+    go : length (filter f xs) ≤ length (filter g xs) → (b c : Bool) → (b ≡ true → c ≡ true) → length (cond b (x ∷ filter f xs) (filter f xs)) ≤ length (cond c (x ∷ filter g xs) (filter g xs))
+    go again true true k = omega (arith, again)
+    go again true false k = absurd (true≢false (sym (k refl)))
+    go again false true k = omega (arith, again)
+    go again false false k = again
+
+module _ {K V : Type 0} {cmp : K → K → Ordering} (o : IsTotalOrder cmp) (eq : V → V → Bool) (e : IsEquivalence eq) (ps : List (Range K × V)) (c : IsCanonical (half_open cmp) eq ps) where
+  spaced : IsSpaced (shape cmp eq) ps
+  spaced = to_spaced (half_open_placed o) eq ps c
+
+  pub in_order : (x : K) → before cmp x ps ++ from cmp x ps ≡ ps
+  in_order x = (split o eq e x ps spaced).0
+
+  -- ---- lookups
+
+  module _ (x : K) where
+    parts : (up_to cmp x ps ++ past cmp x ps ≡ ps) × Every (λ (p : Range K × V). is_gt (cmp p.0.start x) ≡ false) (up_to cmp x ps) × Every (λ (p : Range K × V). cmp x p.0.start ≡ Less) (past cmp x ps)
+    parts = split_past o eq e x ps spaced
+
+    past_hold : Every (λ (p : Range K × V). (half_open cmp).holds p.0 x ≡ false) (past cmp x ps)
+    past_hold = Every-map _ _ (past cmp x ps) (λ p h. ap (λ b. b && is_lt (cmp x p.0.end)) (ap is_le (o.antisymm p.0.start x) ∙ reversed_le (cmp x p.0.start) h)) parts.2
+
+    pub looked_none : up_to cmp x ps ≡ [] → covering (half_open cmp) ps x ≡ None
+    looked_none h =
+        ap (λ qs. covering (half_open cmp) qs x) (sym parts.0 ∙ ap (λ qs. qs ++ past cmp x ps) h)
+        ∙ find_none (λ (p : Range K × V). (half_open cmp).holds p.0 x) (past cmp x ps) past_hold
+
+    pub looked : (us : List (Range K × V)) (p : Range K × V) → up_to cmp x ps ≡ us ++ p ∷ [] → covering (half_open cmp) ps x ≡ cond (is_lt (cmp x p.0.end)) (Some p) None
+    looked us p is =
+        ap (λ qs. covering (half_open cmp) qs x) whole
+        ∙ find_skip (λ (q : Range K × V). (half_open cmp).holds q.0 x) us (p ∷ past cmp x ps) us_hold
+        ∙ (λ i. cond (starts i && is_lt (cmp x p.0.end)) (Some p) (find_none (λ (q : Range K × V). (half_open cmp).holds q.0 x) (past cmp x ps) past_hold i))
+      where
+        whole : ps ≡ us ++ p ∷ past cmp x ps
+        whole = sym parts.0 ∙ ap (λ qs. qs ++ past cmp x ps) is ∙ (simp append_assoc)
+
+        up : is_gt (cmp p.0.start x) ≡ false
+        up = (Every-right (λ (q : Range K × V). is_gt (cmp q.0.start x) ≡ false) us (p ∷ []) (subst (Every (λ (q : Range K × V). is_gt (cmp q.0.start x) ≡ false)) is parts.1)).0
+
+        starts : is_le (cmp p.0.start x) ≡ true
+        starts = le_of (cmp p.0.start x) up
+
+        us_hold : Every (λ (q : Range K × V). (half_open cmp).holds q.0 x ≡ false) us
+        us_hold = Every-map _ _ us (λ q h. ap (λ b. is_le (cmp q.0.start x) && b) (ap is_lt (o.antisymm x q.0.end) ∙ reversed_lt (cmp q.0.end x) (le_trans o q.0.end p.0.start x h.before up)) ∙ and_no (is_le (cmp q.0.start x)))
+            (before_first (shape cmp eq) (place_total o) e us (past cmp x ps) p (subst (IsSpaced (shape cmp eq)) whole spaced))
+
+  -- ---- changes
+
+  storables : (qs : List (Range K × V)) → IsSpaced (shape cmp eq) qs → Every (λ (a : Range K × V). IsStorable (half_open cmp) a.0) qs
+  storables [] h = tt
+  storables (q ∷ qs) h = (record { start_is_key = tt; end_is_key = tt; non_empty = h.0 }, storables qs h.2)
+
+  module _ (r : Range K) (full : cmp r.start r.end ≡ Less) where
+    stored : IsStorable (half_open cmp) r
+    stored = record { start_is_key = tt; end_is_key = tt; non_empty = full }
+
+    module _ (v : V) (start end : Option K) (cut : Option (Range K)) (piece : Option (K × (Range K × V))) (left : IsLeft cmp eq ps r v start cut) (right : IsRight cmp eq ps r v end piece) (m : Range K) (low : m.start ≡ unwrap_or start r.start) (high : m.end ≡ unwrap_or end r.end) where
+      low_tie : cmp m.start (unwrap_or start r.start) ≡ Equal
+      low_tie = subst (λ x. cmp m.start x ≡ Equal) low (tied_itself o m.start)
+
+      high_tie : cmp m.end (unwrap_or end r.end) ≡ Equal
+      high_tie = subst (λ x. cmp m.end x ≡ Equal) high (tied_itself o m.end)
+
+      left_part : IsLeftPart (shape cmp eq) ps (recut cut (before cmp m.start ps)) r m v
+      left_part = left.part m low_tie
+
+      right_part : IsRightPart (shape cmp eq) ps (piece_list piece ++ from cmp m.end ps) r m v
+      right_part = right.part m high_tie
+
+      pub middle_full : cmp m.start m.end ≡ Less
+      middle_full = lt_le_trans o m.start r.end m.end (le_lt_trans o m.start r.start r.end left_part.starts full) right_part.ends
+
+      pub cut_at : IsCutThere cmp m.start cut ps
+      cut_at = left.cut_there m.start low_tie
+
+      pub new_at : IsNewAt cmp m.end piece ps
+      new_at = right.new_there m.end high_tie
+
+      pub inserted : IsCanonOf (half_open cmp) eq (override (half_open cmp) (value_at (half_open cmp) ps) r v) (recut cut (before cmp m.start ps) ++ (m, v) ∷ (piece_list piece ++ from cmp m.end ps))
+      inserted =
+          let sp = joined_canonical (shape cmp eq) (place_total o) e ps (recut cut (before cmp m.start ps)) (piece_list piece ++ from cmp m.end ps) r m v left_part right_part full in
+          to_override (half_open_placed o) eq ps (recut cut (before cmp m.start ps) ++ (m, v) ∷ (piece_list piece ++ from cmp m.end ps)) r (all_storable (half_open_placed o) eq ps c) (storables _ sp) stored sp v
+          (joined_overrides (shape cmp eq) (place_total o) e ps (recut cut (before cmp m.start ps)) (piece_list piece ++ from cmp m.end ps) r m v left_part right_part full)
+
+      pub inserted_length : length (recut cut (before cmp m.start ps) ++ (m, v) ∷ (piece_list piece ++ from cmp m.end ps)) ≤ length ps + 1 + length (piece_list piece)
+      inserted_length =
+          let l1 = length-append (recut cut (before cmp m.start ps)) ((m, v) ∷ (piece_list piece ++ from cmp m.end ps)) in
+          let l2 = recut_length cut (before cmp m.start ps) in
+          let l3 = length-append (piece_list piece) (from cmp m.end ps) in
+          let l4 = filter_shorter (λ (p : Range K × V). is_le (cmp m.end p.0.start)) (λ (p : Range K × V). is_le (cmp m.start p.0.start)) (λ p. from_lower o m.start m.end middle_full p.0.start) ps in
+          let l5 = length-append (before cmp m.start ps) (from cmp m.start ps) in
+          let l6 = ap length (in_order m.start) in
+          omega (arith, l1, l2, l3, l4, l5, l6)
+
+    module _ (cut : Option (Range K)) (piece : Option (K × (Range K × V))) (left : IsLeftCut cmp eq ps r cut) (right : IsRightCut cmp eq ps r piece) where
+      pub removed : IsCanonOf (half_open cmp) eq (erase (half_open cmp) (value_at (half_open cmp) ps) r) (recut cut (before cmp r.start ps) ++ (piece_list piece ++ from cmp r.end ps))
+      removed =
+          let sp = rests_spaced (shape cmp eq) (place_total o) e ps (recut cut (before cmp r.start ps)) (piece_list piece ++ from cmp r.end ps) r left.rest right.rest full in
+          to_erase (half_open_placed o) eq ps (recut cut (before cmp r.start ps) ++ (piece_list piece ++ from cmp r.end ps)) r (all_storable (half_open_placed o) eq ps c) (storables _ sp) stored sp
+          (rests_erase (shape cmp eq) (place_total o) e ps (recut cut (before cmp r.start ps)) (piece_list piece ++ from cmp r.end ps) r left.rest right.rest full)
+
+      pub removed_length : length (recut cut (before cmp r.start ps) ++ (piece_list piece ++ from cmp r.end ps)) ≤ length ps + 1
+      removed_length =
+          let l1 = length-append (recut cut (before cmp r.start ps)) (piece_list piece ++ from cmp r.end ps) in
+          let l2 = recut_length cut (before cmp r.start ps) in
+          let l3 = length-append (piece_list piece) (from cmp r.end ps) in
+          let l4 = filter_shorter (λ (p : Range K × V). is_le (cmp r.end p.0.start)) (λ (p : Range K × V). is_le (cmp r.start p.0.start)) (λ p. from_lower o r.start r.end full p.0.start) ps in
+          let l5 = length-append (before cmp r.start ps) (from cmp r.start ps) in
+          let l6 = ap length (in_order r.start) in
+          let l7 = piece_length piece in
+          omega (arith, l1, l2, l3, l4, l5, l6, l7)
+
+    -- where the ranges that start before the end end by the start, all stays
+    pub unmoved : Every (λ (p : Range K × V). is_gt (cmp p.0.end r.start) ≡ false) (before cmp r.end ps) → IsCanonOf (half_open cmp) eq (erase (half_open cmp) (value_at (half_open cmp) ps) r) ps
+    unmoved h =
+        let u = untouched o eq e ps spaced r full h in
+        let sp = rests_spaced (shape cmp eq) (place_total o) e ps (before cmp r.end ps) (from cmp r.end ps) r u.0 u.1 full in
+        subst (IsCanonOf (half_open cmp) eq (erase (half_open cmp) (value_at (half_open cmp) ps) r)) u.2
+        (to_erase (half_open_placed o) eq ps (before cmp r.end ps ++ from cmp r.end ps) r (all_storable (half_open_placed o) eq ps c) (storables _ sp) stored sp
+        (rests_erase (shape cmp eq) (place_total o) e ps (before cmp r.end ps) (from cmp r.end ps) r u.0 u.1 full))

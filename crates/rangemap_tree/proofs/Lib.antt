@@ -1,0 +1,13 @@
+pub mod ResultLemmas
+pub mod FilterLemmas
+pub mod StartLemmas
+pub mod EntryLemmas
+pub mod TakenLemmas
+pub mod SplitLemmas
+pub mod InsertSideLemmas
+pub mod RemoveSideLemmas
+pub mod ChangeLemmas
+pub mod OverlapLemmas
+pub mod CloneLemmas
+pub mod GapLemmas
+pub mod EndLemmas

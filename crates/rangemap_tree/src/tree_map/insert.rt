@@ -1,0 +1,172 @@
+//! Giving the keys of a range a value.
+ghost use Rattle.std.specs.Prelude.{◌≡◌, true, ◌≤◌, ◌+◌, length, IfOk, OnOk, OnErr};
+ghost use Rattle.rangemap_core.specs.Clones.{KeysCloneFaithfully, ValuesCloneFaithfully};
+ghost use Rattle.rangemap_core.specs.Ranges.{IsCanonOf, IsCanonical, half_open, override, value_at};
+ghost use Rattle.rangemap_tree.specs.Sides.{IsLeft, IsRight};
+ghost use Rattle.std.specs.Option.{unwrap_or};
+
+use super::RangeMap;
+use crate::by_start::ByStart;
+use std::alloc::{AllocError, Allocator};
+use std::ops::{Bound, Range};
+
+// Where the new range starts if one before it is taken into it, or what is left of one that is cut.
+#[derive(Drop)]
+struct Left<K> {
+    start: Option<K>,
+    cut: Option<Range<K>>,
+}
+
+// Where the new range ends if one after it is taken into it, or what is left of one that is cut,
+// with a clone of its start.
+#[derive(Drop)]
+struct Right<K, V> {
+    end: Option<K>,
+    piece: Option<(K, (Range<K>, V))>,
+}
+
+impl<K: Ord + Clone, V: Eq + Clone, A: Allocator + Clone> RangeMap<K, V, A> {
+    /// Gives every key of `range` the `value`, whatever it had before.
+    ///
+    /// What stays of stored ranges to the left and right of it keeps its value. Stored ranges that
+    /// it overlaps or touches and that have an equal value become one range with it, which carries
+    /// the new value. The map grows by at most two ranges.
+    ///
+    /// # Requires
+    ///
+    /// The range is not empty (`range.start < range.end`). A clone of a key or value equals its
+    /// original, which holds for std's types.
+    ///
+    /// # Errors
+    ///
+    /// The growth of the map, or a clone of a key or value, was refused: then the map is as it was,
+    /// and the range and the value are dropped.
+    ///
+    /// # Examples
+    ///
+    /// ```text
+    /// let mut map = RangeMap::new(alloc);
+    /// map.insert(0..10, 'a')?;
+    /// map.insert(3..6, 'b')?; // (0..3, 'a'), (3..6, 'b'), (6..10, 'a')
+    /// map.insert(3..6, 'a')?; // (0..10, 'a')
+    /// ```
+    pub fn insert(&mut self, range: Range<K>, value: V) -> Result<(), AllocError>
+        requires non_empty { (half_open K.cmp).IsNonEmpty range }
+        requires faithful_keys { KeysCloneFaithfully K.is_clone K.cmp }
+        requires faithful_values { ValuesCloneFaithfully V.is_clone V.eq }
+        ensures ok { OnOk result (IsCanonOf (half_open K.cmp) V.eq (override (half_open K.cmp) (value_at (half_open K.cmp) self.old) range value) self.new) }
+        ensures err { OnErr result (self.new ≡ self.old) }
+        ensures growth { OnOk result (length self.new ≤ length self.old + 2) }
+        ensures growth_where_all_are_equal { OnOk result (((v w : V) → V.eq v w ≡ true) → length self.new ≤ length self.old + 1) }
+    {
+        let pairs = &self.pairs;
+        let left = left_side(pairs, &range, &value)?;
+        let right = right_side(pairs, &range, &value)?;
+        let middle = joined(left.start, right.end, range);
+        let key = middle.start.clone()?;
+        let starts = pairs.starts_between(Bound::Excluded(&middle.start), &middle.end)?;
+        self.pairs.replace(key, middle, value, left.cut, right.piece, starts.as_slice())
+    }
+}
+
+// Of the pairs that start before the new range only the last can reach it.
+fn left_side<K: Ord + Clone, V: Eq, A: Allocator + Clone>(
+    pairs: &ByStart<K, V, A>,
+    range: &Range<K>,
+    value: &V,
+) -> Result<Left<K>, AllocError>
+    requires canonical { IsCanonical (half_open K.cmp) V.eq pairs.now }
+    requires range { (half_open K.cmp).IsNonEmpty range.now }
+    requires faithful_keys { KeysCloneFaithfully K.is_clone K.cmp }
+    ensures { IfOk result (λ left. IsLeft K.cmp V.eq pairs.now range.now value.now left.start left.cut) }
+{
+    let Some((first, first_value)) = pairs.last_before(&range.start) else {
+        return Ok(Left {
+            start: None,
+            cut: None,
+        });
+    };
+    let reach = first.end.cmp(&range.start);
+    if reach.is_lt() {
+        return Ok(Left {
+            start: None,
+            cut: None,
+        });
+    }
+    if *first_value == *value {
+        let start = first.start.clone()?;
+        return Ok(Left {
+            start: Some(start),
+            cut: None,
+        });
+    }
+    if reach.is_gt() {
+        let rest = first.start.clone()?..range.start.clone()?;
+        return Ok(Left {
+            start: None,
+            cut: Some(rest),
+        });
+    }
+    Ok(Left {
+        start: None,
+        cut: None,
+    })
+}
+
+// Of the pairs that start no later than the end of the new range only the last can reach past it.
+fn right_side<K: Ord + Clone, V: Eq + Clone, A: Allocator + Clone>(
+    pairs: &ByStart<K, V, A>,
+    range: &Range<K>,
+    value: &V,
+) -> Result<Right<K, V>, AllocError>
+    requires canonical { IsCanonical (half_open K.cmp) V.eq pairs.now }
+    requires range { (half_open K.cmp).IsNonEmpty range.now }
+    requires faithful_keys { KeysCloneFaithfully K.is_clone K.cmp }
+    requires faithful_values { ValuesCloneFaithfully V.is_clone V.eq }
+    ensures { IfOk result (λ right. IsRight K.cmp V.eq pairs.now range.now value.now right.end right.piece) }
+{
+    let Some((last, last_value)) = pairs.last_up_to(&range.end) else {
+        return Ok(Right {
+            end: None,
+            piece: None,
+        });
+    };
+    if last.end.cmp(&range.end).is_le() {
+        return Ok(Right {
+            end: None,
+            piece: None,
+        });
+    }
+    if *last_value == *value {
+        let end = last.end.clone()?;
+        return Ok(Right {
+            end: Some(end),
+            piece: None,
+        });
+    }
+    if last.start.cmp(&range.end).is_lt() {
+        let rest = range.end.clone()?..last.end.clone()?;
+        let key = range.end.clone()?;
+        let rest_value = last_value.clone()?;
+        return Ok(Right {
+            end: None,
+            piece: Some((key, (rest, rest_value))),
+        });
+    }
+    Ok(Right {
+        end: None,
+        piece: None,
+    })
+}
+
+// The new range with what is taken into it.
+fn joined<K: Drop>(start: Option<K>, end: Option<K>, range: Range<K>) -> Range<K>
+    ensures start { result.start ≡ unwrap_or start range.start }
+    ensures end { result.end ≡ unwrap_or end range.end }
+{
+    let Range {
+        start: new_start,
+        end: new_end,
+    } = range;
+    start.unwrap_or(new_start)..end.unwrap_or(new_end)
+}

@@ -1,0 +1,73 @@
+//! Keys with steps, whose clones take memory.
+ghost use Rattle.std.specs.Prelude.{◌≡◌, ◌<◌, ◌^◌, false, option_map, refl};
+ghost use Rattle.std.specs.Ordering.{nat_cmp};
+ghost use Rattle.std.specs.Range.{range_inclusive_start, range_inclusive_end, range_inclusive_exhausted};
+ghost use Rattle.rangemap.specs.StepLaws.{held_follows, held_precedes, nat_after, nat_before, nat_follows, nat_precedes};
+
+use super::Heap;
+use rangemap::StepLite;
+use std::alloc::AllocError;
+use std::ops::RangeInclusive;
+
+/// A byte. A clone of it takes a block of memory and gives it back at once, so it may be refused.
+#[derive(Drop)]
+#[derive_where(PartialEq, Eq, PartialOrd, Ord)]
+pub struct Costly<'a> {
+    /// The byte, by which keys are compared.
+    pub byte: u8,
+    /// Where the block is taken from.
+    #[derive_where(skip)]
+    pub heap: &'a Heap,
+}
+
+impl<'a> Costly<'a> {
+    /// Returns the range from one byte to another, both of which are in it.
+    pub fn range(heap: &'a Heap, first: u8, last: u8) -> RangeInclusive<Costly<'a>>
+        ensures ends { ((range_inclusive_start result).byte ≡ first) × ((range_inclusive_end result).byte ≡ last) }
+        ensures not_exhausted { range_inclusive_exhausted result ≡ false }
+    {
+        Costly { byte: first, heap }..=Costly { byte: last, heap }
+    }
+}
+
+impl<'a> Clone for Costly<'a> {
+    ghost is_clone = { λ key copy. copy ≡ key };
+
+    fn clone(&self) -> Result<Self, AllocError> {
+        let _block: Vec<u8, _> = Vec::with_capacity(self.heap, 1)?;
+        Ok(Costly {
+            byte: self.byte,
+            heap: self.heap,
+        })
+    }
+}
+
+impl<'a> StepLite for Costly<'a> {
+    ghost is_key = { λ key. key.byte < 2 ^ 8 };
+
+    ghost after = { λ key. option_map (λ n. record { byte = n; heap = key.heap }) (nat_after (2 ^ 8) key.byte) };
+
+    ghost before = { λ key. option_map (λ n. record { byte = n; heap = key.heap }) (nat_before key.byte) };
+
+    ghost follows = { held_follows (λ n. n < 2 ^ 8) nat_cmp (λ key. key.byte) (λ key n. record { byte = n; heap = key.heap }) (λ _ _. refl) (nat_after (2 ^ 8)) (nat_follows (2 ^ 8)) };
+
+    ghost precedes = { held_precedes (λ n. n < 2 ^ 8) nat_cmp (λ key. key.byte) (λ key n. record { byte = n; heap = key.heap }) (λ _ _. refl) nat_before (nat_precedes (2 ^ 8)) };
+
+    fn known(&self) {
+        let _byte = self.byte;
+    }
+
+    fn add_one(&self) -> Self {
+        Costly {
+            byte: self.byte + 1,
+            heap: self.heap,
+        }
+    }
+
+    fn sub_one(&self) -> Self {
+        Costly {
+            byte: self.byte - 1,
+            heap: self.heap,
+        }
+    }
+}
