@@ -7,7 +7,7 @@ use Rattle.rangemap_core.specs.engine.Places.{place_cmp}
 use Rattle.rangemap.specs.Histories.{IsUndefinedOn}
 use Rattle.rangemap_core.specs.engine.Stretch.{Every}
 use Rattle.rangemap_core.specs.laws.Orders.{itself, le_Equal, le_Less, turn}
-use Rattle.rangemap_core.proofs.PlaceLemmas.{all_storable}
+use Rattle.rangemap_core.proofs.StoredLemmas.{all_storable}
 
 first_true : (a b : Bool) → (a && b) ≡ true → a ≡ true
 first_true a b h = grind (arith, h)
@@ -67,7 +67,7 @@ module _ {K X : Type 0} (k : RangeKind K X) {end_place : X → Option K} {part :
     -- where a function is undefined on the range, its list has nothing that overlaps it
     pub meets_none : (eq : V → V → Bool) (f : K → Option V) (list : List (X × V)) (r : X) → IsCanonOf k eq f list → IsStorable k r → IsUndefinedOn k f r → overlapped k list r ≡ []
     meets_none eq f list r is stored none =
-        undefined_meets_none list r (all_storable p eq list is.canonical) stored (λ x key h. go (value_at k list x) (f x) (is.represents x key) (none x key h))
+        undefined_meets_none list r (all_storable k eq list is.canonical) stored (λ x key h. go (value_at k list x) (f x) (is.represents x key) (none x key h))
       where
         go : (o u : Option V) → option_eq eq o u ≡ true → u ≡ None → o ≡ None
         go None u q h = refl

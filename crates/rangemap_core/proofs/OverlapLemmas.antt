@@ -12,7 +12,8 @@ use Rattle.rangemap_core.specs.engine.Places.{place_cmp}
 use Rattle.rangemap_core.specs.engine.PlacedKinds.{place_total}
 use Rattle.rangemap_core.specs.laws.Orders.{Less-Equal, turn, lt_lt, lt_le, not_lt}
 use Rattle.rangemap_core.specs.engine.Shape.{PassesUpTo, starts_by_key}
-use Rattle.rangemap_core.proofs.PlaceLemmas.{S, places, to_spaced, all_storable}
+use Rattle.rangemap_core.proofs.PlaceLemmas.{S, places, to_spaced}
+use Rattle.rangemap_core.proofs.StoredLemmas.{all_storable}
 use Rattle.rangemap_core.proofs.PlaceOrderLemmas.{le_trans, not_lt_ge}
 use Rattle.rangemap_core.proofs.PartitionLemmas.{parted-rest, parted-drop}
 use Rattle.rangemap_core.proofs.SearchLemmas.{Every-at, apart_at, same_or_below, start_places_rise}
@@ -82,7 +83,7 @@ module _ {K X V : Type 0} {k : RangeKind K X} {end_place : X → Option K} {part
   o = place_total p.total
 
   stored_at : (list : List (X × V)) → IsCanonical k eq list → (i : ℕ) (d : X × V) → i < length list → IsStorable k (get_or list i d).0
-  stored_at list can i d l = Every-at (λ a. IsStorable k a.0) list (all_storable p eq list can) i d l
+  stored_at list can i d l = Every-at (λ a. IsStorable k a.0) list (all_storable _ eq list can) i d l
 
   module _ (q : X) where
     -- of the pairs that start no later than q does, all but the last end before it starts

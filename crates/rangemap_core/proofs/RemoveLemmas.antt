@@ -6,7 +6,8 @@ use Rattle.std.specs.Cmp.{IsEquivalence}
 use Rattle.rangemap_core.specs.engine.Endpoints.{IsPlaced, EndpointOf, asked}
 use Rattle.rangemap_core.specs.Ranges.{RangeKind, IsStorable, IsCanonical, value_at, erase, overlapped, IsCanonOf}
 use Rattle.rangemap_core.specs.engine.Stretch.{IsOverlap, IsLeftRest, IsPieceAfter, IsPieceBefore, IsRightRest}
-use Rattle.rangemap_core.proofs.PlaceLemmas.{S, places, AreStorable, all_storable, storable_here, to_spaced, to_erase}
+use Rattle.rangemap_core.proofs.PlaceLemmas.{S, places, AreStorable, storable_here, to_spaced, to_erase}
+use Rattle.rangemap_core.proofs.StoredLemmas.{all_storable}
 use Rattle.rangemap_core.proofs.InsertLemmas.{Every-taken, Every-dropped}
 use Rattle.rangemap_core.proofs.ListLemmas.{Every-append}
 use Rattle.rangemap_core.proofs.RestLemmas.{left_rest, nothing_left, nothing_right, overlaps_first, rests_erase, rests_spaced, right_rest}
@@ -27,7 +28,7 @@ filtered_none test (x ∷ xs) h (suc i) d l t = filtered_none test xs (go (test 
 module _ {K X V : Type 0} {k : RangeKind K X} {end_place : X → Option K} {part : EndpointOf X → EndpointOf X → X} (p : IsPlaced k end_place part) (eq : V → V → Bool) (e : IsEquivalence eq) (xs : List (X × V)) (c : IsCanonical k eq xs) (r : X) (stored : IsStorable k r) (start end : ℕ) (ov : IsOverlap (S p eq) xs r start end) where
   module _ (front back : List (X × V)) (left : IsLeftRest (S p eq) xs front r) (right : IsRightRest (S p eq) xs back r) (front_storable : AreStorable p eq front) (back_storable : AreStorable p eq back) where
     pub rests_are_canon : IsCanonOf k eq (erase k (value_at k xs) r) (front ++ back)
-    rests_are_canon = to_erase p eq xs (front ++ back) r (all_storable p eq xs c) (Every-append _ front back front_storable back_storable) stored
+    rests_are_canon = to_erase p eq xs (front ++ back) r (all_storable _ eq xs c) (Every-append _ front back front_storable back_storable) stored
         (rests_spaced (S p eq) (places p eq) e xs front back r left right (p.non_empty r stored))
         (rests_erase (S p eq) (places p eq) e xs front back r left right (p.non_empty r stored))
 
@@ -38,15 +39,15 @@ module _ {K X V : Type 0} {k : RangeKind K X} {end_place : X → Option K} {part
       subst (IsCanonOf k eq (erase k (value_at k xs) r)) whole (rests_are_canon (take start xs) (drop end xs)
       (nothing_left (S p eq) (places p eq) e xs (to_spaced p eq xs c) r (p.non_empty r stored) start end ov h)
       (nothing_right (S p eq) (places p eq) e xs (to_spaced p eq xs c) r (p.non_empty r stored) start end ov h)
-      (Every-taken _ start xs (all_storable p eq xs c)) (Every-dropped _ end xs (all_storable p eq xs c)))
+      (Every-taken _ start xs (all_storable _ eq xs c)) (Every-dropped _ end xs (all_storable _ eq xs c)))
 
   pieces_are_canon : (left right : Option (X × V)) → IsLeftRest (S p eq) xs (take start xs ++ option_to_list left) r → IsRightRest (S p eq) xs (option_to_list right ++ drop end xs) r
       → AreStorable p eq (option_to_list left) → AreStorable p eq (option_to_list right)
       → IsCanonOf k eq (erase k (value_at k xs) r) (take start xs ++ (option_to_list left ++ option_to_list right) ++ drop end xs)
   pieces_are_canon left right is_left is_right l m =
       subst (IsCanonOf k eq (erase k (value_at k xs) r)) regrouped (rests_are_canon (take start xs ++ option_to_list left) (option_to_list right ++ drop end xs) is_left is_right
-      (Every-append _ (take start xs) (option_to_list left) (Every-taken _ start xs (all_storable p eq xs c)) l)
-      (Every-append _ (option_to_list right) (drop end xs) m (Every-dropped _ end xs (all_storable p eq xs c))))
+      (Every-append _ (take start xs) (option_to_list left) (Every-taken _ start xs (all_storable _ eq xs c)) l)
+      (Every-append _ (option_to_list right) (drop end xs) m (Every-dropped _ end xs (all_storable _ eq xs c))))
     where
       regrouped : (take start xs ++ option_to_list left) ++ (option_to_list right ++ drop end xs) ≡ take start xs ++ (option_to_list left ++ option_to_list right) ++ drop end xs
       regrouped = simp append_assoc

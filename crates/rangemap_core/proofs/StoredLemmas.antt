@@ -1,4 +1,4 @@
--- The pair at a place of a canonical list.
+-- The pairs of a canonical list, and the one at a place.
 use Rattle.std.proofs.Common.{◌≡◌, ℕ, Bool, List, ◌∷◌, [], get_or, unwrap_or, Option, Some, sym, ap, subst, ◌∙◌}
 use Rattle.std.specs.List.{slice_get}
 use Rattle.std.proofs.lemmas.Option.{slice_get_within, unwrap_or-slice_get}
@@ -7,7 +7,7 @@ use Rattle.rangemap_core.specs.engine.Stretch.{Every}
 use Rattle.rangemap_core.proofs.SearchLemmas.{Every-at}
 
 module _ {K X V : Type 0} (k : RangeKind K X) (eq : V → V → Bool) where
-  all_storable : (list : List (X × V)) → IsCanonical k eq list → Every (λ a. IsStorable k a.0) list
+  pub all_storable : (list : List (X × V)) → IsCanonical k eq list → Every (λ a. IsStorable k a.0) list
   all_storable [] can = tt
   all_storable (a ∷ list) can = (can.0, all_storable list can.2)
 

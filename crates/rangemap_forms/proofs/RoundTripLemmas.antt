@@ -19,7 +19,7 @@ use Rattle.rangemap_core.specs.laws.Orders.{itself}
 use Rattle.rangemap_core.specs.engine.Stretch.{Every}
 use Rattle.rangemap_forms.specs.Json.{Accepts, EndsWith, Follows, IsBadKey, IsBadValue, IsEmptyEntry, IsFirstFault, IsForm, IsFunctional, IsMisshaped, IsOutOfOrder, IsRead, IsReading, IsRefusedForMemoryAlone, IsUnambiguous, IsUncoalesced, IsWritten, Reader, RefusesToRead, ReadsBack, Writer, map_entry, map_reader, map_writer, set_reader, set_writer}
 use Rattle.rangemap_forms.proofs.LastPairLemmas.{last_storable, same_last}
-use Rattle.rangemap_core.proofs.PlaceLemmas.{all_storable}
+use Rattle.rangemap_core.proofs.StoredLemmas.{all_storable}
 use Rattle.rangemap_core.proofs.EqualListLemmas.{IsSamePair, canonical_by_same, same_gap, to_same}
 use Rattle.rangemap_core.proofs.OwnPairLemmas.{own}
 use Rattle.rangemap_core.proofs.UniquenessLemmas.{canon_unique}
@@ -62,14 +62,14 @@ module _ {K X V F : Type 0} (k : RangeKind K X) {end_place : X → Option K} {pa
 
   storable_by : (form : Form) (bs : List (X × V)) → Accepts k r eq form bs → Every (λ b. IsStorable k b.0) bs
   storable_by Any bs s = every bs s
-  storable_by Canonical bs s = all_storable p eq bs s
+  storable_by Canonical bs s = all_storable _ eq bs s
 
   all_stored : (bs : List (X × V)) → Every (λ b. IsStorable k b.0) bs → AllByRecursion (λ b. IsStorable k b.0) bs
   all_stored [] s = tt
   all_stored (b ∷ bs) s = (s.0, all_stored bs s.1)
 
   pub accepts_canonical : (form : Form) (bs : List (X × V)) → IsCanonical k eq bs → Accepts k r eq form bs
-  accepts_canonical Any bs c = all_stored bs (all_storable p eq bs c)
+  accepts_canonical Any bs c = all_stored bs (all_storable _ eq bs c)
   accepts_canonical Canonical bs c = c
 
 module _ {K X V E F : Type 0} (k : RangeKind K X) {end_place : X → Option K} {part : EndpointOf X → EndpointOf X → X} (p : IsPlaced k end_place part) (eq : V → V → Bool) (e : IsEquivalence eq)

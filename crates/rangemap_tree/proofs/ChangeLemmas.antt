@@ -9,7 +9,8 @@ use Rattle.rangemap_core.specs.engine.EndpointKinds.{half_open_placed}
 use Rattle.rangemap_core.specs.engine.PlacedKinds.{place_total}
 use Rattle.rangemap_core.specs.engine.Shape.{IsSpaced}
 use Rattle.rangemap_core.specs.engine.Stretch.{Every, IsLeftPart, IsRightPart}
-use Rattle.rangemap_core.proofs.PlaceLemmas.{all_storable, to_spaced, to_override, to_erase}
+use Rattle.rangemap_core.proofs.PlaceLemmas.{to_spaced, to_override, to_erase}
+use Rattle.rangemap_core.proofs.StoredLemmas.{all_storable}
 use Rattle.rangemap_core.proofs.JoinLemmas.{joined_canonical, joined_overrides}
 use Rattle.rangemap_core.proofs.ListLemmas.{Every-map, Every-right}
 use Rattle.rangemap_core.proofs.InsertPartLemmas.{before_first}
@@ -135,10 +136,14 @@ module _ {K V : Type 0} {cmp : K → K → Ordering} (o : IsTotalOrder cmp) (eq 
       pub new_at : IsNewAt cmp m.end piece ps
       new_at = right.new_there m.end high_tie
 
+      -- what starts past the end of r starts no earlier than that of m
+      pub past_at : from cmp m.end (past cmp r.end ps) ≡ past cmp r.end ps
+      past_at = right.past_end m.end high_tie
+
       pub inserted : IsCanonOf (half_open cmp) eq (override (half_open cmp) (value_at (half_open cmp) ps) r v) (recut cut (before cmp m.start ps) ++ (m, v) ∷ (piece_list piece ++ from cmp m.end ps))
       inserted =
           let sp = joined_canonical (shape cmp eq) (place_total o) e ps (recut cut (before cmp m.start ps)) (piece_list piece ++ from cmp m.end ps) r m v left_part right_part full in
-          to_override (half_open_placed o) eq ps (recut cut (before cmp m.start ps) ++ (m, v) ∷ (piece_list piece ++ from cmp m.end ps)) r (all_storable (half_open_placed o) eq ps c) (storables _ sp) stored sp v
+          to_override (half_open_placed o) eq ps (recut cut (before cmp m.start ps) ++ (m, v) ∷ (piece_list piece ++ from cmp m.end ps)) r (all_storable _ eq ps c) (storables _ sp) stored sp v
           (joined_overrides (shape cmp eq) (place_total o) e ps (recut cut (before cmp m.start ps)) (piece_list piece ++ from cmp m.end ps) r m v left_part right_part full)
 
       pub inserted_length : length (recut cut (before cmp m.start ps) ++ (m, v) ∷ (piece_list piece ++ from cmp m.end ps)) ≤ length ps + 1 + length (piece_list piece)
@@ -155,7 +160,7 @@ module _ {K V : Type 0} {cmp : K → K → Ordering} (o : IsTotalOrder cmp) (eq 
       pub removed : IsCanonOf (half_open cmp) eq (erase (half_open cmp) (value_at (half_open cmp) ps) r) (recut cut (before cmp r.start ps) ++ (piece_list piece ++ from cmp r.end ps))
       removed =
           let sp = rests_spaced (shape cmp eq) (place_total o) e ps (recut cut (before cmp r.start ps)) (piece_list piece ++ from cmp r.end ps) r left.rest right.rest full in
-          to_erase (half_open_placed o) eq ps (recut cut (before cmp r.start ps) ++ (piece_list piece ++ from cmp r.end ps)) r (all_storable (half_open_placed o) eq ps c) (storables _ sp) stored sp
+          to_erase (half_open_placed o) eq ps (recut cut (before cmp r.start ps) ++ (piece_list piece ++ from cmp r.end ps)) r (all_storable _ eq ps c) (storables _ sp) stored sp
           (rests_erase (shape cmp eq) (place_total o) e ps (recut cut (before cmp r.start ps)) (piece_list piece ++ from cmp r.end ps) r left.rest right.rest full)
 
       pub removed_length : length (recut cut (before cmp r.start ps) ++ (piece_list piece ++ from cmp r.end ps)) ≤ length ps + 1
@@ -175,5 +180,5 @@ module _ {K V : Type 0} {cmp : K → K → Ordering} (o : IsTotalOrder cmp) (eq 
         let u = untouched o eq e ps spaced r full h in
         let sp = rests_spaced (shape cmp eq) (place_total o) e ps (before cmp r.end ps) (from cmp r.end ps) r u.0 u.1 full in
         subst (IsCanonOf (half_open cmp) eq (erase (half_open cmp) (value_at (half_open cmp) ps) r)) u.2
-        (to_erase (half_open_placed o) eq ps (before cmp r.end ps ++ from cmp r.end ps) r (all_storable (half_open_placed o) eq ps c) (storables _ sp) stored sp
+        (to_erase (half_open_placed o) eq ps (before cmp r.end ps ++ from cmp r.end ps) r (all_storable _ eq ps c) (storables _ sp) stored sp
         (rests_erase (shape cmp eq) (place_total o) e ps (before cmp r.end ps) (from cmp r.end ps) r u.0 u.1 full))

@@ -13,7 +13,8 @@ use Rattle.rangemap_core.proofs.PlaceOrderLemmas.{lt_le, tied_le, tied_ge, le_tr
 use Rattle.rangemap_tree.specs.Starts.{before, from, past, up_to, recut}
 use Rattle.rangemap_tree.specs.Sides.{shape, IsLeft, IsRight}
 use Rattle.rangemap_tree.proofs.StartLemmas.{recut_last, before_tied, past_tied}
-use Rattle.rangemap_tree.proofs.SplitLemmas.{all_full, grouped, parts_at, split, split_past}
+use Rattle.rangemap_tree.proofs.NearLemmas.{parts_behind, whole as near_whole}
+use Rattle.rangemap_tree.proofs.SplitLemmas.{all_from, all_full, grouped, parts_at, split, split_past}
 
 module _ {K V : Type 0} {cmp : K → K → Ordering} (o : IsTotalOrder cmp) (eq : V → V → Bool) (e : IsEquivalence eq) where
   abbrev S : Shape (Range K) (Option K) V
@@ -94,6 +95,9 @@ module _ {K V : Type 0} {cmp : K → K → Ordering} (o : IsTotalOrder cmp) (eq 
     rest_past : Every (λ (b : Range K × V). cmp r.end b.0.start ≡ Less) (past cmp r.end ps)
     rest_past = rest.2
 
+    past_from : (x : K) → is_gt (cmp x r.end) ≡ false → from cmp x (past cmp r.end ps) ≡ past cmp r.end ps
+    past_from x h = (all_from o x (past cmp r.end ps) (Every-map _ _ (past cmp r.end ps) (λ p k. lt_le o x p.0.start (le_lt_trans o x r.end p.0.start h k)) rest_past)).1
+
     right_clear : (init post : List (Range K × V)) → init ++ post ≡ ps → Every (λ (b : Range K × V). IsApart S (r, v) b) post → Every (λ (a : Range K × V). is_gt (cmp a.0.end r.end) ≡ false) init → IsRight cmp eq ps r v None None
     right_clear init post w clear within = record {
       part = λ m tie.
@@ -103,6 +107,7 @@ module _ {K V : Type 0} {cmp : K → K → Ordering} (o : IsTotalOrder cmp) (eq 
           let b : from cmp m.end ps ≡ post = ap (from cmp m.end) (sym w) ∙ (parts_at o m.end init post low high).1 in
           subst (λ ys. IsRightPart S ps ys r m v) (sym b) (subst (λ xs. IsRightPart S xs post r m v) w (right_uncut S places e r m v init post sp clear within tie));
       new_there = λ x tie. tt;
+      past_end = λ x tie. past_from x (tied_le o x r.end tie);
       of_other_values = λ h. refl;
     }
       where
@@ -118,7 +123,7 @@ module _ {K V : Type 0} {cmp : K → K → Ordering} (o : IsTotalOrder cmp) (eq 
 
     module _ (us : List (Range K × V)) (b : Range K × V) (is : up_to cmp r.end ps ≡ us ++ b ∷ []) where
       r_whole : ps ≡ us ++ b ∷ past cmp r.end ps
-      r_whole = sym rest.0 ∙ ap (λ xs. xs ++ past cmp r.end ps) is ∙ grouped us b (past cmp r.end ps)
+      r_whole = near_whole o eq e r.end ps c us b is
 
       r_spaced : IsSpaced S (us ++ b ∷ past cmp r.end ps)
       r_spaced = subst (IsSpaced S) r_whole c
@@ -153,27 +158,20 @@ module _ {K V : Type 0} {cmp : K → K → Ordering} (o : IsTotalOrder cmp) (eq 
           at' : is_gt (cmp r.end b.0.start) ≡ false
           at' = not_less Less h
 
-      -- all of us and b start before x
-      low_all : (x : K) → cmp b.0.start x ≡ Less → Every (λ (p : Range K × V). cmp p.0.start x ≡ Less) (us ++ b ∷ [])
-      low_all x h = Every-append _ us (b ∷ []) (both us (all_full o eq e us (IsSpaced-left S places us (b ∷ past cmp r.end ps) r_spaced)) r_first) (h, tt)
-        where
-          both : (ws : List (Range K × V)) → Every (λ (p : Range K × V). cmp p.0.start p.0.end ≡ Less) ws → Every (λ (u : Range K × V). IsApart S u b) ws → Every (λ (p : Range K × V). cmp p.0.start x ≡ Less) ws
-          both [] f g = tt
-          both (w ∷ ws) f g = (o.trans w.0.start w.0.end x f.0 (le_lt_trans o w.0.end b.0.start x g.0.before h), both ws f.1 g.1)
-
       from_is : (x : K) → cmp b.0.start x ≡ Less → Every (λ (p : Range K × V). is_gt (cmp x p.0.start) ≡ false) (past cmp r.end ps) → (before cmp x ps ≡ us ++ b ∷ []) × (from cmp x ps ≡ past cmp r.end ps)
-      from_is x l h =
-          let w : ps ≡ (us ++ b ∷ []) ++ past cmp r.end ps = r_whole ∙ sym (grouped us b (past cmp r.end ps)) in
-          let both = parts_at o x (us ++ b ∷ []) (past cmp r.end ps) (low_all x l) h in
-          (ap (before cmp x) w ∙ both.0, ap (from cmp x) w ∙ both.1)
+      from_is = parts_behind o eq e r.end ps c us b is
+
+      behind_b : (x : K) → is_gt (cmp x b.0.end) ≡ false → Every (λ (p : Range K × V). is_gt (cmp x p.0.start) ≡ false) (past cmp r.end ps)
+      behind_b x h = Every-map _ _ (past cmp r.end ps) (λ p k. le_trans o x b.0.end p.0.start h k.before) (apart_from_all S places b (past cmp r.end ps) b_tail)
 
       pub right_joined : (k : K) → cmp k b.0.end ≡ Equal → cmp r.end b.0.end ≡ Less → eq b.1 v ≡ true → IsRight cmp eq ps r v (Some k) None
       right_joined k same reaches equal = record {
         part = λ m tie.
             let t : cmp m.end b.0.end ≡ Equal = o.congr m.end k b.0.end tie ∙ same in
-            let f : from cmp m.end ps ≡ past cmp r.end ps = (from_is m.end (lt_le_trans o b.0.start b.0.end m.end b_tail.0 (tied_ge o m.end b.0.end t)) (Every-map _ _ (past cmp r.end ps) (λ p k. le_trans o m.end b.0.end p.0.start (tied_le o m.end b.0.end t) k.before) (apart_from_all S places b (past cmp r.end ps) b_tail))).1 in
+            let f : from cmp m.end ps ≡ past cmp r.end ps = (from_is m.end (lt_le_trans o b.0.start b.0.end m.end b_tail.0 (tied_ge o m.end b.0.end t)) (behind_b m.end (tied_le o m.end b.0.end t))).1 in
             subst (λ ys. IsRightPart S ps ys r m v) (sym f) (subst (λ xs. IsRightPart S xs (past cmp r.end ps) r m v) (sym r_whole) (right_taken S places e r m v us (past cmp r.end ps) b r_spaced reaches b_up_to equal t));
         new_there = λ x tie. tt;
+        past_end = λ x tie. (all_from o x (past cmp r.end ps) (behind_b x (tied_le o x b.0.end (o.congr x k b.0.end tie ∙ same)))).1;
         of_other_values = λ h. refl;
       }
 
@@ -186,5 +184,6 @@ module _ {K V : Type 0} {cmp : K → K → Ordering} (o : IsTotalOrder cmp) (eq 
             let back : cmp r.end x ≡ Equal = o.antisymm r.end x ∙ ap ordering_reverse tie in
             let both = from_is x (lt_le_trans o b.0.start r.end x starts (tied_le o r.end x back)) (Every-map _ _ (past cmp r.end ps) (λ p k. lt_le o x p.0.start (le_lt_trans o x r.end p.0.start (tied_le o x r.end tie) k)) rest_past) in
             (o.congr q.0 r.end q.1.0.start key ∙ (o.antisymm r.end q.1.0.start ∙ ap ordering_reverse low), o.congr q.0 r.end x key ∙ back, (λ i. both.0 i ++ past_tied o x r.end tie ps i) ∙ sym (r_whole ∙ sym (grouped us b (past cmp r.end ps))));
+        past_end = λ x tie. past_from x (tied_le o x r.end tie);
         of_other_values = λ h. absurd (true≢false (sym (h b.1 v) ∙ differs));
       }

@@ -4,6 +4,7 @@ pub mod StartLemmas
 pub mod EntryLemmas
 pub mod TakenLemmas
 pub mod SplitLemmas
+pub mod NearLemmas
 pub mod InsertSideLemmas
 pub mod RemoveSideLemmas
 pub mod ChangeLemmas

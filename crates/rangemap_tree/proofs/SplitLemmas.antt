@@ -47,7 +47,7 @@ module _ {K V : Type 0} {cmp : K → K → Ordering} (o : IsTotalOrder cmp) wher
   below_test : (y : K) (p : Range K × V) → cmp p.0.start y ≡ Less → is_le (cmp y p.0.start) ≡ false
   below_test y p h = ap is_le (o.antisymm y p.0.start) ∙ gt_not_le (cmp p.0.start y) h
 
-  all_from : (y : K) (post : List (Range K × V)) → Every (λ (p : Range K × V). is_gt (cmp y p.0.start) ≡ false) post → (before cmp y post ≡ []) × (from cmp y post ≡ post)
+  pub all_from : (y : K) (post : List (Range K × V)) → Every (λ (p : Range K × V). is_gt (cmp y p.0.start) ≡ false) post → (before cmp y post ≡ []) × (from cmp y post ≡ post)
   all_from y [] h = (refl, refl)
   all_from y (p ∷ post) h =
       let again = all_from y post h.1 in

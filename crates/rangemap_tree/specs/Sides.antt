@@ -8,7 +8,7 @@ use Rattle.rangemap_core.specs.Ranges.{half_open}
 use Rattle.rangemap_core.specs.engine.PlacedKinds.{half_open_end_place}
 use Rattle.rangemap_core.specs.engine.Shape.{Shape, shape_of}
 use Rattle.rangemap_core.specs.engine.Stretch.{IsLeftPart, IsRightPart, IsLeftRest, IsRightRest}
-use Rattle.rangemap_tree.specs.Starts.{before, from, recut, piece_list, IsCutThere, IsNewAt}
+use Rattle.rangemap_tree.specs.Starts.{before, from, past, recut, piece_list, IsCutThere, IsNewAt}
 
 module _ {K V : Type 0} (cmp : K → K → Ordering) (eq : V → V → Bool) where
   abbrev pub shape : Shape (Range K) (Option K) V
@@ -19,9 +19,11 @@ module _ {K V : Type 0} (cmp : K → K → Ordering) (eq : V → V → Bool) whe
     pub part : (m : Range K) → cmp m.start (unwrap_or start r.start) ≡ Equal → IsLeftPart shape ps (recut cut (before cmp m.start ps)) r m v
     pub cut_there : (x : K) → cmp x (unwrap_or start r.start) ≡ Equal → IsCutThere cmp x cut ps
 
+  -- the same after it, where what starts past the end of r starts no earlier than the new end
   pub record IsRight (ps : List (Range K × V)) (r : Range K) (v : V) (end : Option K) (piece : Option (K × (Range K × V))) : Type 0 where
     pub part : (m : Range K) → cmp m.end (unwrap_or end r.end) ≡ Equal → IsRightPart shape ps (piece_list piece ++ from cmp m.end ps) r m v
     pub new_there : (x : K) → cmp x (unwrap_or end r.end) ≡ Equal → IsNewAt cmp x piece ps
+    pub past_end : (x : K) → cmp x (unwrap_or end r.end) ≡ Equal → from cmp x (past cmp r.end ps) ≡ past cmp r.end ps
     pub of_other_values : ((v w : V) → eq v w ≡ true) → piece ≡ None
 
   -- what a remove of r leaves before it, and after it

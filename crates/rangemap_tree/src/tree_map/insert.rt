@@ -1,8 +1,12 @@
 //! Giving the keys of a range a value.
-ghost use Rattle.std.specs.Prelude.{◌≡◌, true, ◌≤◌, ◌+◌, length, IfOk, OnOk, OnErr};
+ghost use Rattle.std.specs.Prelude.{◌≡◌, true, ◌≤◌, ◌+◌, List, filter, length, IfOk, OnOk, OnErr};
+ghost use Rattle.std.specs.BTreeMap.Range.{range_contains};
+ghost use Rattle.std.specs.Map.Iter.{TakesLast, deref_pair};
+ghost use Rattle.std.specs.declared.ops.Bound.TheVariants.{Excluded};
 ghost use Rattle.rangemap_core.specs.Clones.{KeysCloneFaithfully, ValuesCloneFaithfully};
 ghost use Rattle.rangemap_core.specs.Ranges.{IsCanonOf, IsCanonical, half_open, override, value_at};
 ghost use Rattle.rangemap_tree.specs.Sides.{IsLeft, IsRight};
+ghost use Rattle.rangemap_tree.specs.Starts.{AreStarts, before, from, past, up_to};
 ghost use Rattle.std.specs.Option.{unwrap_or};
 
 use super::RangeMap;
@@ -60,38 +64,40 @@ impl<K: Ord + Clone, V: Eq + Clone, A: Allocator + Clone> RangeMap<K, V, A> {
         ensures growth_where_all_are_equal { OnOk result (((v w : V) → V.eq v w ≡ true) → length self.new ≤ length self.old + 1) }
     {
         let pairs = &self.pairs;
-        let left = left_side(pairs, &range, &value)?;
-        let right = right_side(pairs, &range, &value)?;
+        let near = pairs.last_up_to(&range.end);
+        let left = left_side(pairs, near, &range, &value)?;
+        let right = right_side(pairs, near, &range, &value)?;
         let middle = joined(left.start, right.end, range);
         let key = middle.start.clone()?;
-        let starts = pairs.starts_between(Bound::Excluded(&middle.start), &middle.end)?;
+        let starts = starts_within(pairs, near, &middle)?;
         self.pairs.replace(key, middle, value, left.cut, right.piece, starts.as_slice())
     }
 }
 
-// Of the pairs that start before the new range only the last can reach it.
+// Of the pairs that start before the new range only the last can reach it. `near` is the last that
+// starts no later than its end.
 fn left_side<K: Ord + Clone, V: Eq, A: Allocator + Clone>(
     pairs: &ByStart<K, V, A>,
+    near: Option<(&Range<K>, &V)>,
     range: &Range<K>,
     value: &V,
 ) -> Result<Left<K>, AllocError>
     requires canonical { IsCanonical (half_open K.cmp) V.eq pairs.now }
+    requires near { (rest : List _) × TakesLast deref_pair (up_to K.cmp range.now.end pairs.now) near rest }
     requires range { (half_open K.cmp).IsNonEmpty range.now }
     requires faithful_keys { KeysCloneFaithfully K.is_clone K.cmp }
     ensures { IfOk result (λ left. IsLeft K.cmp V.eq pairs.now range.now value.now left.start left.cut) }
 {
-    let Some((first, first_value)) = pairs.last_before(&range.start) else {
-        return Ok(Left {
-            start: None,
-            cut: None,
-        });
+    let neither = Left {
+        start: None,
+        cut: None,
+    };
+    let Some((first, first_value)) = last_before(pairs, near, range) else {
+        return Ok(neither);
     };
     let reach = first.end.cmp(&range.start);
     if reach.is_lt() {
-        return Ok(Left {
-            start: None,
-            cut: None,
-        });
+        return Ok(neither);
     }
     if *first_value == *value {
         let start = first.start.clone()?;
@@ -107,35 +113,53 @@ fn left_side<K: Ord + Clone, V: Eq, A: Allocator + Clone>(
             cut: Some(rest),
         });
     }
-    Ok(Left {
-        start: None,
-        cut: None,
-    })
+    Ok(neither)
 }
 
-// Of the pairs that start no later than the end of the new range only the last can reach past it.
+// The last pair that starts before the range, where `near` is the last that starts no later than
+// its end. Mostly that is the one, and then the tree is not searched.
+fn last_before<'a, K: Ord, V: Eq, A: Allocator>(
+    pairs: &'a ByStart<K, V, A>,
+    near: Option<(&'a Range<K>, &'a V)>,
+    range: &Range<K>,
+) -> Option<(&'a Range<K>, &'a V)>
+    requires canonical { IsCanonical (half_open K.cmp) V.eq pairs.now }
+    requires near { (rest : List _) × TakesLast deref_pair (up_to K.cmp range.now.end pairs.now) near rest }
+    requires range { (half_open K.cmp).IsNonEmpty range.now }
+    ensures { (rest : List _) × TakesLast deref_pair (before K.cmp range.now.start pairs.now) result rest }
+{
+    let (last, last_value) = near?;
+    if last.start.cmp(&range.start).is_lt() {
+        Some((last, last_value))
+    } else {
+        pairs.last_before(&range.start)
+    }
+}
+
+// Of the pairs that start no later than the end of the new range only the last, `near`, can reach
+// past it.
 fn right_side<K: Ord + Clone, V: Eq + Clone, A: Allocator + Clone>(
     pairs: &ByStart<K, V, A>,
+    near: Option<(&Range<K>, &V)>,
     range: &Range<K>,
     value: &V,
 ) -> Result<Right<K, V>, AllocError>
     requires canonical { IsCanonical (half_open K.cmp) V.eq pairs.now }
+    requires near { (rest : List _) × TakesLast deref_pair (up_to K.cmp range.now.end pairs.now) near rest }
     requires range { (half_open K.cmp).IsNonEmpty range.now }
     requires faithful_keys { KeysCloneFaithfully K.is_clone K.cmp }
     requires faithful_values { ValuesCloneFaithfully V.is_clone V.eq }
     ensures { IfOk result (λ right. IsRight K.cmp V.eq pairs.now range.now value.now right.end right.piece) }
 {
-    let Some((last, last_value)) = pairs.last_up_to(&range.end) else {
-        return Ok(Right {
-            end: None,
-            piece: None,
-        });
+    let neither = Right {
+        end: None,
+        piece: None,
+    };
+    let Some((last, last_value)) = near else {
+        return Ok(neither);
     };
     if last.end.cmp(&range.end).is_le() {
-        return Ok(Right {
-            end: None,
-            piece: None,
-        });
+        return Ok(neither);
     }
     if *last_value == *value {
         let end = last.end.clone()?;
@@ -153,10 +177,30 @@ fn right_side<K: Ord + Clone, V: Eq + Clone, A: Allocator + Clone>(
             piece: Some((key, (rest, rest_value))),
         });
     }
-    Ok(Right {
-        end: None,
-        piece: None,
-    })
+    Ok(neither)
+}
+
+// Clones of the starts of the pairs that start within `middle`, the new range with what is taken
+// into it. `near` is the last that starts no later than the end of the new range, and none behind
+// it starts before `middle` ends. So where `near` starts no later than `middle`, none starts
+// within, and the tree is not searched.
+fn starts_within<K: Ord + Clone, V: Eq, A: Allocator + Clone>(
+    pairs: &ByStart<K, V, A>,
+    near: Option<(&Range<K>, &V)>,
+    middle: &Range<K>,
+) -> Result<Vec<K, A>, AllocError>
+    requires canonical { IsCanonical (half_open K.cmp) V.eq pairs.now }
+    requires near { (x : K) × ((rest : List _) × TakesLast deref_pair (up_to K.cmp x pairs.now) near rest) × (from K.cmp middle.now.end (past K.cmp x pairs.now) ≡ past K.cmp x pairs.now) }
+    requires range { (half_open K.cmp).IsNonEmpty middle.now }
+    requires faithful_keys { KeysCloneFaithfully K.is_clone K.cmp }
+    ensures { IfOk result (λ starts. AreStarts K.cmp (filter (λ p. range_contains K.cmp (Excluded middle.now.start) (Excluded middle.now.end) p.0.start) pairs.now) starts.items) }
+{
+    match near {
+        Some((last, _)) if last.start.cmp(&middle.start).is_gt() => {
+            pairs.starts_between(Bound::Excluded(&middle.start), &middle.end)
+        }
+        _ => Ok(Vec::new(pairs.allocator().clone()?)),
+    }
 }
 
 // The new range with what is taken into it.

@@ -1,7 +1,7 @@
 use Rattle.std.proofs.Common.{arith, ap, ◌-◌, ◌≡◌}
 use Rattle.rangemap_core.specs.engine.Stretch.{taken_or_new}
 use Rattle.rangemap_core.specs.engine.Endpoints.{AtStart, AtEnd, asked}
-use Rattle.rangemap_core.proofs.PlaceLemmas.{all_storable}
+use Rattle.rangemap_core.proofs.StoredLemmas.{all_storable}
 use Rattle.rangemap_core.proofs.EndpointLemmas.{answered_spans, has_middle, new_is, taken_is, taken_storable}
 use Rattle.rangemap_core.proofs.entries.Entries.middle.Goals as goal
 use Rattle.rangemap_core.proofs.entries.Entries.middle.Goals.{then-takes_first, else-takes_first, then-takes_last, else-takes_last}
@@ -32,7 +32,7 @@ returns g c =
     let eq = g.V.PartialEq.eq in
     let xs = c.args.self.now in
     let pair : g.row.R.Denot × g.row.V.Denot = (c.args.range, c.args.value.now) in
-    let all = all_storable p eq xs (c.requires.canonical) in
+    let all = all_storable _ eq xs (c.requires.canonical) in
     let taken = c.requires.taken in
     let first : taken_or_new xs c.args.start c.args.takes_first pair ≡ c.if-takes_first.first.now =
     elim (c.if-takes_first.branch) [

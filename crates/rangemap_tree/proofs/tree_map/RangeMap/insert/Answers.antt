@@ -3,13 +3,13 @@ use Rattle.std.specs.declared.ops.Range.{Range}
 use Rattle.rangemap_core.specs.Ranges.{half_open, IsCanonical, IsCanonOf, override, value_at}
 use Rattle.rangemap_core.proofs.InsertSideLemmas.{on_ok}
 use Rattle.rangemap_tree.specs.Starts.{before, from, recut, piece_list}
-use Rattle.rangemap_tree.proofs.ChangeLemmas.{cut_at, inserted, inserted_length, middle_full, new_at, piece_length}
+use Rattle.rangemap_tree.proofs.ChangeLemmas.{cut_at, inserted, inserted_length, middle_full, new_at, past_at, piece_length}
 use Rattle.rangemap_tree.proofs.ResultLemmas.{by_result}
 use Rattle.rangemap_tree.proofs.StartLemmas.{turned}
 use Rattle.rangemap_tree.proofs.tree_map.RangeMap.insert.Goals as goal
 
-pub starts_between-requires-clause-forward : goal.starts_between-requires-clause-forward
-starts_between-requires-clause-forward g c =
+pub starts_within-requires-clause-range : goal.starts_within-requires-clause-range
+starts_within-requires-clause-range g c =
     let o = g.met.K.Ord.total in
     let cmp = g.K.Ord.cmp in
     let eq = g.V.PartialEq.eq in
@@ -17,6 +17,15 @@ starts_between-requires-clause-forward g c =
     let ps = c.self.inside.pairs in
     let m = c.joined-middle.result in
     middle_full o eq e ps c.self.invariant c.args.range c.requires.non_empty c.args.value c.in_ok-left.left.start c.in_ok-right.right.end c.in_ok-left.left.cut c.in_ok-right.right.piece c.in_ok-left.ensures c.in_ok-right.ensures m c.joined-middle.ensures.start c.joined-middle.ensures.end
+
+pub starts_within-requires-clause-near : goal.starts_within-requires-clause-near
+starts_within-requires-clause-near g c =
+    let o = g.met.K.Ord.total in
+    let eq = g.V.PartialEq.eq in
+    let e = g.met.V.Eq.laws in
+    let ps = c.self.inside.pairs in
+    let m = c.joined-middle.result in
+    (c.args.range.end, c.last_up_to-near.ensures, past_at o eq e ps c.self.invariant c.args.range c.requires.non_empty c.args.value c.in_ok-left.left.start c.in_ok-right.right.end c.in_ok-left.left.cut c.in_ok-right.right.piece c.in_ok-left.ensures c.in_ok-right.ensures m c.joined-middle.ensures.start c.joined-middle.ensures.end)
 
 pub replace-requires-clause-key : goal.replace-requires-clause-key
 replace-requires-clause-key g c = turned g.met.K.Ord.total _ _ (c.requires.faithful_keys _ _ c.in_ok-key.ensures.cases)
