@@ -5,13 +5,14 @@ pub mod ReplayLemmas
 pub use Rattle.rangemap_core.proofs.IncomingLemmas
 pub mod CallerLemmas
 pub mod GapLoopLemmas
+pub mod NumberKinds
 pub mod NumberLemmas
 pub mod SetLemmas
 pub mod SetRoundTripLemmas
 pub mod OperatorLemmas
 pub mod SetReplayLemmas
-pub mod HalfOpenLemmas
 pub mod PairLoopLemmas
 pub mod SetCallerLemmas
 pub mod AppendLemmas
 pub mod RunLemmas
+pub mod LoopLemmas

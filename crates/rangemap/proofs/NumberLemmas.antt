@@ -1,306 +1,222 @@
--- For callers whose keys are numbers: what the contracts say, by < and ≤.
-use Rattle.std.proofs.Common.{arith, ◌≡◌, ℕ, ◌+◌, ◌<◌, ◌≤◌, Bool, true, false, ◌&&◌, cond, List, Option, Some, None, option_map, Less, Equal, subst, refl, sym, ap, is_lt, is_le, eqb-true, true≢false, ◌≢◌, []}
-use Rattle.std.proofs.lemmas.Bool.Decides.{nat_tests}
-use Rattle.std.proofs.lemmas.Map.Keys.{le_from_is_le}
-use Rattle.std.specs.Option.{option_eq}
-use Rattle.std.specs.Prelude.{nat_eq, ⊤, nat_lt, map, Result, Ok, IsOkAnd, length}
-use Rattle.std.specs.Ordering.{nat_cmp}
-use Rattle.std.specs.Cmp.{nat_cmp_is, nat_cmp_total}
-use Rattle.std.specs.declared.ops.Range.{Range}
-use Rattle.std.specs.declared.ops.RangeInclusive.{RangeInclusive}
-use Rattle.std.specs.Range.{range_inclusive_start, range_inclusive_end, range_inclusive_exhausted}
-use Rattle.std.proofs.lemmas.Bool.{lt-ltb}
+-- For callers whose keys are numbers: what the contracts say, by ≤ and <. Each lemma is of any kind of
+-- ranges of numbers, as `n`: `half_open_unsigned`, `closed_unsigned bound`, and the same signed.
+use Rattle.std.proofs.Common.{◌≡◌, ◌≢◌, ℕ, Bool, true, false, List, [], map, length, nat_lt, Option, Some, None, option_map, Result, Ok, IsOkAnd, Ordering, Less, Equal, Greater, is_eq, true≢false, eqb-true, refl, sym, ap, subst}
+use Rattle.std.specs.Cmp.{int_ranked}
 use Rattle.std.specs.Iterator.{Yields}
 use Rattle.std.specs.List.{All}
+use Rattle.std.specs.Option.{option_eq}
+use Rattle.std.specs.Ordering.{int_cmp, int_eq}
+use Rattle.std.specs.Prelude.{nat_eq, ⊤, ℤ}
 use Rattle.std.specs.declared.alloc.AllocError.{AllocError}
-use Rattle.rangemap.proofs.CallerLemmas.{defined_by_overlaps, undefined_by_overlaps, changes_behind, covering_holds, covering_same, exact_option, insert_outside, insert_within, remove_outside, remove_within, defined_where_one_meets, undefined_where_none_meets}
-use Rattle.rangemap.proofs.GapLoopLemmas.{IsWithin, free_in_earlier, free_in_given, item_stored, item_undefined, item_within}
-use Rattle.rangemap.specs.Held.{IsDefinedIn}
-use Rattle.rangemap.specs.StepLaws.{nat_after, nat_before, nat_follows, nat_precedes}
-use Rattle.rangemap.specs.Histories.{IsUndefinedOn}
 use Rattle.rangemap_core.specs.Items.{GivesRange}
-use Rattle.rangemap_core.specs.Ranges.{AreGaps, IsCanonOf, IsCanonical, IsStorable, RangeKind, closed, covering, erase, half_open, override, value_at, overlapped}
-use Rattle.rangemap_core.specs.engine.EndpointKinds.{half_open_part, half_open_placed}
-use Rattle.rangemap_maps.specs.ClosedEndpoints.{closed_part, closed_placed}
-use Rattle.rangemap_core.specs.engine.Endpoints.{IsPlaced}
-use Rattle.rangemap_core.specs.engine.PlacedKinds.{half_open_end_place}
-use Rattle.rangemap_maps.specs.ClosedPlaces.{closed_end_place}
-use Rattle.rangemap_core.specs.engine.Places.{place_cmp}
-use Rattle.rangemap_core.specs.laws.Orders.{itself}
-
-nat_less : (x y : ℕ) → x < y → nat_cmp x y ≡ Less
-nat_less x y h = sym (nat_cmp_is x y Less h)
-
-le_lt : (x y z : ℕ) → x ≤ y → y < z → x < z
-le_lt x y z h l = omega arith
-
--- ---- kinds
-
--- ranges `a..=b` of numbers below the bound, and ranges `a..b` of numbers
-abbrev pub closed_below : ℕ → RangeKind ℕ (RangeInclusive ℕ)
-closed_below bound = closed (λ x. x < bound) nat_cmp
-
-abbrev pub half_open_numbers : RangeKind ℕ (Range ℕ)
-half_open_numbers = half_open nat_cmp
-
--- what the lemmas of `CallerLemmas` ask of a kind as `p`
-pub placed_below : (bound : ℕ) → IsPlaced (closed_below bound) (closed_end_place (nat_after bound)) (closed_part (nat_after bound) nat_before)
-placed_below bound = closed_placed (λ x. x < bound) nat_cmp nat_cmp_total (nat_after bound) nat_before (nat_follows bound) (nat_precedes bound)
-
-pub placed_half_open : IsPlaced half_open_numbers half_open_end_place half_open_part
-placed_half_open = half_open_placed nat_cmp_total
+use Rattle.rangemap_core.specs.Ranges.{AreGaps, IsCanonOf, IsCanonical, IsStorable, covering, erase, overlapped, override, value_at}
+use Rattle.rangemap.specs.Held.{IsDefinedIn}
+use Rattle.rangemap.specs.Histories.{IsUndefinedOn}
+use Rattle.rangemap.proofs.CallerLemmas.{changes_behind, covering_holds, covering_same, defined_by_overlaps, defined_where_one_meets, exact_option, holds_start, insert_outside, insert_within, remove_outside, remove_within, undefined_by_overlaps, undefined_where_none_meets}
+use Rattle.rangemap.proofs.GapLoopLemmas.{IsWithin, free_in_earlier, free_in_given, item_stored, item_undefined, item_within}
+use Rattle.rangemap.proofs.NumberKinds.{NumberKind}
 
 -- ---- values: equal ones are the same one
 
 pub same_number : (v w : ℕ) → nat_eq v w ≡ true → v ≡ w
 same_number v w h = eqb-true v w h
 
+pub same_signed : (v w : ℤ) → int_eq v w ≡ true → v ≡ w
+same_signed v w h = go (int_cmp v w) refl h
+  where
+    go : (r : Ordering) → int_cmp v w ≡ r → is_eq r ≡ true → v ≡ w
+    go Less e t = absurd (true≢false (sym t))
+    go Equal e t = int_ranked v w Equal (sym e)
+    go Greater e t = absurd (true≢false (sym t))
+
 pub same_unit : (v w : ⊤) → true ≡ true → v ≡ w
 same_unit v w h = refl
 
 -- ---- keys of a range
 
-le_true : (a b : ℕ) → a ≤ b → is_le (nat_cmp a b) ≡ true
-le_true a b h = grind (arith, nat_tests)
+false_by : (b : Bool) → (b ≡ true → ⊥) → b ≡ false
+false_by true h = absurd (h refl)
+false_by false h = refl
 
-lt_true : (a b : ℕ) → a < b → is_lt (nat_cmp a b) ≡ true
-lt_true a b h = grind (arith, nat_tests)
+module _ {K X : Type 0} (n : NumberKind K X) (r : X) where
+  pub not_before : (x : K) → n.order.IsBelow x (n.kind.start r) → n.kind.holds r x ≡ false
+  not_before x below = false_by (n.kind.holds r x) (λ h. n.order.not_both x (n.kind.start r) below (n.from r x h))
 
-le_false : (a b : ℕ) → b < a → is_le (nat_cmp a b) ≡ false
-le_false a b h = grind (arith, nat_tests)
+  pub not_behind : (x : K) → n.order.IsAtMost (n.behind r) x → n.kind.holds r x ≡ false
+  not_behind x past = false_by (n.kind.holds r x) (λ h. n.order.not_both x (n.behind r) (n.to r x h) past)
 
-lt_false : (a b : ℕ) → b ≤ a → is_lt (nat_cmp a b) ≡ false
-lt_false a b h = grind (arith, nat_tests)
-
-lt_from : (a b : ℕ) → is_lt (nat_cmp a b) ≡ true → a < b
-lt_from a b h = grind (arith, nat_tests)
-
-both_true : (a b : Bool) → a ≡ true → b ≡ true → (a && b) ≡ true
-both_true a b h j = grind (arith, h, j)
-
-left_false : (a b : Bool) → a ≡ false → (a && b) ≡ false
-left_false a b h = grind (arith, h)
-
-right_false : (a b : Bool) → b ≡ false → (a && b) ≡ false
-right_false true b h = h
-right_false false b h = refl
-
-first_true : (a b : Bool) → (a && b) ≡ true → a ≡ true
-first_true a b h = grind (arith, h)
-
-second_true : (a b : Bool) → (a && b) ≡ true → b ≡ true
-second_true a b h = grind (arith, h)
-
-module _ (bound : ℕ) (r : RangeInclusive ℕ) (x : ℕ) where
-  pub closed_holds : range_inclusive_start r ≤ x → x ≤ range_inclusive_end r → (closed_below bound).holds r x ≡ true
-  closed_holds h j = both_true (is_le (nat_cmp (range_inclusive_start r) x)) (is_le (nat_cmp x (range_inclusive_end r))) (le_true (range_inclusive_start r) x h) (le_true x (range_inclusive_end r) j)
-
-  pub closed_from : (closed_below bound).holds r x ≡ true → range_inclusive_start r ≤ x
-  closed_from h = le_from_is_le (range_inclusive_start r) x (first_true (is_le (nat_cmp (range_inclusive_start r) x)) (is_le (nat_cmp x (range_inclusive_end r))) h)
-
-  pub closed_to : (closed_below bound).holds r x ≡ true → x ≤ range_inclusive_end r
-  closed_to h = le_from_is_le x (range_inclusive_end r) (second_true (is_le (nat_cmp (range_inclusive_start r) x)) (is_le (nat_cmp x (range_inclusive_end r))) h)
-
-  pub closed_before : x < range_inclusive_start r → (closed_below bound).holds r x ≡ false
-  closed_before h = left_false (is_le (nat_cmp (range_inclusive_start r) x)) (is_le (nat_cmp x (range_inclusive_end r))) (le_false (range_inclusive_start r) x h)
-
-  pub closed_behind : range_inclusive_end r < x → (closed_below bound).holds r x ≡ false
-  closed_behind h = right_false (is_le (nat_cmp (range_inclusive_start r) x)) (is_le (nat_cmp x (range_inclusive_end r))) (le_false x (range_inclusive_end r) h)
-
-module _ (r : Range ℕ) (x : ℕ) where
-  pub half_open_holds : r.start ≤ x → x < r.end → half_open_numbers.holds r x ≡ true
-  half_open_holds h j = both_true (is_le (nat_cmp r.start x)) (is_lt (nat_cmp x r.end)) (le_true r.start x h) (lt_true x r.end j)
-
-  pub half_open_from : half_open_numbers.holds r x ≡ true → r.start ≤ x
-  half_open_from h = le_from_is_le r.start x (first_true (is_le (nat_cmp r.start x)) (is_lt (nat_cmp x r.end)) h)
-
-  pub half_open_to : half_open_numbers.holds r x ≡ true → x < r.end
-  half_open_to h = lt_from x r.end (second_true (is_le (nat_cmp r.start x)) (is_lt (nat_cmp x r.end)) h)
-
-  pub half_open_before : x < r.start → half_open_numbers.holds r x ≡ false
-  half_open_before h = left_false (is_le (nat_cmp r.start x)) (is_lt (nat_cmp x r.end)) (le_false r.start x h)
-
-  pub half_open_behind : r.end ≤ x → half_open_numbers.holds r x ≡ false
-  half_open_behind h = right_false (is_le (nat_cmp r.start x)) (is_lt (nat_cmp x r.end)) (lt_false x r.end h)
-
--- a range of numbers that may be stored
-pub closed_storable : (bound : ℕ) (r : RangeInclusive ℕ) → range_inclusive_start r ≤ range_inclusive_end r → range_inclusive_end r < bound → range_inclusive_exhausted r ≡ false → IsStorable (closed_below bound) r
-closed_storable bound r h l fresh = record { start_is_key = omega arith; end_is_key = l; non_empty = (le_true (range_inclusive_start r) (range_inclusive_end r) h, fresh) }
+  -- a range that may be stored has a number
+  pub forward : IsStorable n.kind r → n.order.IsBelow (n.kind.start r) (n.behind r)
+  forward stored = n.to r (n.kind.start r) (holds_start n.placed r stored)
 
 -- ---- values after a change, where equal values are the same (`same_number` says so of numbers)
 
-module _ {V : Type 0} {eq : V → V → Bool} (exact : (v w : V) → eq v w ≡ true → v ≡ w) (bound : ℕ) (f : ℕ → Option V) (r : RangeInclusive ℕ) (list : List (RangeInclusive ℕ × V)) (x : ℕ) (key : x < bound) where
-  module _ (v : V) (h : IsCanonOf (closed_below bound) eq (override (closed_below bound) f r v) list) where
-    pub closed_insert_within : range_inclusive_start r ≤ x → x ≤ range_inclusive_end r → value_at (closed_below bound) list x ≡ Some v
-    closed_insert_within from to = exact_option exact (value_at (closed_below bound) list x) (Some v) (insert_within (closed_below bound) eq f r list x key v h (closed_holds bound r x from to))
+module _ {K X V : Type 0} (n : NumberKind K X) {eq : V → V → Bool} (exact : (v w : V) → eq v w ≡ true → v ≡ w) (f : K → Option V) (r : X) (list : List (X × V)) (x : K) (key : n.kind.is_key x) where
+  module _ (v : V) (h : IsCanonOf n.kind eq (override n.kind f r v) list) where
+    pub inserted_within : n.order.IsAtMost (n.kind.start r) x → n.order.IsBelow x (n.behind r) → value_at n.kind list x ≡ Some v
+    inserted_within from to = exact_option exact (value_at n.kind list x) (Some v) (insert_within n.kind eq f r list x key v h (n.holds r x from to))
 
-    pub closed_insert_before : x < range_inclusive_start r → value_at (closed_below bound) list x ≡ f x
-    closed_insert_before start_place = exact_option exact (value_at (closed_below bound) list x) (f x) (insert_outside (closed_below bound) eq f r list x key v h (closed_before bound r x start_place))
+    pub inserted_before : n.order.IsBelow x (n.kind.start r) → value_at n.kind list x ≡ f x
+    inserted_before below = exact_option exact (value_at n.kind list x) (f x) (insert_outside n.kind eq f r list x key v h (not_before n r x below))
 
-    pub closed_insert_behind : range_inclusive_end r < x → value_at (closed_below bound) list x ≡ f x
-    closed_insert_behind up = exact_option exact (value_at (closed_below bound) list x) (f x) (insert_outside (closed_below bound) eq f r list x key v h (closed_behind bound r x up))
+    pub inserted_behind : n.order.IsAtMost (n.behind r) x → value_at n.kind list x ≡ f x
+    inserted_behind past = exact_option exact (value_at n.kind list x) (f x) (insert_outside n.kind eq f r list x key v h (not_behind n r x past))
 
-  module _ (h : IsCanonOf (closed_below bound) eq (erase (closed_below bound) f r) list) where
-    pub closed_remove_within : range_inclusive_start r ≤ x → x ≤ range_inclusive_end r → value_at (closed_below bound) list x ≡ None
-    closed_remove_within from to = remove_within (closed_below bound) eq f r list x key h (closed_holds bound r x from to)
+  module _ (h : IsCanonOf n.kind eq (erase n.kind f r) list) where
+    pub removed_within : n.order.IsAtMost (n.kind.start r) x → n.order.IsBelow x (n.behind r) → value_at n.kind list x ≡ None
+    removed_within from to = remove_within n.kind eq f r list x key h (n.holds r x from to)
 
-    pub closed_remove_before : x < range_inclusive_start r → value_at (closed_below bound) list x ≡ f x
-    closed_remove_before start_place = exact_option exact (value_at (closed_below bound) list x) (f x) (remove_outside (closed_below bound) eq f r list x key h (closed_before bound r x start_place))
+    pub removed_before : n.order.IsBelow x (n.kind.start r) → value_at n.kind list x ≡ f x
+    removed_before below = exact_option exact (value_at n.kind list x) (f x) (remove_outside n.kind eq f r list x key h (not_before n r x below))
 
-    pub closed_remove_behind : range_inclusive_end r < x → value_at (closed_below bound) list x ≡ f x
-    closed_remove_behind up = exact_option exact (value_at (closed_below bound) list x) (f x) (remove_outside (closed_below bound) eq f r list x key h (closed_behind bound r x up))
+    pub removed_behind : n.order.IsAtMost (n.behind r) x → value_at n.kind list x ≡ f x
+    removed_behind past = exact_option exact (value_at n.kind list x) (f x) (remove_outside n.kind eq f r list x key h (not_behind n r x past))
 
-module _ {V : Type 0} {eq : V → V → Bool} (exact : (v w : V) → eq v w ≡ true → v ≡ w) (f : ℕ → Option V) (r : Range ℕ) (list : List (Range ℕ × V)) (x : ℕ) where
-  module _ (v : V) (h : IsCanonOf half_open_numbers eq (override half_open_numbers f r v) list) where
-    pub half_open_insert_within : r.start ≤ x → x < r.end → value_at half_open_numbers list x ≡ Some v
-    half_open_insert_within from to = exact_option exact (value_at half_open_numbers list x) (Some v) (insert_within half_open_numbers eq f r list x tt v h (half_open_holds r x from to))
+-- ---- the stored range that has a number
 
-    pub half_open_insert_before : x < r.start → value_at half_open_numbers list x ≡ f x
-    half_open_insert_before start_place = exact_option exact (value_at half_open_numbers list x) (f x) (insert_outside half_open_numbers eq f r list x tt v h (half_open_before r x start_place))
-
-    pub half_open_insert_behind : r.end ≤ x → value_at half_open_numbers list x ≡ f x
-    half_open_insert_behind up = exact_option exact (value_at half_open_numbers list x) (f x) (insert_outside half_open_numbers eq f r list x tt v h (half_open_behind r x up))
-
-  module _ (h : IsCanonOf half_open_numbers eq (erase half_open_numbers f r) list) where
-    pub half_open_remove_within : r.start ≤ x → x < r.end → value_at half_open_numbers list x ≡ None
-    half_open_remove_within from to = remove_within half_open_numbers eq f r list x tt h (half_open_holds r x from to)
-
-    pub half_open_remove_before : x < r.start → value_at half_open_numbers list x ≡ f x
-    half_open_remove_before start_place = exact_option exact (value_at half_open_numbers list x) (f x) (remove_outside half_open_numbers eq f r list x tt h (half_open_before r x start_place))
-
-    pub half_open_remove_behind : r.end ≤ x → value_at half_open_numbers list x ≡ f x
-    half_open_remove_behind up = exact_option exact (value_at half_open_numbers list x) (f x) (remove_outside half_open_numbers eq f r list x tt h (half_open_behind r x up))
-
--- ---- the stored range that has a key, as `get_key_value` gives it
-
--- where all values are equal, what has not one has none
-pub unit_none : (m : Option ⊤) → option_eq (λ _ _. true) m (Some tt) ≡ false → m ≡ None
-unit_none None h = refl
-unit_none (Some u) h = absurd (true≢false h)
-
-next_place : (bound y : ℕ) → y + 1 < bound → place_cmp nat_cmp (Some (y + 1)) (nat_after bound y) ≡ Equal
-next_place bound y l = subst (λ b. place_cmp nat_cmp (Some (y + 1)) (cond b (Some (y + 1)) None) ≡ Equal) (sym (lt-ltb (y + 1) bound l)) (itself nat_cmp_total (y + 1))
-
--- The stored range r, with the value v, has the key x: it ends below the bound, each of its keys
--- has its value, and the key behind it has not.
-pub record IsRun {V : Type 0} (eq : V → V → Bool) (bound : ℕ) (list : List (RangeInclusive ℕ × V)) (x : ℕ) (r : RangeInclusive ℕ) (v : V) : Type 0 where
-  pub from : range_inclusive_start r ≤ x
-  pub to : x ≤ range_inclusive_end r
-  pub below : range_inclusive_end r < bound
-  pub value : (y : ℕ) → range_inclusive_start r ≤ y → y ≤ range_inclusive_end r → value_at (closed_below bound) list y ≡ Some v
-  pub ends : range_inclusive_end r + 1 < bound → option_eq eq (value_at (closed_below bound) list (range_inclusive_end r + 1)) (Some v) ≡ false
+-- The range r has the number x. `Has` holds of each number of it, and `Lacks` of the number behind it.
+pub record IsRun {K X : Type 0} (n : NumberKind K X) (Has Lacks : K → Type 0) (x : K) (r : X) : Type 0 where
+  pub stored : IsStorable n.kind r
+  pub from : n.order.IsAtMost (n.kind.start r) x
+  pub to : n.order.IsBelow x (n.behind r)
+  pub has : (y : K) → n.order.IsAtMost (n.kind.start r) y → n.order.IsBelow y (n.behind r) → Has y
+  pub ends : n.kind.is_key (n.behind r) → Lacks (n.behind r)
 
 -- what `get_key_value` found, where equality of values is symmetric
-pub run_found : {V : Type 0} {eq : V → V → Bool} → ((v w : V) → eq v w ≡ eq w v) → {bound : ℕ} {list : List (RangeInclusive ℕ × V)} → IsCanonical (closed_below bound) eq list → {x : ℕ} → x < bound → {r : RangeInclusive ℕ} {v : V}
-    → Some (r, v) ≡ covering (closed_below bound) list x → IsRun eq bound list x r v
-run_found {V = V} {eq = eq} symm {bound} {list} can {x} key {r} {v} h =
-    let found : IsStorable (closed_below bound) r × ((closed_below bound).holds r x ≡ true) = covering_holds (placed_below bound) eq list (r, v) x can (sym h) in
+pub run_found : {K X V : Type 0} (n : NumberKind K X) {eq : V → V → Bool} → ((v w : V) → eq v w ≡ eq w v) → (list : List (X × V)) → IsCanonical n.kind eq list → {x : K} → n.kind.is_key x → {r : X} {v : V}
+    → Some (r, v) ≡ covering n.kind list x → IsRun n (λ y. value_at n.kind list y ≡ Some v) (λ y. option_eq eq (value_at n.kind list y) (Some v) ≡ false) x r
+run_found {X = X} {V = V} n {eq = eq} symm list can {x} key {r} {v} h =
+    let found : IsStorable n.kind r × (n.kind.holds r x ≡ true) = covering_holds n.placed eq list (r, v) x can (sym h) in
     record {
-      from = closed_from bound r x found.1;
-      to = closed_to bound r x found.1;
-      below = found.0.end_is_key;
-      value = λ y from to. ap (option_map (λ (q : RangeInclusive ℕ × V). q.1)) (covering_same (placed_below bound) eq list (r, v) x y can (omega (arith, found.0.end_is_key)) (sym h) (closed_holds bound r y from to));
-      ends = λ l. changes_behind (placed_below bound) eq symm list (r, v) x (range_inclusive_end r + 1) can key l (sym h) (next_place bound (range_inclusive_end r) l);
+      stored = found.0;
+      from = n.from r x found.1;
+      to = n.to r x found.1;
+      has = λ y from to. let holds = n.holds r y from to in ap (option_map (λ (q : X × V). q.1)) (covering_same n.placed eq list (r, v) x y can (n.is_key r y found.0 holds) (sym h) holds);
+      ends = λ end. changes_behind n.placed eq symm list (r, v) x (n.behind r) can key end (sym h) (n.ends r end);
     }
 
--- ---- a loop over the gaps of q, as `for gap in map.gaps(&q)`, that keeps of each gap that P holds
--- of it: `All (λ item. IsOkAnd item P) l.yielded`
+-- ---- what `overlaps` and `overlapping` tell
 
--- no number from the first to the last has a value
-abbrev pub IsFreeBetween : {V : Type 0} → ℕ → List (RangeInclusive ℕ × V) → ℕ → ℕ → Type 0
-IsFreeBetween bound list first last = (x : ℕ) → first ≤ x → x ≤ last → value_at (closed_below bound) list x ≡ None
+module _ {K X V : Type 0} (n : NumberKind K X) (list : List (X × V)) where
+  -- no number from the first up to, and without, the second has a value
+  abbrev pub IsFreeBetween : K → K → Type 0
+  IsFreeBetween first past = (x : K) → n.order.IsAtMost first x → n.order.IsBelow x past → value_at n.kind list x ≡ None
 
--- some number from the first to the last has a value
-pub record IsHeldBetween {V : Type 0} (bound : ℕ) (list : List (RangeInclusive ℕ × V)) (first last : ℕ) : Type 0 where
-  pub at : ℕ
-  pub from : first ≤ at
-  pub to : at ≤ last
-  pub value : V
-  pub is : value_at (closed_below bound) list at ≡ Some value
+  -- some number from the first up to, and without, the second has one
+  pub record IsHeldBetween (first past : K) : Type 0 where
+    pub at : K
+    pub from : n.order.IsAtMost first at
+    pub to : n.order.IsBelow at past
+    pub value : V
+    pub is : value_at n.kind list at ≡ Some value
 
-pub not_free_and_held : {V : Type 0} {bound : ℕ} {list : List (RangeInclusive ℕ × V)} {first last : ℕ} (h : IsHeldBetween bound list first last) → value_at (closed_below bound) list h.at ≡ None → ⊥
-not_free_and_held h none = let some = h.is in cc
+  pub not_free_and_held : {first past : K} (h : IsHeldBetween first past) → value_at n.kind list h.at ≡ None → ⊥
+  not_free_and_held h none = let some = h.is in cc
 
--- what `overlaps` and `overlapping` tell of the range `first..=last`
-module _ {V : Type 0} (eq : V → V → Bool) {bound : ℕ} (list : List (RangeInclusive ℕ × V)) (can : IsCanonical (closed_below bound) eq list) (q : RangeInclusive ℕ) {first last : ℕ}
-    (start : range_inclusive_start q ≡ first) (end : range_inclusive_end q ≡ last) (fresh : range_inclusive_exhausted q ≡ false) (forward : first ≤ last) (below : last < bound) where
-  asked_for : IsStorable (closed_below bound) q
-  asked_for = closed_storable bound q (omega (arith, start, end)) (omega (arith, end)) fresh
+module _ {K X V : Type 0} (n : NumberKind K X) (eq : V → V → Bool) (list : List (X × V)) (can : IsCanonical n.kind eq list) (q : X) (stored : IsStorable n.kind q) where
+  free_from : IsUndefinedOn n.kind (value_at n.kind list) q → IsFreeBetween n list (n.kind.start q) (n.behind q)
+  free_from none x from to = let holds = n.holds q x from to in none x (n.is_key q x stored holds) holds
 
-  free_from : IsUndefinedOn (closed_below bound) (value_at (closed_below bound) list) q → IsFreeBetween bound list first last
-  free_from none x from to = none x (omega arith) (closed_holds bound q x (omega (arith, start)) (omega (arith, end)))
+  held_from : IsDefinedIn n.kind (value_at n.kind list) q → IsHeldBetween n list (n.kind.start q) (n.behind q)
+  held_from one = record { at = one.key; from = n.from q one.key one.holds; to = n.to q one.key one.holds; value = one.value; is = one.is }
 
-  held_from : IsDefinedIn (closed_below bound) (value_at (closed_below bound) list) q → IsHeldBetween bound list first last
-  held_from one =
-      let from = closed_from bound q one.key one.holds in
-      let to = closed_to bound q one.key one.holds in
-      record { at = one.key; from = omega (arith, start, from); to = omega (arith, end, to); value = one.value; is = one.is }
+  pub free_by_overlaps : nat_lt 0 (length (overlapped n.kind list q)) ≡ false → IsFreeBetween n list (n.kind.start q) (n.behind q)
+  free_by_overlaps h = free_from (undefined_by_overlaps n.placed eq q stored list can h)
 
-  pub free_by_overlaps : nat_lt 0 (length (overlapped (closed_below bound) list q)) ≡ false → IsFreeBetween bound list first last
-  free_by_overlaps h = free_from (undefined_by_overlaps (placed_below bound) eq q asked_for list can h)
+  pub held_by_overlaps : nat_lt 0 (length (overlapped n.kind list q)) ≡ true → IsHeldBetween n list (n.kind.start q) (n.behind q)
+  held_by_overlaps h = held_from (defined_by_overlaps n.placed eq q stored list can h)
 
-  pub held_by_overlaps : nat_lt 0 (length (overlapped (closed_below bound) list q)) ≡ true → IsHeldBetween bound list first last
-  held_by_overlaps h = held_from (defined_by_overlaps (placed_below bound) eq q asked_for list can h)
+  pub free_where_none_meets : overlapped n.kind list q ≡ [] → IsFreeBetween n list (n.kind.start q) (n.behind q)
+  free_where_none_meets h = free_from (undefined_where_none_meets n.placed eq q stored list can h)
 
-  pub free_where_none_meets : overlapped (closed_below bound) list q ≡ [] → IsFreeBetween bound list first last
-  free_where_none_meets h = free_from (undefined_where_none_meets (placed_below bound) eq q asked_for list can h)
+  pub held_where_one_meets : overlapped n.kind list q ≢ [] → IsHeldBetween n list (n.kind.start q) (n.behind q)
+  held_where_one_meets h = held_from (defined_where_one_meets n.placed eq q stored list can h)
 
-  pub held_where_one_meets : overlapped (closed_below bound) list q ≢ [] → IsHeldBetween bound list first last
-  held_where_one_meets h = held_from (defined_where_one_meets (placed_below bound) eq q asked_for list can h)
+-- ---- a loop that searches the gaps of q, as `for gap in map.gaps(&q)`, and keeps of each gap that P
+-- holds of it: `All (λ item. IsOkAnd item P) l.yielded`
 
--- some range of which P holds reaches from the first number to the last
-pub record IsInOne (P : RangeInclusive ℕ → Type 0) (first last : ℕ) : Type 0 where
-  pub gap : RangeInclusive ℕ
-  pub kept : P gap
-  pub starts : range_inclusive_start gap ≤ first
-  pub ends : last ≤ range_inclusive_end gap
+module _ {K X : Type 0} (n : NumberKind K X) where
+  -- some number lies from the first up to, and without, the second, and those that do are keys
+  pub record IsStretch (first past : K) : Type 0 where
+    pub forward : n.order.IsBelow first past
+    pub first_is_key : n.kind.is_key first
+    pub last_is_key : n.kind.is_key (n.order.last past)
+
+  -- some range of which P holds has all of them
+  pub record IsInOne (P : X → Type 0) (first past : K) : Type 0 where
+    pub gap : X
+    pub kept : P gap
+    pub starts : n.order.IsAtMost (n.kind.start gap) first
+    pub ends : n.order.IsAtMost past (n.behind gap)
 
 -- The next gap: its numbers are numbers of q without a value, and whatever such numbers start
 -- before it lie in an earlier gap.
-pub record IsNextGap {V : Type 0} (bound : ℕ) (list : List (RangeInclusive ℕ × V)) (q : RangeInclusive ℕ) (P : RangeInclusive ℕ → Type 0) (gap : RangeInclusive ℕ) : Type 0 where
-  pub forward : range_inclusive_start gap ≤ range_inclusive_end gap
-  pub below : range_inclusive_end gap < bound
-  pub from : range_inclusive_start q ≤ range_inclusive_start gap
-  pub to : range_inclusive_end gap ≤ range_inclusive_end q
-  pub free : IsFreeBetween bound list (range_inclusive_start gap) (range_inclusive_end gap)
-  pub earlier : (first last : ℕ) → range_inclusive_start q ≤ first → first ≤ last → last ≤ range_inclusive_end q → last < bound → IsFreeBetween bound list first last → first < range_inclusive_start gap → IsInOne P first last
+pub record IsNextGap {K X V : Type 0} (n : NumberKind K X) (list : List (X × V)) (q : X) (P : X → Type 0) (gap : X) : Type 0 where
+  pub stored : IsStorable n.kind gap
+  pub forward : n.order.IsBelow (n.kind.start gap) (n.behind gap)
+  pub from : n.order.IsAtMost (n.kind.start q) (n.kind.start gap)
+  pub to : n.order.IsAtMost (n.behind gap) (n.behind q)
+  pub free : IsFreeBetween n list (n.kind.start gap) (n.behind gap)
+  pub earlier : (first past : K) → IsStretch n first past → n.order.IsAtMost (n.kind.start q) first → n.order.IsAtMost past (n.behind q) → IsFreeBetween n list first past → n.order.IsBelow first (n.kind.start gap) → IsInOne n P first past
 
-abbrev between : ℕ → ℕ → RangeInclusive ℕ
-between first last = record { start = first; end = last; exhausted = false }
+module _ {K X V : Type 0} (n : NumberKind K X) (list : List (X × V)) (q : X) (all start : List X) (items : List (Result X AllocError)) (left new : List X) (result : Option (Result X AllocError))
+    (are : AreGaps n.kind (map (λ pair. pair.0) list) q all) (is : start ≡ all) (so_far : Yields (GivesRange n.kind) start items left) (step : GivesRange n.kind left result new) (P : X → Type 0) (each : All (λ item. IsOkAnd item P) items) where
+  module _ (first past : K) (s : IsStretch n first past) (from : n.order.IsAtMost (n.kind.start q) first) (to : n.order.IsAtMost past (n.behind q)) (free : IsFreeBetween n list first past) where
+    abbrev r : X
+    r = n.stretch first past
 
-in_one : (bound : ℕ) (P : RangeInclusive ℕ → Type 0) (first last : ℕ) → (s : RangeInclusive ℕ) × P s × IsWithin (closed_below bound) (between first last) s → IsInOne P first last
-in_one bound P first last w = record { gap = w.0; kept = w.1; starts = le_from_is_le (range_inclusive_start w.0) first w.2.starts; ends = le_from_is_le last (range_inclusive_end w.0) w.2.ends }
+    r_from : (x : K) → n.kind.holds r x ≡ true → n.order.IsAtMost first x
+    r_from x h = subst (λ a. n.order.IsAtMost a x) (n.starts first past) (n.from r x h)
 
-module _ {V : Type 0} {bound : ℕ} (list : List (RangeInclusive ℕ × V)) (q : RangeInclusive ℕ) (all start : List (RangeInclusive ℕ)) (items : List (Result (RangeInclusive ℕ) AllocError)) (left new : List (RangeInclusive ℕ)) (result : Option (Result (RangeInclusive ℕ) AllocError))
-    (are : AreGaps (closed_below bound) (map (λ pair. pair.0) list) q all) (is : start ≡ all) (so_far : Yields (GivesRange (closed_below bound)) start items left) (step : GivesRange (closed_below bound) left result new)
-    (P : RangeInclusive ℕ → Type 0) (each : All (λ item. IsOkAnd item P) items) where
-  module _ (first last : ℕ) (from : range_inclusive_start q ≤ first) (forward : first ≤ last) (to : last ≤ range_inclusive_end q) (below : last < bound) (free : IsFreeBetween bound list first last) where
-    stored : IsStorable (closed_below bound) (between first last)
-    stored = closed_storable bound (between first last) forward below refl
+    r_to : (x : K) → n.kind.holds r x ≡ true → n.order.IsBelow x past
+    r_to x h = subst (λ b. n.order.IsBelow x b) (n.stops first past s.forward) (n.to r x h)
 
-    inside : (x : ℕ) → x < bound → (closed_below bound).holds (between first last) x ≡ true → (closed_below bound).holds q x ≡ true
-    inside x key h = closed_holds bound q x (omega (arith, closed_from bound (between first last) x h)) (omega (arith, closed_to bound (between first last) x h))
+    stored : IsStorable n.kind r
+    stored = n.storable first past s.forward s.first_is_key s.last_is_key
 
-    undefined : (x : ℕ) → x < bound → (closed_below bound).holds (between first last) x ≡ true → value_at (closed_below bound) list x ≡ None
-    undefined x key h = free x (closed_from bound (between first last) x h) (closed_to bound (between first last) x h)
+    inside : (x : K) → n.kind.is_key x → n.kind.holds r x ≡ true → n.kind.holds q x ≡ true
+    inside x key h = n.holds q x (n.order.trans (n.kind.start q) first x from (r_from x h)) (n.order.below_trans x past (n.behind q) (r_to x h) to)
 
-    -- after the last gap, numbers without a value lie in some gap
-    pub last_gap : result ≡ None → IsInOne P first last
-    last_gap none = in_one bound P first last (free_in_given (placed_below bound) list q all start items left new result are is so_far step P each (between first last) stored inside undefined none)
+    undefined : IsUndefinedOn n.kind (value_at n.kind list) r
+    undefined x key h = free x (r_from x h) (r_to x h)
 
-    earlier_gap : (item : Result (RangeInclusive ℕ) AllocError) (gap : RangeInclusive ℕ) → result ≡ Some item → item ≡ Ok gap → first < range_inclusive_start gap → IsInOne P first last
-    earlier_gap item gap some ok start_place = in_one bound P first last (free_in_earlier (placed_below bound) list q all start items left new result are is so_far step P each (between first last) stored inside undefined item gap some ok (nat_less first (range_inclusive_start gap) start_place))
+    in_one : (g : X) × P g × IsWithin n.kind r g → IsInOne n P first past
+    in_one w = record {
+      gap = w.0;
+      kept = w.1;
+      starts = subst (λ a. n.order.IsAtMost (n.kind.start w.0) a) (n.starts first past) (n.starts_within r w.0 w.2.starts);
+      ends = subst (λ b. n.order.IsAtMost b (n.behind w.0)) (n.stops first past s.forward) (n.ends_within r w.0 w.2.ends);
+    }
 
-  pub next_gap : {item : Result (RangeInclusive ℕ) AllocError} {gap : RangeInclusive ℕ} → result ≡ Some item → item ≡ Ok gap → IsNextGap bound list q P gap
-  next_gap {item} {gap} some ok =
-      let kept = item_stored (placed_below bound) list q all start items left new result are is so_far step P each item gap some ok in
-      let forward : range_inclusive_start gap ≤ range_inclusive_end gap = le_from_is_le (range_inclusive_start gap) (range_inclusive_end gap) kept.non_empty.0 in
-      let within = item_within (placed_below bound) list q all start items left new result are is so_far step P each item gap some ok in
+    in_last : result ≡ None → IsInOne n P first past
+    in_last none = in_one (free_in_given n.placed list q all start items left new result are is so_far step P each r stored inside undefined none)
+
+    in_earlier : (item : Result X AllocError) (gap : X) → result ≡ Some item → item ≡ Ok gap → n.order.IsBelow first (n.kind.start gap) → IsInOne n P first past
+    in_earlier item gap some ok below =
+        let less = subst (λ a. n.kind.cmp a (n.kind.start gap) ≡ Less) (sym (n.starts first past)) (n.less first (n.kind.start gap) below) in
+        in_one (free_in_earlier n.placed list q all start items left new result are is so_far step P each r stored inside undefined item gap some ok less)
+
+  the_next : {item : Result X AllocError} {gap : X} → result ≡ Some item → item ≡ Ok gap → IsNextGap n list q P gap
+  the_next {item} {gap} some ok =
+      let kept = item_stored n.placed list q all start items left new result are is so_far step P each item gap some ok in
+      let within = item_within n.placed list q all start items left new result are is so_far step P each item gap some ok in
       record {
-        forward = forward;
-        below = kept.end_is_key;
-        from = closed_from bound q (range_inclusive_start gap) (within (range_inclusive_start gap) kept.start_is_key (closed_holds bound gap (range_inclusive_start gap) (omega arith) forward));
-        to = closed_to bound q (range_inclusive_end gap) (within (range_inclusive_end gap) kept.end_is_key (closed_holds bound gap (range_inclusive_end gap) forward (omega arith)));
-        free = λ x from to. item_undefined (placed_below bound) list q all start items left new result are is so_far step P each item gap some ok x (le_lt x (range_inclusive_end gap) bound to kept.end_is_key) (closed_holds bound gap x from to);
-        earlier = λ first last from ahead to below free start_place. earlier_gap first last from ahead to below free item gap some ok start_place;
+        stored = kept;
+        forward = forward n gap kept;
+        from = n.from q (n.kind.start gap) (within (n.kind.start gap) kept.start_is_key (holds_start n.placed gap kept));
+        to = n.lies_within gap q kept within;
+        free = λ x from to. let holds = n.holds gap x from to in item_undefined n.placed list q all start items left new result are is so_far step P each item gap some ok x (n.is_key gap x kept holds) holds;
+        earlier = λ first past s from to free below. in_earlier first past s from to free item gap some ok below;
       }
+
+module _ {K X V : Type 0} (n : NumberKind K X) (list : List (X × V)) (q : X) {all start : List X} {result : Option (Result X AllocError)} {P : X → Type 0}
+    (are : AreGaps n.kind (map (λ pair. pair.0) list) q all) (is : start ≡ all) where
+  -- a gap that such a loop is given
+  pub next_gap : {item : Result X AllocError} {gap : X} → result ≡ Some item → item ≡ Ok gap → (left new : List X) → GivesRange n.kind left result new → (items : List (Result X AllocError)) → All (λ item. IsOkAnd item P) items → Yields (GivesRange n.kind) start items left
+      → IsNextGap n list q P gap
+  next_gap some ok left new step items each so_far = the_next n list q all start items left new result are is so_far step P each some ok
+
+  -- at its end, numbers without a value lie in some gap
+  pub last_gap : result ≡ None → (left new : List X) → GivesRange n.kind left result new → (items : List (Result X AllocError)) → All (λ item. IsOkAnd item P) items → Yields (GivesRange n.kind) start items left
+      → (first past : K) → IsStretch n first past → n.order.IsAtMost (n.kind.start q) first → n.order.IsAtMost past (n.behind q) → IsFreeBetween n list first past → IsInOne n P first past
+  last_gap none left new step items each so_far first past s from to free = in_last n list q all start items left new result are is so_far step P each first past s from to free none

@@ -1,5 +1,5 @@
 -- For callers that loop over the pairs of a map: what each is, and what all of them are.
-use Rattle.std.proofs.Common.{◌≡◌, ℕ, suc, take, drop, get_or, unwrap_or, Bool, true, false, cond, List, [], ◌∷◌, ◌++◌, map, Option, Some, None, option_map, refl, sym, ap, subst, ◌∙◌}
+use Rattle.std.proofs.Common.{◌≡◌, ℕ, suc, take, drop, get_or, unwrap_or, Bool, true, false, cond, List, [], ◌∷◌, ◌++◌, filter, map, Option, Some, None, option_map, refl, sym, ap, subst, ◌∙◌}
 use Rattle.std.specs.Borrow.{Bor}
 use Rattle.std.specs.Iterator.{Yields}
 use Rattle.std.specs.List.{All, AllByRecursion, slice_get}
@@ -9,7 +9,7 @@ use Rattle.std.proofs.lemmas.Option.{slice_get_within, unwrap_or-slice_get}
 use Rattle.std.specs.Map.Iter.{TakesFirst, deref_pair}
 use Rattle.std.proofs.lemmas.List.Elements.{recursion_from_All}
 use Rattle.std.proofs.lemmas.Map.Iter.{iter_end, rest_more, rest_so_far}
-use Rattle.rangemap_core.specs.Ranges.{RangeKind, IsCanonical, IsStorable, covering, value_at}
+use Rattle.rangemap_core.specs.Ranges.{RangeKind, IsCanonical, IsStorable, covering, overlapped, value_at}
 use Rattle.rangemap_core.specs.engine.Endpoints.{IsPlaced, EndpointOf}
 use Rattle.rangemap_core.specs.engine.PlacedKinds.{place_total}
 use Rattle.rangemap_core.specs.laws.Orders.{lt_le}
@@ -19,6 +19,32 @@ use Rattle.rangemap.proofs.CallerLemmas.{below_end_place, none_before}
 pub record IsStored {K X V : Type 0} (k : RangeKind K X) (list : List (X × V)) (a : X × V) : Type 0 where
   pub range : IsStorable k a.0
   pub value : (x : K) → k.is_key x → k.holds a.0 x ≡ true → value_at k list x ≡ Some a.1
+
+-- what is left of a list where a test holds comes from the list, and passes the test
+module _ {A : Type 0} (test : A → Bool) (a : A) (after : List A) where
+  abbrev IsAmong : List A → Type 0
+  IsAmong list = (front : List A) × (back : List A) × (list ≡ front ++ a ∷ back) × (test a ≡ true)
+
+  one_later : (b : A) (list : List A) → IsAmong list → IsAmong (b ∷ list)
+  one_later b list s = (b ∷ s.0, s.1, ap (λ xs. b ∷ xs) s.2, s.3)
+
+  first_is : (b c : A) (bs cs : List A) → b ∷ bs ≡ c ∷ cs → b ≡ c
+  first_is b c bs cs h = cc
+
+  rest_is : (b c : A) (bs cs : List A) → b ∷ bs ≡ c ∷ cs → bs ≡ cs
+  rest_is b c bs cs h = cc
+
+  among_filtered : (list before : List A) → filter test list ≡ before ++ a ∷ after → IsAmong list
+  among_filtered [] [] h = absurd (cc)
+  among_filtered [] (c ∷ before) h = absurd (cc)
+  among_filtered (b ∷ list) before h = go (test b) refl before h (λ before h. among_filtered list before h)
+    where
+      go : (t : Bool) → test b ≡ t → (before : List A) → cond t (b ∷ filter test list) (filter test list) ≡ before ++ a ∷ after → ((before : List A) → filter test list ≡ before ++ a ∷ after → IsAmong list) → IsAmong (b ∷ list)
+      go false e before h rest = one_later b list (rest before h)
+      go true e [] h rest =
+          let same = first_is b a (filter test list) after h in
+          ([], list, ap (λ x. x ∷ list) same, subst (λ x. test x ≡ true) same e)
+      go true e (c ∷ before) h rest = one_later b list (rest before (rest_is b c (filter test list) (before ++ a ∷ after) h))
 
 module _ {K X V : Type 0} {k : RangeKind K X} {end_place : X → Option K} {part : EndpointOf X → EndpointOf X → X} (p : IsPlaced k end_place part) (eq : V → V → Bool) where
   -- the pairs behind one that has a key don't have it
@@ -61,6 +87,24 @@ module _ {K X V : Type 0} {k : RangeKind K X} {end_place : X → Option K} {part
     item_is_stored can item some =
         let whole : list ≡ map deref_pair items ++ deref_pair item ∷ new = sym (is ∙ all) ∙ rest_so_far deref_pair items start left so_far ∙ ap (λ xs. map deref_pair items ++ xs) (rest_more deref_pair left new result item some step) in
         subst (λ xs. IsStored k xs (deref_pair item)) (sym whole) (stored_among (map deref_pair items) (deref_pair item) new (subst (IsCanonical k eq) whole can))
+
+  -- The same loop over the pairs that overlap a query q, as `for (range, value) in
+  -- map.overlapping(&q)`: a further item is one of the map's, and meets the query.
+  module _ (list lent start : List (X × V)) (q : X) (items : List (Bor X × Bor V)) (left new : List (X × V)) (result : Option (Bor X × Bor V))
+      (met : lent ≡ overlapped k list q) (is : start ≡ lent) (so_far : Yields (TakesFirst deref_pair) start items left) (step : TakesFirst deref_pair left result new) where
+    pub met_item_is_stored : IsCanonical k eq list → (item : Bor X × Bor V) → result ≡ Some item → IsStored k list (deref_pair item) × (k.meets q (deref_pair item).0 ≡ true)
+    met_item_is_stored can item some =
+        let whole : overlapped k list q ≡ map deref_pair items ++ deref_pair item ∷ new = sym (is ∙ met) ∙ rest_so_far deref_pair items start left so_far ∙ ap (λ xs. map deref_pair items ++ xs) (rest_more deref_pair left new result item some step) in
+        stored (among_filtered meets pair new list (map deref_pair items) whole)
+      where
+        meets : X × V → Bool
+        meets b = k.meets q b.0
+
+        pair : X × V
+        pair = deref_pair item
+
+        stored : IsAmong meets pair new list → IsStored k list pair × (k.meets q pair.0 ≡ true)
+        stored s = (subst (λ xs. IsStored k xs pair) (sym s.2) (stored_among s.0 pair s.1 (subst (IsCanonical k eq) s.2 can)), s.3)
 
 module _ {K X V : Type 0} (k : RangeKind K X) (P : X × V → Type 0) where
   -- the pair that gives a key its value is one of which P holds, where P holds of all

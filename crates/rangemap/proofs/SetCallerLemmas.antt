@@ -1,36 +1,35 @@
 -- For callers: what the contracts of the sets say key by key, and loops over the gaps of a set.
-use Rattle.std.proofs.Common.{◌≡◌, ℕ, ◌+◌, ◌<◌, ◌≤◌, Bool, true, false, not, ◌&&◌, ◌||◌, cond, List, [], ◌∷◌, ◌++◌, map, Option, Some, None, is_some, Result, Ok, refl, sym, ap, subst, ◌∙◌, true≢false, arith, inl, inr}
+use Rattle.std.proofs.Common.{◌≡◌, ℕ, ◌<◌, Bool, true, false, not, ◌&&◌, ◌||◌, cond, List, [], ◌∷◌, ◌++◌, map, Option, Some, None, is_some, Result, Ok, refl, sym, ap, subst, ◌∙◌, true≢false, arith, inl, inr}
+use Rattle.std.proofs.Math.Bool.{or-false}
 use Rattle.std.specs.Iterator.{Yields}
 use Rattle.std.specs.List.{find}
+use Rattle.std.specs.Option.{option_eq}
 use Rattle.std.specs.Ordering.{nat_cmp}
+use Rattle.std.specs.Prelude.{⊤}
 use Rattle.std.specs.Cmp.{nat_cmp_total}
 use Rattle.std.specs.declared.alloc.AllocError.{AllocError}
 use Rattle.std.specs.declared.ops.RangeInclusive.{RangeInclusive}
-use Rattle.std.specs.Range.{range_inclusive_start, range_inclusive_end}
 use Rattle.rangemap_core.specs.Ranges.{RangeKind, AreGaps, IsCanonOf, closed, covers, same_ranges, unit_eq, value_at, with_unit}
 use Rattle.rangemap_core.specs.Items.{GivesRange}
 use Rattle.rangemap_core.specs.engine.Endpoints.{IsPlaced, EndpointOf}
 use Rattle.rangemap_maps.specs.ClosedEndpoints.{closed_part, closed_placed}
 use Rattle.rangemap_maps.specs.ClosedPlaces.{closed_end_place}
 use Rattle.rangemap_sets.specs.Sets.{Adds, AreCommon, AreEither, IsCanonicalSet, TakesOut, range_at}
-use Rattle.rangemap_sets.proofs.UnitValueLemmas.{adds_last, covers_one, points_of, ranges_with, value_covers}
+use Rattle.rangemap_sets.proofs.UnitValueLemmas.{adds_last, covers_one, points_of, ranges_with}
 use Rattle.rangemap.specs.CharLaws.{IsChar, char_after, char_before, char_follows, char_precedes}
 use Rattle.rangemap.specs.Operators.{common, either}
 use Rattle.rangemap.specs.UnitPairs.{same_with_unit}
 use Rattle.rangemap.proofs.CallerLemmas.{holds_start, same_function}
 use Rattle.rangemap.proofs.GapLoopLemmas.{gaps_collected}
-use Rattle.rangemap.proofs.NumberLemmas.{closed_below, run_found, unit_none}
+use Rattle.rangemap.proofs.NumberKinds.{NumberKind}
+use Rattle.rangemap.proofs.NumberLemmas.{IsRun, run_found}
 use Rattle.rangemap.proofs.OperatorLemmas.{common_some, either_some}
-use Rattle.rangemap.proofs.SetLemmas.{copied, pair_found}
+use Rattle.rangemap.proofs.SetLemmas.{copied, pair_found, valued_where_covered}
 use Rattle.rangemap.proofs.SetRoundTripLemmas.{unit_equiv}
 
 -- ---- keys of a set
 
 module _ {K X : Type 0} (k : RangeKind K X) where
-  -- the key is in the set, said of the map that the set is
-  pub valued_where_covered : (set : List X) (x : K) → is_some (value_at k (with_unit k set) x) ≡ covers k set x
-  valued_where_covered set x = value_covers k (with_unit k set) x ∙ ap (λ rs. covers k rs x) (ranges_with k set)
-
   module _ (old new : List X) (r : X) (x : K) (key : k.is_key x) where
     -- after an insert, a key of the range is in the set, and any other as before
     pub added_within : Adds k old (r ∷ []) new → k.holds r x ≡ true → covers k new x ≡ true
@@ -49,10 +48,10 @@ module _ {K X : Type 0} (k : RangeKind K X) where
   module _ (ps qs rs : List X) where
     -- what the operators give, as `Combines` says it
     pub either_points : IsCanonOf k (unit_eq k) (either (value_at k (with_unit k ps)) (value_at k (with_unit k qs))) (with_unit k rs) → AreEither k ps qs rs
-    either_points h = subst (AreEither k ps qs) (ranges_with k rs) (points_of k _ _ (with_unit k rs) (λ x key. either_some (value_at k (with_unit k ps) x) (value_at k (with_unit k qs) x) ∙ ap (λ b. b || is_some (value_at k (with_unit k qs) x)) (valued_where_covered ps x) ∙ ap (λ b. covers k ps x || b) (valued_where_covered qs x)) h)
+    either_points h = subst (AreEither k ps qs) (ranges_with k rs) (points_of k _ _ (with_unit k rs) (λ x key. either_some (value_at k (with_unit k ps) x) (value_at k (with_unit k qs) x) ∙ ap (λ b. b || is_some (value_at k (with_unit k qs) x)) (valued_where_covered k ps x) ∙ ap (λ b. covers k ps x || b) (valued_where_covered k qs x)) h)
 
     pub common_points : IsCanonOf k (unit_eq k) (common (value_at k (with_unit k ps)) (value_at k (with_unit k qs))) (with_unit k rs) → AreCommon k ps qs rs
-    common_points h = subst (AreCommon k ps qs) (ranges_with k rs) (points_of k _ _ (with_unit k rs) (λ x key. common_some (value_at k (with_unit k ps) x) (value_at k (with_unit k qs) x) ∙ ap (λ b. b && is_some (value_at k (with_unit k qs) x)) (valued_where_covered ps x) ∙ ap (λ b. covers k ps x && b) (valued_where_covered qs x)) h)
+    common_points h = subst (AreCommon k ps qs) (ranges_with k rs) (points_of k _ _ (with_unit k rs) (λ x key. common_some (value_at k (with_unit k ps) x) (value_at k (with_unit k qs) x) ∙ ap (λ b. b && is_some (value_at k (with_unit k qs) x)) (valued_where_covered k ps x) ∙ ap (λ b. covers k ps x && b) (valued_where_covered k qs x)) h)
 
 -- ---- ranges inserted into an empty set, one after another, as a loop gives them
 
@@ -126,33 +125,25 @@ module _ {K X : Type 0} {k : RangeKind K X} {end_place : X → Option K} {part :
     pub gaps_inserted : (made : List X) → AreInserted k items made → result ≡ None → AreGaps k set q made
     gaps_inserted made h none = record {
       canonical = h.made.canonical;
-      points = λ x key. h.made.points x key ∙ or_false (covers k h.taken x) ∙ (set_gaps_collected h.taken h.is none).points x key;
+      points = λ x key. h.made.points x key ∙ or-false (covers k h.taken x) ∙ (set_gaps_collected h.taken h.is none).points x key;
     }
-      where
-        or_false : (b : Bool) → (b || false) ≡ b
-        or_false true = refl
-        or_false false = refl
 
 -- ---- the stored range that has a number, as `get` gives it
 
--- The stored range r has the number x: it ends below the bound, each of its numbers is in the set,
--- and the number behind it is not.
-pub record IsSetRun (bound : ℕ) (set : List (RangeInclusive ℕ)) (x : ℕ) (r : RangeInclusive ℕ) : Type 0 where
-  pub from : range_inclusive_start r ≤ x
-  pub to : x ≤ range_inclusive_end r
-  pub below : range_inclusive_end r < bound
-  pub covered : (y : ℕ) → range_inclusive_start r ≤ y → y ≤ range_inclusive_end r → covers (closed_below bound) set y ≡ true
-  pub ends : range_inclusive_end r + 1 < bound → covers (closed_below bound) set (range_inclusive_end r + 1) ≡ false
+-- where all values are equal, what has not one has none
+unit_none : (m : Option ⊤) → option_eq (λ _ _. true) m (Some tt) ≡ false → m ≡ None
+unit_none None h = refl
+unit_none (Some u) h = absurd (true≢false h)
 
-pub set_run_found : {bound : ℕ} (set : List (RangeInclusive ℕ)) → IsCanonicalSet (closed_below bound) set → {x : ℕ} → x < bound → {r : RangeInclusive ℕ} → Some r ≡ range_at (closed_below bound) set x → IsSetRun bound set x r
-set_run_found {bound} set can {x} key {r} h =
-    let run = run_found {eq = unit_eq (closed_below bound)} (λ v w. refl) can key (pair_found (closed_below bound) set x (Some r) h) in
+pub set_run_found : {K X : Type 0} (n : NumberKind K X) (set : List X) → IsCanonicalSet n.kind set → {x : K} → n.kind.is_key x → {r : X} → Some r ≡ range_at n.kind set x → IsRun n (λ y. covers n.kind set y ≡ true) (λ y. covers n.kind set y ≡ false) x r
+set_run_found n set can {x} key {r} h =
+    let run = run_found n {eq = unit_eq n.kind} (λ v w. refl) (with_unit n.kind set) can key (pair_found n.kind set x (Some r) h) in
     record {
+      stored = run.stored;
       from = run.from;
       to = run.to;
-      below = run.below;
-      covered = λ y from to. sym (valued_where_covered (closed_below bound) set y) ∙ ap is_some (run.value y from to);
-      ends = λ l. sym (valued_where_covered (closed_below bound) set (range_inclusive_end r + 1)) ∙ ap is_some (unit_none _ (run.ends l));
+      has = λ y from to. sym (valued_where_covered n.kind set y) ∙ ap is_some (run.has y from to);
+      ends = λ end. sym (valued_where_covered n.kind set (n.behind r)) ∙ ap is_some (unit_none _ (run.ends end));
     }
 
 -- ---- characters

@@ -1,5 +1,6 @@
 -- What a set does, as a map with the value that says nothing.
 use Rattle.std.proofs.Common.{◌≡◌, suc, Bool, true, false, not, cond, ◌&&◌, ◌||◌, List, [], ◌∷◌, Option, Some, None, option_map, length, is_some, refl, subst, sym, ap, ◌∙◌, Result, Ok, Err, true≢false}
+use Rattle.std.proofs.Math.Bool.{or-false}
 use Rattle.std.specs.Prelude.{MatchResult}
 use Rattle.std.specs.Result.{IsErr}
 use Rattle.std.specs.Bool.{⊤}
@@ -10,40 +11,37 @@ use Rattle.rangemap_sets.specs.Sets.{Adds, AreCommon, AreEither, TakesOut, met, 
 use Rattle.rangemap_sets.proofs.UnitValueLemmas.{canon_of, covers_one, erased, overridden, ranges_met, ranges_with, value_covers, with_ranges}
 
 module _ {K X : Type 0} (k : RangeKind K X) where
-  covers_with : (rs : List X) (x : K) → is_some (value_at k (with_unit k rs) x) ≡ covers k rs x
-  covers_with rs x = value_covers k (with_unit k rs) x ∙ ap (λ ss. covers k ss x) (ranges_with k rs)
+  -- the key is in the set, said of the map that the set is
+  pub valued_where_covered : (rs : List X) (x : K) → is_some (value_at k (with_unit k rs) x) ≡ covers k rs x
+  valued_where_covered rs x = value_covers k (with_unit k rs) x ∙ ap (λ ss. covers k ss x) (ranges_with k rs)
 
   pub inserted : (old new : List X) (r : X) (v : ⊤) → Adds k old (r ∷ []) new → IsCanonOf k (unit_eq k) (override k (value_at k (with_unit k old)) r v) (with_unit k new)
   inserted old new r v h = canon_of k (override k (value_at k (with_unit k old)) r v) _ new
-      (λ x key. overridden k (value_at k (with_unit k old)) r x ∙ ap (λ b. k.holds r x || b) (covers_with old x) ∙ ap (λ b. b || covers k old x) (sym (covers_one k r x))) h
+      (λ x key. overridden k (value_at k (with_unit k old)) r x ∙ ap (λ b. k.holds r x || b) (valued_where_covered old x) ∙ ap (λ b. b || covers k old x) (sym (covers_one k r x))) h
 
   pub removed : (old new : List X) (r : X) → TakesOut k old r new → IsCanonOf k (unit_eq k) (erase k (value_at k (with_unit k old)) r) (with_unit k new)
   removed old new r h = canon_of k (erase k (value_at k (with_unit k old)) r) _ new
-      (λ x key. erased k (value_at k (with_unit k old)) r x ∙ ap (λ b. not (k.holds r x) && b) (covers_with old x)) h
+      (λ x key. erased k (value_at k (with_unit k old)) r x ∙ ap (λ b. not (k.holds r x) && b) (valued_where_covered old x)) h
 
   pub met_none : (old : List X) (r : X) → overlapped k (with_unit k old) r ≡ [] → met k old r ≡ []
   met_none old r h = sym (ap (λ rs. met k rs r) (ranges_with k old)) ∙ sym (ranges_met k (with_unit k old) r) ∙ ap ranges h
 
   pub copied : (old new : List X) → IsCanonOfPoints k (covers k old) new → IsCanonOf k (unit_eq k) (value_at k (with_unit k old)) (with_unit k new)
-  copied old new h = canon_of k (value_at k (with_unit k old)) (covers k old) new (λ x key. covers_with old x) h
+  copied old new h = canon_of k (value_at k (with_unit k old)) (covers k old) new (λ x key. valued_where_covered old x) h
 
   pub united : (ps qs rs : List X) → AreEither k ps qs rs → IsCanonOf k (unit_eq k) (either (value_at k (with_unit k ps)) (value_at k (with_unit k qs))) (with_unit k rs)
   united ps qs rs h = canon_of k (either (value_at k (with_unit k ps)) (value_at k (with_unit k qs))) _ rs
-      (λ x key. either_some (value_at k (with_unit k ps) x) (value_at k (with_unit k qs) x) ∙ ap (λ b. b || is_some (value_at k (with_unit k qs) x)) (covers_with ps x) ∙ ap (λ b. covers k ps x || b) (covers_with qs x)) h
+      (λ x key. either_some (value_at k (with_unit k ps) x) (value_at k (with_unit k qs) x) ∙ ap (λ b. b || is_some (value_at k (with_unit k qs) x)) (valued_where_covered ps x) ∙ ap (λ b. covers k ps x || b) (valued_where_covered qs x)) h
 
   pub intersected : (ps qs rs : List X) → AreCommon k ps qs rs → IsCanonOf k (unit_eq k) (common (value_at k (with_unit k ps)) (value_at k (with_unit k qs))) (with_unit k rs)
   intersected ps qs rs h = canon_of k (common (value_at k (with_unit k ps)) (value_at k (with_unit k qs))) _ rs
-      (λ x key. common_some (value_at k (with_unit k ps) x) (value_at k (with_unit k qs) x) ∙ ap (λ b. b && is_some (value_at k (with_unit k qs) x)) (covers_with ps x) ∙ ap (λ b. covers k ps x && b) (covers_with qs x)) h
+      (λ x key. common_some (value_at k (with_unit k ps) x) (value_at k (with_unit k qs) x) ∙ ap (λ b. b && is_some (value_at k (with_unit k qs) x)) (valued_where_covered ps x) ∙ ap (λ b. covers k ps x && b) (valued_where_covered qs x)) h
 
   -- ---- several ranges, one after another
 
   or_true : (a : Bool) → (a || true) ≡ true
   or_true true = refl
   or_true false = refl
-
-  or_false : (b : Bool) → (b || false) ≡ b
-  or_false true = refl
-  or_false false = refl
 
   all_points : (f : K → Option ⊤) (rs : List X) (x : K) → is_some (override_all k f (with_unit k rs) x) ≡ (covers k rs x || is_some (f x))
   all_points f [] x = refl
@@ -55,10 +53,10 @@ module _ {K X : Type 0} (k : RangeKind K X) where
 
   pub all_inserted : (old rs new : List X) → Adds k old rs new → Overrides k (unit_eq k) (with_unit k old) (with_unit k rs) (with_unit k new)
   all_inserted old rs new h = canon_of k (override_all k (value_at k (with_unit k old)) (with_unit k rs)) _ new
-      (λ x key. all_points (value_at k (with_unit k old)) rs x ∙ ap (λ b. covers k rs x || b) (covers_with old x)) h
+      (λ x key. all_points (value_at k (with_unit k old)) rs x ∙ ap (λ b. covers k rs x || b) (valued_where_covered old x)) h
 
   pub all_made : (rs new : List X) → IsCanonOfPoints k (covers k rs) new → IsCanonOf k (unit_eq k) (override_all k nothing (with_unit k rs)) (with_unit k new)
-  all_made rs new h = canon_of k (override_all k nothing (with_unit k rs)) _ new (λ x key. all_points nothing rs x ∙ or_false (covers k rs x)) h
+  all_made rs new h = canon_of k (override_all k nothing (with_unit k rs)) _ new (λ x key. all_points nothing rs x ∙ or-false (covers k rs x)) h
 
   -- the same of what a set shows
   pub overrides_of : (ps : List (X × ⊤)) (rs : List X) (qs : List (X × ⊤)) → Adds k (ranges ps) rs (ranges qs) → Overrides k (unit_eq k) ps (with_unit k rs) qs

@@ -29,7 +29,7 @@ pub mod set_round_trips;
 pub mod sets;
 pub mod texts;
 
-use crate::ranged_map::{LeavesGaps, RangedMap};
+use crate::ranged_map::{LeavesGaps, RangedMap, collect_gaps};
 use clones::{insert_clone, remove_clone};
 use rangemap_core::std_ext::StepFns;
 use std::alloc::{AllocError, Allocator};
@@ -180,9 +180,5 @@ pub fn gaps_and_covered_keys_make_up_a_range<M: LeavesGaps, B: Allocator>(
     ensures gaps { IfOk result (λ gaps. AreGaps M.Kind.kind (map (λ pair. pair.0) (M.pairs stored.now)) outer_range.now gaps.items) }
     ensures parted { IfOk result (λ gaps. IsParted M.Kind.kind outer_range.now gaps.items (λ key. is_some (covering M.Kind.kind (M.pairs stored.now) key))) }
 {
-    let mut gaps = Vec::new(alloc);
-    for gap in stored.gaps(outer_range) {
-        gaps.push(gap?)?;
-    }
-    Ok(gaps)
+    collect_gaps(alloc, stored, outer_range)
 }

@@ -202,3 +202,20 @@ pub trait LeavesGaps: RangedMap {
     ) -> Gaps<'a, Self::Kind, Self::Key, Self::Range, Self::Value>
         ensures { AreGaps Self.Kind.kind (map (λ pair. pair.0) (Self.pairs self.now)) outer_range.now result };
 }
+
+/// Collects the gaps of `outer_range` into a vector, with memory of `alloc`: the parts of it that no
+/// stored range covers, in order. `Err` says that there was no memory for them.
+pub fn collect_gaps<M: LeavesGaps, B: Allocator>(
+    alloc: B,
+    stored: &M,
+    outer_range: &M::Range,
+) -> Result<Vec<M::Range, B>, AllocError>
+    requires { KeysCloneFaithfully M.Key.is_clone M.Key.cmp }
+    ensures { IfOk result (λ gaps. AreGaps M.Kind.kind (map (λ pair. pair.0) (M.pairs stored.now)) outer_range.now gaps.items) }
+{
+    let mut gaps = Vec::new(alloc);
+    for gap in stored.gaps(outer_range) {
+        gaps.push(gap?)?;
+    }
+    Ok(gaps)
+}

@@ -1,29 +1,39 @@
 -- Days in a calendar: what the lemmas of numbers say of them, and what a history makes of them.
-use Rattle.std.proofs.Common.{arith, ◌<◌, ◌≡◌, ℕ, ◌≤◌, List, [], ◌∷◌, ◌++◌, cond, Option, Some, None, refl, sym, ap, subst, ◌∙◌, true≢false}
+use Rattle.std.proofs.Common.{arith, ◌+◌, ◌<◌, ◌≡◌, ℕ, false, ◌≤◌, List, [], ◌∷◌, ◌++◌, cond, Option, Some, None, refl, sym, ap, subst, ◌∙◌, true≢false}
 use Rattle.std.specs.Prelude.{◌^◌, Ok, Err, IsErr, IsErrAnd}
 use Rattle.std.specs.declared.ops.RangeInclusive.{RangeInclusive}
 use Rattle.rangerun.specs.declared.calendar.BookError.TheVariants.{Empty, Taken, OutOfMemory}
 use Rattle.rangerun.specs.declared.calendar.replay.Call.{Call}
 use Rattle.rangerun.specs.declared.calendar.replay.Call.TheVariants.{Book, Cancel}
 use Rattle.rangerun.specs.Bookings.{Answer, AreAnswers, AreFree, IsBookAnswer, IsCancelAnswer, IsDay, IsHeld, IsMadeAnswer, holder_of, holders, is_within, made}
+use Rattle.std.specs.Range.{range_inclusive_end, range_inclusive_exhausted, range_inclusive_start}
+use Rattle.rangemap.specs.Ranges.{IsStorable}
+use Rattle.rangemap.proofs.NumberKinds.{NumberKind, closed_storable, closed_unsigned, unsigned}
 use Rattle.rangemap.proofs.NumberLemmas.{IsFreeBetween, IsHeldBetween}
 
 -- ---- days between two others
 
-pub free_days : (list : List (RangeInclusive ℕ × ℕ)) (first last : ℕ) → IsFreeBetween (2 ^ 32) list first last → AreFree (holder_of list) first last
-free_days list first last free day key from to = free day from to
+abbrev pub day_kind : NumberKind ℕ (RangeInclusive ℕ)
+day_kind = closed_unsigned (2 ^ 32)
 
-pub held_days : (list : List (RangeInclusive ℕ × ℕ)) (first last : ℕ) → last < 2 ^ 32 → IsHeldBetween (2 ^ 32) list first last → IsHeld (holder_of list) first last
-held_days list first last below held = record {
-  day = held.at;
-  is_day = omega (arith, held.to);
-  from = held.from;
-  to = held.to;
-  held = λ none. not_both held.is none;
-}
-  where
-    not_both : {o : Option ℕ} {guest : ℕ} → o ≡ Some guest → o ≡ None → ⊥
-    not_both a b = cc
+module _ (list : List (RangeInclusive ℕ × ℕ)) (days : RangeInclusive ℕ) (first last : ℕ) (starts : range_inclusive_start days ≡ first) (ends : range_inclusive_end days ≡ last) (below : last < 2 ^ 32) where
+  pub asked_days : first ≤ last → range_inclusive_exhausted days ≡ false → IsStorable day_kind.kind days
+  asked_days forward fresh = closed_storable unsigned IsDay days (omega (arith, starts)) (omega (arith, ends)) (omega (arith, starts, ends)) fresh
+
+  pub free_days : IsFreeBetween day_kind list (range_inclusive_start days) (range_inclusive_end days + 1) → AreFree (holder_of list) first last
+  free_days free day key from to = free day (omega (arith, starts)) (omega (arith, ends))
+
+  pub held_days : IsHeldBetween day_kind list (range_inclusive_start days) (range_inclusive_end days + 1) → IsHeld (holder_of list) first last
+  held_days held = record {
+    day = held.at;
+    is_day = omega (arith, held.to, ends);
+    from = omega (arith, held.from, starts);
+    to = omega (arith, held.to, ends);
+    held = λ none. not_both held.is none;
+  }
+    where
+      not_both : {o : Option ℕ} {guest : ℕ} → o ≡ Some guest → o ≡ None → ⊥
+      not_both a b = cc
 
 -- ---- histories
 

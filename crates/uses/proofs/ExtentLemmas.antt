@@ -6,7 +6,8 @@ use Rattle.std.specs.declared.ops.RangeInclusive.{RangeInclusive}
 use Rattle.std.specs.Range.{range_inclusive_start, range_inclusive_end}
 use Rattle.rangemap.specs.Ranges.{IsCanonOf, erase, override, value_at}
 use Rattle.rangemap.proofs.CallerLemmas.{value_of}
-use Rattle.rangemap.proofs.NumberLemmas.{closed_from, closed_holds, closed_to, same_number}
+use Rattle.rangemap.proofs.NumberKinds.{closed_from, closed_holds, closed_to, unsigned}
+use Rattle.rangemap.proofs.NumberLemmas.{same_number}
 use Rattle.rangemap.proofs.PairLoopLemmas.{IsStored}
 use Rattle.uses.proofs.RingLemmas.{same_on_ring}
 use Rattle.uses.specs.Places.{IsOneToOne, IsOutside, IsUsed, LiesOn, blocks, place_of}
@@ -43,7 +44,7 @@ module _ (old new : List (RangeInclusive ℕ × ℕ)) (r : RangeInclusive ℕ) w
 
       taken : (x y : ℕ) → y < 2 ^ 32 → blocks.holds r x ≡ true → Some ((x + shift) % 2 ^ 32) ≡ Some place → place_of old y ≡ Some place → ⊥
       taken x y key h here there =
-          let at = lies x (closed_from (2 ^ 32) r x h) (closed_to (2 ^ 32) r x h) in
+          let at = lies x (closed_from unsigned (λ x. x < 2 ^ 32) r x h) (closed_to unsigned (λ x. x < 2 ^ 32) r x h) in
           let same : (x + shift) % 2 ^ 32 ≡ place = some_is ((x + shift) % 2 ^ 32) place here in
           free (record { block = y; is_block = key; place = place; is = there; from = omega (arith, same, at.0); to = omega (arith, same, at.1) })
 
@@ -81,7 +82,7 @@ module _ (shifts : List (RangeInclusive ℕ × ℕ)) (first last : ℕ) where
         block = on.block;
         is_block = key;
         place = (on.block + extent.1) % 2 ^ 32;
-        is = ap (option_map (λ shift. (on.block + shift) % 2 ^ 32)) (stored.value on.block key (closed_holds (2 ^ 32) extent.0 on.block (omega (arith, starts, on.behind)) (omega (arith, ends, on.ahead))));
+        is = ap (option_map (λ shift. (on.block + shift) % 2 ^ 32)) (stored.value on.block key (closed_holds unsigned (λ x. x < 2 ^ 32) extent.0 on.block (omega (arith, starts, on.behind)) (omega (arith, ends, on.ahead))));
         from = on.from;
         to = on.to;
       }
@@ -97,4 +98,4 @@ module _ (shifts : List (RangeInclusive ℕ × ℕ)) (first last : ℕ) where
       by (Some shift) is placed =
           let one = each used.block shift is in
           let there : (used.block + one.0.1) % 2 ^ 32 ≡ used.place = ap (λ s. (used.block + s) % 2 ^ 32) one.2 ∙ some_is _ used.place placed in
-          one.1 used.block (closed_from (2 ^ 32) one.0.0 used.block one.3) (closed_to (2 ^ 32) one.0.0 used.block one.3) (omega (arith, there, used.from)) (omega (arith, there, used.to))
+          one.1 used.block (closed_from unsigned (λ x. x < 2 ^ 32) one.0.0 used.block one.3) (closed_to unsigned (λ x. x < 2 ^ 32) one.0.0 used.block one.3) (omega (arith, there, used.from)) (omega (arith, there, used.to))

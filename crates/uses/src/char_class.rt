@@ -36,9 +36,8 @@ impl CharClass {
         requires { AreNonEmptyRanges characters ranges }
         ensures { IfOk result (λ class. IsCanonOfPoints characters (has ranges.entry) class.members) }
     {
-        Ok(CharClass {
-            members: RangeInclusiveSet::from(alloc, ranges)?,
-        })
+        let members = RangeInclusiveSet::from(alloc, ranges)?;
+        Ok(CharClass { members })
     }
 
     /// Returns `[a-zA-Z0-9_]`.

@@ -25,3 +25,12 @@ fn digits_by_the_macro(rt: HostRuntime) -> Result<(), Fail> {
     assert!(rt; digits.contains(&'7') && !digits.contains(&'a'));
     Ok(())
 }
+
+#[test]
+fn ranges_that_overlap_become_one(rt: HostRuntime) -> Result<(), Fail> {
+    let class = CharClass::from_ranges(rt.alloc(), ['d'..='k', 'a'..='f', 'x'..='z'])?;
+    let wanted = range_inclusive_set![in rt.alloc(); 'a'..='k', 'x'..='z']?;
+    assert!(rt; class.members == wanted);
+    assert!(rt; class.contains('k') && !class.contains('l'));
+    Ok(())
+}

@@ -1,4 +1,4 @@
-use Rattle.rangemap.proofs.NumberLemmas.{placed_half_open}
+use Rattle.rangemap.proofs.NumberKinds.{placed_half_open}
 use Rattle.rangemap.proofs.SetCallerLemmas.{set_gaps_collected}
 use Rattle.uses.proofs.byte_cache.ByteCache.missing.Goals as goal
 

@@ -1,5 +1,6 @@
 use Rattle.std.proofs.Common.{arith, ap, not, ◌&&◌, ◌∙◌}
-use Rattle.rangemap.proofs.NumberLemmas.{closed_holds}
+use Rattle.rangemap.specs.CharLaws.{IsChar}
+use Rattle.rangemap.proofs.NumberKinds.{closed_holds, unsigned}
 use Rattle.rangemap.proofs.SetCallerLemmas.{below_last_character, gaps_inserted, one_more_inserted, placed_characters}
 use Rattle.uses.specs.Characters.{characters, has}
 use Rattle.uses.proofs.char_class.CharClass.complement.Goals as goal
@@ -12,5 +13,5 @@ returns c =
     let are = gaps_inserted placed_characters c.args.self.now.members c.new-all.result c.gaps-gap-items.result c.into_iter-gap-iterator.result c.loop-gap.yielded c.loop-gap.gap-iterator c.next.new.self c.next.result c.gaps-gap-items.ensures c.into_iter-gap-iterator.ensures.into_iter_gives c.loop-gap.yielded_by c.next.ensures.steps c.loop-gap.members c.loop-gap.invariant c.in-None.is in
     record {
       canonical = are.canonical;
-      points = λ at key. are.points at key ∙ ap (λ b. b && not (has c.args.self.now.members at)) (closed_holds 0 c.new-all.result at (omega (arith, c.new-all.ensures.start)) (omega (arith, c.new-all.ensures.end, below_last_character at key)));
+      points = λ at key. are.points at key ∙ ap (λ b. b && not (has c.args.self.now.members at)) (closed_holds unsigned IsChar c.new-all.result at (omega (arith, c.new-all.ensures.start)) (omega (arith, c.new-all.ensures.end, below_last_character at key)));
     }

@@ -1,6 +1,6 @@
 use Rattle.std.proofs.Common.{arith, refl, ◌^◌}
 use Rattle.std.specs.Prelude.{nat_eq}
-use Rattle.rangemap.proofs.NumberLemmas.{placed_below}
+use Rattle.rangemap.proofs.NumberKinds.{placed_below}
 use Rattle.rangemap.proofs.PairLoopLemmas.{item_is_stored, value_from_items}
 use Rattle.uses.specs.Places.{blocks}
 use Rattle.uses.proofs.ExtentLemmas.{forward, outside, unused_by, used_by}

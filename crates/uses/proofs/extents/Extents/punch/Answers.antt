@@ -1,6 +1,7 @@
 use Rattle.std.proofs.Common.{arith, option_map, ap, ◌%◌, ◌+◌, ◌^◌}
 use Rattle.std.proofs.lemmas.Result.{on_ok_weaker}
-use Rattle.rangemap.proofs.NumberLemmas.{closed_remove_within, same_number}
+use Rattle.rangemap.proofs.NumberKinds.{closed_unsigned}
+use Rattle.rangemap.proofs.NumberLemmas.{removed_within, same_number}
 use Rattle.uses.proofs.ExtentLemmas.{after_either, one_to_one_punched}
 use Rattle.uses.specs.Places.{IsOneToOne}
 use Rattle.uses.proofs.extents.Extents.punch.Goals as goal
@@ -11,5 +12,5 @@ invariant_of-self c = record { one_to_one = after_either IsOneToOne c.args.self.
 pub returns-clause-hole : goal.returns-clause-hole
 returns-clause-hole c =
     on_ok_weaker c.remove.result
-    (λ ok block from to. ap (option_map (λ shift. (block + shift) % 2 ^ 32)) (closed_remove_within same_number (2 ^ 32) _ c.new.result c.remove.new.self block (omega (arith, c.ranges.last.fits)) ok (omega (arith, c.new.ensures.start)) (omega (arith, c.new.ensures.end))))
+    (λ ok block from to. ap (option_map (λ shift. (block + shift) % 2 ^ 32)) (removed_within (closed_unsigned (2 ^ 32)) same_number _ c.new.result c.remove.new.self block (omega (arith, c.ranges.last.fits)) ok (omega (arith, c.new.ensures.start)) (omega (arith, c.new.ensures.end))))
     c.remove.ensures.ok

@@ -2,15 +2,15 @@ use Rattle.std.proofs.Common.{arith, sym}
 use Rattle.std.proofs.lemmas.Bool.Decides.{nat_tests}
 use Rattle.std.specs.Cmp.{nat_eq_equiv}
 use Rattle.rangemap.proofs.CallerLemmas.{value_of}
-use Rattle.rangemap.proofs.HalfOpenLemmas.{half_open_run_found}
-use Rattle.rangemap.proofs.NumberLemmas.{same_number}
+use Rattle.rangemap.proofs.NumberKinds.{half_open_unsigned}
+use Rattle.rangemap.proofs.NumberLemmas.{run_found, same_number}
 use Rattle.uses.proofs.rota.Rota.swap.Goals as goal
 
 pub insert-requires-clause-non_empty : goal.insert-requires-clause-non_empty
-insert-requires-clause-non_empty c = (half_open_run_found nat_eq_equiv.symm c.in-Some.ensures.canonical c.in-Some.ensures.found).storable.non_empty
+insert-requires-clause-non_empty c = (run_found half_open_unsigned nat_eq_equiv.symm c.args.self.now.shifts c.in-Some.ensures.canonical tt c.in-Some.ensures.found).stored.non_empty
 
 pub insert-requires-2-clause-non_empty : goal.insert-requires-2-clause-non_empty
-insert-requires-2-clause-non_empty c = (half_open_run_found nat_eq_equiv.symm c.in-Some-get_key_value.ensures.canonical c.in-Some-get_key_value.ensures.found).storable.non_empty
+insert-requires-2-clause-non_empty c = (run_found half_open_unsigned nat_eq_equiv.symm c.args.self.now.shifts c.in-Some-get_key_value.ensures.canonical tt c.in-Some-get_key_value.ensures.found).stored.non_empty
 
 pub returns-clause-swapped : goal.returns-clause-swapped
 returns-clause-swapped c = λ done. record {
