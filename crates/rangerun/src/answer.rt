@@ -6,25 +6,24 @@ ghost use Rattle.rangerun.specs.Commands.{may_change};
 use crate::command::Command;
 use crate::container::Container;
 use crate::listing::{write_all, write_gaps, write_item_or_none, write_json, write_overlapping};
-use crate::value::Stored;
-use std::alloc::{AllocError, Global};
+use std::alloc::{AllocError, Allocator, Global};
 
-/// Carries out a command, and appends the line that it prints, if any, to `text`.
+/// Carries out a command, and appends the line that it prints, if any, to `text`. A JSON form is
+/// made in memory of `json`.
 ///
 /// Where memory runs out, the container is as it was; so it is after a command that only asks.
-pub fn answer<C: Container>(
-    alloc: Global,
+pub fn answer<A: Allocator, C: Container<Alloc = A>>(
+    alloc: A,
+    json: Global,
     container: &mut C,
     command: Command<'_, C::Range>,
-    text: &mut String,
+    text: &mut String<A>,
 ) -> Result<(), AllocError>
     ensures err { OnErr result (C.pairs container.new ≡ C.pairs container.old) }
     ensures asks { may_change command.entry ≡ false → C.pairs container.new ≡ C.pairs container.old }
 {
     match command {
-        Command::Insert(span, value) => {
-            container.insert(span.range(), C::Value::made_of(alloc, value)?)
-        }
+        Command::Insert(span, value) => container.insert(span.range(), C::value(alloc, value)?),
         Command::Remove(span) => container.remove(span.range()),
         Command::Clear => {
             container.clear();
@@ -38,6 +37,6 @@ pub fn answer<C: Container>(
         Command::Overlapping(range) => write_overlapping(text, container, &range),
         Command::Overlaps(range) => writeln!(text, "{}", container.overlaps(&range)),
         Command::Gaps(range) => write_gaps(text, container, &range),
-        Command::Json => write_json(alloc, text, container),
+        Command::Json => write_json(json, text, container),
     }
 }

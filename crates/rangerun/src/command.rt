@@ -4,7 +4,7 @@ ghost use Rattle.rangerun.specs.Words.{AreEnds, IsNumber, IsValue, number_of};
 
 use crate::fault::Cause;
 use crate::range::{KeyRange, Span};
-use crate::words;
+use crate::words::{self, Operands};
 
 /// What a line asks for, of a container of ranges `R`.
 #[derive(Debug, Drop)]
@@ -39,44 +39,69 @@ impl<'a, R: KeyRange> Command<'a, R> {
     /// Reads a line, given without its newline, as a command on a container whose inserts have a
     /// value or have none.
     ///
-    /// Words are divided by one space each, so an empty word is a word too. Of several faults in a
-    /// line the one whose cause has the least number is told.
+    /// Of several faults in a line the one whose cause has the least number is told.
     pub fn parse(line: &'a [u8], has_value: bool) -> Result<Command<'a, R>, Cause> {
-        let mut words = line.split(|byte| *byte == b' ');
-        // No command has more than four words.
-        let words = [
-            words.next(),
-            words.next(),
-            words.next(),
-            words.next(),
-            words.next(),
-        ];
-        match words {
-            [Some(b"insert"), Some(start), Some(end), Some(value), None] if has_value => {
+        let (name, operands) = words::divide(line);
+        match operands {
+            Operands::None => Command::of_name(name),
+            Operands::One(key) => Command::of_key(name, key),
+            Operands::Two(start, end) => Command::of_ends(name, start, end, has_value),
+            Operands::Three(start, end, value) if has_value => {
+                Command::of_pair(name, start, end, value)
+            }
+            _ => Err(Cause::Command),
+        }
+    }
+
+    /// The command of one word.
+    fn of_name(name: &[u8]) -> Result<Command<'a, R>, Cause> {
+        match name {
+            b"clear" => Ok(Command::Clear),
+            b"first" => Ok(Command::First),
+            b"last" => Ok(Command::Last),
+            b"iter" => Ok(Command::Iter),
+            b"len" => Ok(Command::Len),
+            b"json" => Ok(Command::Json),
+            _ => Err(Cause::Command),
+        }
+    }
+
+    /// The command on a key.
+    fn of_key(name: &[u8], key: &[u8]) -> Result<Command<'a, R>, Cause> {
+        match name {
+            b"get" => Ok(Command::Get(words::number(key)?)),
+            _ => Err(Cause::Command),
+        }
+    }
+
+    /// The command on two ends. `insert` is one where it has no value.
+    fn of_ends(
+        name: &[u8],
+        start: &[u8],
+        end: &[u8],
+        has_value: bool,
+    ) -> Result<Command<'a, R>, Cause> {
+        match name {
+            b"insert" if !has_value => Ok(Command::Insert(parse_span(start, end)?, None)),
+            b"remove" => Ok(Command::Remove(parse_span(start, end)?)),
+            b"overlapping" => Ok(Command::Overlapping(parse_query(start, end)?)),
+            b"overlaps" => Ok(Command::Overlaps(parse_query(start, end)?)),
+            b"gaps" => Ok(Command::Gaps(parse_query(start, end)?)),
+            _ => Err(Cause::Command),
+        }
+    }
+
+    /// The command on two ends and a value.
+    fn of_pair(
+        name: &[u8],
+        start: &[u8],
+        end: &[u8],
+        value: &'a [u8],
+    ) -> Result<Command<'a, R>, Cause> {
+        match name {
+            b"insert" => {
                 let (span, value) = parse_pair(start, end, value)?;
                 Ok(Command::Insert(span, Some(value)))
-            }
-            [Some(b"insert"), Some(start), Some(end), None, _] if !has_value => {
-                Ok(Command::Insert(parse_span(start, end)?, None))
-            }
-            [Some(b"remove"), Some(start), Some(end), None, _] => {
-                Ok(Command::Remove(parse_span(start, end)?))
-            }
-            [Some(b"get"), Some(key), None, _, _] => Ok(Command::Get(words::number(key)?)),
-            [Some(b"clear"), None, _, _, _] => Ok(Command::Clear),
-            [Some(b"first"), None, _, _, _] => Ok(Command::First),
-            [Some(b"last"), None, _, _, _] => Ok(Command::Last),
-            [Some(b"iter"), None, _, _, _] => Ok(Command::Iter),
-            [Some(b"len"), None, _, _, _] => Ok(Command::Len),
-            [Some(b"json"), None, _, _, _] => Ok(Command::Json),
-            [Some(b"overlapping"), Some(start), Some(end), None, _] => {
-                Ok(Command::Overlapping(parse_query(start, end)?))
-            }
-            [Some(b"overlaps"), Some(start), Some(end), None, _] => {
-                Ok(Command::Overlaps(parse_query(start, end)?))
-            }
-            [Some(b"gaps"), Some(start), Some(end), None, _] => {
-                Ok(Command::Gaps(parse_query(start, end)?))
             }
             _ => Err(Cause::Command),
         }
@@ -108,7 +133,7 @@ fn parse_span<R: KeyRange>(start: &[u8], end: &[u8]) -> Result<Span<R>, Cause>
     ensures empty { IsErrOf result Cause.EmptyRange ↔ IsNumber start.now × IsNumber end.now × (R.holds_key (number_of start.now) (number_of end.now) ≡ false) }
     ensures value { result ≢ Err Cause.Value }
 {
-    let (start, end) = parse_ends(start, end)?;
+    let (start, end) = words::ends(start, end)?;
     Span::new(start, end).ok_or(Cause::EmptyRange)
 }
 
@@ -118,17 +143,6 @@ fn parse_query<R: KeyRange>(start: &[u8], end: &[u8]) -> Result<R, Cause>
     ensures succeeds { IsOk result ↔ IsNumber start.now × IsNumber end.now }
     ensures err { IfErr result (λ cause. cause ≡ Cause.Number) }
 {
-    let (start, end) = parse_ends(start, end)?;
+    let (start, end) = words::ends(start, end)?;
     Ok(R::between(start, end))
-}
-
-/// The two numbers that words are, in whichever order they are.
-fn parse_ends(start: &[u8], end: &[u8]) -> Result<(u32, u32), Cause>
-    ensures ok { IfOk result (λ ends. (ends.0 ≡ number_of start.now) × (ends.1 ≡ number_of end.now)) }
-    ensures succeeds { IsOk result ↔ IsNumber start.now × IsNumber end.now }
-    ensures err { IfErr result (λ cause. cause ≡ Cause.Number) }
-{
-    let start = words::number(start)?;
-    let end = words::number(end)?;
-    Ok((start, end))
 }

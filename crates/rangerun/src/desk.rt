@@ -8,36 +8,62 @@ use crate::container::Container;
 use crate::fault::Cause;
 use crate::listing::write_items;
 use crate::value::Stored;
-use std::alloc::Global;
+use std::alloc::{Allocator, Global};
 
-/// What lines are carried out on.
-pub trait Desk: Drop {
+/// What lines are carried out on, in memory of an allocator `A`.
+pub trait Desk<A: Allocator>: Drop {
     /// Returns an empty one, whose memory will come from `alloc`.
-    fn new(alloc: Global) -> Self;
+    fn new(alloc: A) -> Self;
 
     /// Carries out a line, given without its newline, and appends what it prints, if anything, to
-    /// `text`.
-    fn carry_out(&mut self, alloc: Global, line: &[u8], text: &mut String) -> Result<(), Cause>;
+    /// `text`. A JSON form is made in memory of `json`.
+    fn carry_out(
+        &mut self,
+        alloc: A,
+        json: Global,
+        line: &[u8],
+        text: &mut String<A>,
+    ) -> Result<(), Cause>;
 }
 
-impl<C: Container> Desk for C {
-    fn new(alloc: Global) -> C {
-        C::empty(alloc)
+/// A container of the library, as a desk.
+#[derive(Drop)]
+pub struct Over<C> {
+    container: C,
+}
+
+impl<A: Allocator, C: Container<Alloc = A>> Desk<A> for Over<C> {
+    fn new(alloc: A) -> Over<C> {
+        Over {
+            container: C::empty(alloc),
+        }
     }
 
-    fn carry_out(&mut self, alloc: Global, line: &[u8], text: &mut String) -> Result<(), Cause> {
+    fn carry_out(
+        &mut self,
+        alloc: A,
+        json: Global,
+        line: &[u8],
+        text: &mut String<A>,
+    ) -> Result<(), Cause> {
         let command = Command::parse(line, C::Value::HAS_WORD)?;
-        answer(alloc, self, command, text)?;
+        answer(alloc, json, &mut self.container, command, text)?;
         Ok(())
     }
 }
 
-impl Desk for Calendar<Global> {
-    fn new(alloc: Global) -> Calendar<Global> {
+impl<A: Allocator> Desk<A> for Calendar<A> {
+    fn new(alloc: A) -> Calendar<A> {
         Calendar::new(alloc)
     }
 
-    fn carry_out(&mut self, _alloc: Global, line: &[u8], text: &mut String) -> Result<(), Cause> {
+    fn carry_out(
+        &mut self,
+        _alloc: A,
+        _json: Global,
+        line: &[u8],
+        text: &mut String<A>,
+    ) -> Result<(), Cause> {
         match Booking::parse(line)? {
             Booking::Change(call) => write_refusal(self.make(call), text),
             Booking::Free(days) => Ok(write_items(text, self.free(&days))?),
@@ -48,7 +74,10 @@ impl Desk for Calendar<Global> {
 
 /// Writes the line of a booking that is refused since a day is taken. Other refusals stop the
 /// program.
-fn write_refusal(answer: Result<(), BookError>, text: &mut String) -> Result<(), Cause> {
+fn write_refusal<A: Allocator>(
+    answer: Result<(), BookError>,
+    text: &mut String<A>,
+) -> Result<(), Cause> {
     match answer {
         Ok(()) => Ok(()),
         Err(BookError::Empty) => Err(Cause::EmptyRange),

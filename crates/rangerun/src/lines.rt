@@ -1,14 +1,17 @@
 //! Reading line by line.
 
 use crate::fault::Cause;
-use std::alloc::AllocError;
+use std::alloc::{AllocError, Allocator};
 use std::io::{BufRead, ErrorKind};
 
 /// Fetches the next line, without its newline, in place of what `line` has. False where the input
 /// has ended.
 ///
 /// The last line may lack its newline.
-pub fn fetch<R: BufRead>(input: &mut R, line: &mut Vec<u8>) -> Result<bool, Cause> {
+pub fn fetch<R: BufRead, A: Allocator>(
+    input: &mut R,
+    line: &mut Vec<u8, A>,
+) -> Result<bool, Cause> {
     line.clear();
     for _ in 0..u64::MAX {
         let taken = match input.fill_buf() {
@@ -33,7 +36,7 @@ struct Taken {
 }
 
 /// Appends the bytes up to the first newline, or all of them, to the line.
-fn take_line(bytes: &[u8], line: &mut Vec<u8>) -> Result<Taken, AllocError> {
+fn take_line<A: Allocator>(bytes: &[u8], line: &mut Vec<u8, A>) -> Result<Taken, AllocError> {
     match bytes.iter().position(|byte| *byte == b'\n') {
         Some(end) => {
             line.extend_from_slice(&bytes[..end])?;

@@ -6,17 +6,17 @@ use crate::range::KeyRange;
 use crate::value::Shown;
 use rangemap::WriteError;
 use rangemap::ranged_map::{ReadsGaps, ReadsPairs};
-use std::alloc::{AllocError, Global};
+use std::alloc::{AllocError, Allocator, Global};
 
 /// One item of an answer.
 pub trait Item: Drop {
     /// Appends the item to the text.
-    fn write(self, text: &mut String) -> Result<(), AllocError>;
+    fn write<A: Allocator>(self, text: &mut String<A>) -> Result<(), AllocError>;
 }
 
 /// A range and its value.
 impl<'a, R: KeyRange, V: Shown> Item for (&'a R, &'a V) {
-    fn write(self, text: &mut String) -> Result<(), AllocError> {
+    fn write<A: Allocator>(self, text: &mut String<A>) -> Result<(), AllocError> {
         write!(text, "{:?}", self.0)?;
         self.1.write(text)
     }
@@ -24,14 +24,17 @@ impl<'a, R: KeyRange, V: Shown> Item for (&'a R, &'a V) {
 
 /// A gap, which is made when it is asked for.
 impl<R: KeyRange> Item for Result<R, AllocError> {
-    fn write(self, text: &mut String) -> Result<(), AllocError> {
+    fn write<A: Allocator>(self, text: &mut String<A>) -> Result<(), AllocError> {
         let gap = self?;
         write!(text, "{gap:?}")
     }
 }
 
 /// Writes the line of the item, or of `none`.
-pub fn write_item_or_none<I: Item>(text: &mut String, item: Option<I>) -> Result<(), AllocError> {
+pub fn write_item_or_none<A: Allocator, I: Item>(
+    text: &mut String<A>,
+    item: Option<I>,
+) -> Result<(), AllocError> {
     match item {
         Some(item) => item.write(text)?,
         None => text.push_str("none")?,
@@ -41,14 +44,14 @@ pub fn write_item_or_none<I: Item>(text: &mut String, item: Option<I>) -> Result
 
 /// A line of items in braces, which is written item by item.
 #[derive(Drop)]
-struct Listing<'a> {
-    text: &'a mut String,
+struct Listing<'a, A: Allocator> {
+    text: &'a mut String<A>,
     is_first: bool,
 }
 
-impl<'a> Listing<'a> {
+impl<'a, A: Allocator> Listing<'a, A> {
     /// The line before its first item.
-    fn open(text: &'a mut String) -> Result<Listing<'a>, AllocError> {
+    fn open(text: &'a mut String<A>) -> Result<Listing<'a, A>, AllocError> {
         text.push('{')?;
         Ok(Listing {
             text,
@@ -71,21 +74,21 @@ impl<'a> Listing<'a> {
     }
 }
 
-impl<'a, R: KeyRange, V: Shown> ReadsPairs<R, V> for Listing<'a> {
+impl<'a, A: Allocator, R: KeyRange, V: Shown> ReadsPairs<R, V> for Listing<'a, A> {
     fn pair(&mut self, range: &R, value: &V) -> Result<(), AllocError> {
         self.push((range, value))
     }
 }
 
-impl<'a, R: KeyRange> ReadsGaps<R> for Listing<'a> {
+impl<'a, A: Allocator, R: KeyRange> ReadsGaps<R> for Listing<'a, A> {
     fn gap(&mut self, gap: R) -> Result<(), AllocError> {
         self.push(Ok(gap))
     }
 }
 
 /// Writes the line of the items that an iterator gives.
-pub fn write_items<I: Item, Items: Iterator<Item = I> + Drop>(
-    text: &mut String,
+pub fn write_items<A: Allocator, I: Item, Items: Iterator<Item = I> + Drop>(
+    text: &mut String<A>,
     items: Items,
 ) -> Result<(), AllocError>
     requires can { Items.can_next items }
@@ -99,15 +102,18 @@ pub fn write_items<I: Item, Items: Iterator<Item = I> + Drop>(
 }
 
 /// Writes the line of all items.
-pub fn write_all<C: Container>(text: &mut String, container: &C) -> Result<(), AllocError> {
+pub fn write_all<A: Allocator, C: Container>(
+    text: &mut String<A>,
+    container: &C,
+) -> Result<(), AllocError> {
     let mut listing = Listing::open(text)?;
     container.read_all(&mut listing)?;
     listing.close()
 }
 
 /// Writes the line of the items that the range overlaps.
-pub fn write_overlapping<C: Container>(
-    text: &mut String,
+pub fn write_overlapping<A: Allocator, C: Container>(
+    text: &mut String<A>,
     container: &C,
     range: &C::Range,
 ) -> Result<(), AllocError> {
@@ -117,8 +123,8 @@ pub fn write_overlapping<C: Container>(
 }
 
 /// Writes the line of the parts of the range that no item has.
-pub fn write_gaps<C: Container>(
-    text: &mut String,
+pub fn write_gaps<A: Allocator, C: Container>(
+    text: &mut String<A>,
     container: &C,
     range: &C::Range,
 ) -> Result<(), AllocError> {
@@ -127,17 +133,17 @@ pub fn write_gaps<C: Container>(
     listing.close()
 }
 
-/// Writes the line of the JSON form.
-pub fn write_json<C: Container>(
-    alloc: Global,
-    text: &mut String,
+/// Writes the line of the JSON form, which is made in memory of `json`.
+pub fn write_json<A: Allocator, C: Container>(
+    json: Global,
+    text: &mut String<A>,
     container: &C,
 ) -> Result<(), AllocError> {
-    let value = match container.to_value(alloc) {
+    let value = match container.to_value(json) {
         Ok(value) => value,
         Err(WriteError::Caller(error)) => return Err(error),
         Err(WriteError::OutOfMemory) => return Err(AllocError),
     };
-    text.push_str(value.to_string(alloc)?.as_str())?;
+    text.push_str(value.to_string(json)?.as_str())?;
     text.push('\n')
 }

@@ -34,7 +34,13 @@ fn arguments(rt: &HostRuntime) -> Result<Vec<String>, Cause> {
 
 fn serve(rt: &HostRuntime) -> Result<(), Fault> {
     let arguments = arguments(rt).map_err(|cause| cause.at(0))?;
-    session::run(rt.alloc(), &arguments, rt.reader(), io::writer(rt))
+    session::run(
+        rt.alloc(),
+        rt.alloc(),
+        &arguments,
+        rt.reader(),
+        io::writer(rt),
+    )
 }
 
 fn main(rt: HostRuntime) -> ExitCode {

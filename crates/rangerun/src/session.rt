@@ -5,18 +5,22 @@ mod tests;
 
 use crate::calendar::Calendar;
 use crate::container::{ClosedMap, ClosedSet, HalfOpenMap, HalfOpenSet};
-use crate::desk::Desk;
+use crate::desk::{Desk, Over};
 use crate::fault::{Cause, Fault};
 use crate::lines::fetch;
-use std::alloc::Global;
+use std::alloc::{Allocator, Global};
 use std::io::{self, BufRead, BufReader, Read, Write};
 
 /// Carries out the commands of `input` over the container that `args`, the words after the
 /// program's name, ask for, and writes each answer to `output` before it reads the next line.
 ///
 /// Stops at the first fault. The answers of the lines before it are written then.
-pub fn run<R: Read + Drop, W: Write + Drop>(
-    alloc: Global,
+///
+/// The memory comes from `alloc`, but for that of JSON values, which only a `Global` gives: that
+/// comes from `json`.
+pub fn run<A: Allocator + Copy, R: Read + Drop, W: Write + Drop>(
+    alloc: A,
+    json: Global,
     args: &[String],
     input: R,
     output: W,
@@ -25,25 +29,26 @@ pub fn run<R: Read + Drop, W: Write + Drop>(
         return Err(Cause::Arguments.at(0));
     };
     match kind.as_str() {
-        "map" => run_over::<HalfOpenMap, R, W>(alloc, input, output),
-        "imap" => run_over::<ClosedMap, R, W>(alloc, input, output),
-        "set" => run_over::<HalfOpenSet, R, W>(alloc, input, output),
-        "iset" => run_over::<ClosedSet, R, W>(alloc, input, output),
-        "cal" => run_over::<Calendar<Global>, R, W>(alloc, input, output),
+        "map" => run_over::<A, Over<HalfOpenMap<A>>, R, W>(alloc, json, input, output),
+        "imap" => run_over::<A, Over<ClosedMap<A>>, R, W>(alloc, json, input, output),
+        "set" => run_over::<A, Over<HalfOpenSet<A>>, R, W>(alloc, json, input, output),
+        "iset" => run_over::<A, Over<ClosedSet<A>>, R, W>(alloc, json, input, output),
+        "cal" => run_over::<A, Calendar<A>, R, W>(alloc, json, input, output),
         _ => Err(Cause::Arguments.at(0)),
     }
 }
 
 /// Carries out the commands of `input` over an empty container, as `run` does.
-fn run_over<C: Desk, R: Read + Drop, W: Write + Drop>(
-    alloc: Global,
+fn run_over<A: Allocator + Copy, D: Desk<A>, R: Read + Drop, W: Write + Drop>(
+    alloc: A,
+    json: Global,
     input: R,
     mut output: W,
 ) -> Result<(), Fault> {
     let Ok(mut input) = BufReader::new(alloc, input) else {
         return Err(Cause::Memory.at(0));
     };
-    let mut session: Session<C> = Session::new(alloc);
+    let mut session: Session<A, D> = Session::new(alloc, json);
     let mut number = 0u64;
     for _ in 0..u64::MAX {
         number = number.saturating_add(1);
@@ -59,19 +64,21 @@ fn run_over<C: Desk, R: Read + Drop, W: Write + Drop>(
 
 /// The container, and room for a line and its answer that is used again for each line.
 #[derive(Drop)]
-struct Session<C> {
-    alloc: Global,
-    container: C,
-    line: Vec<u8>,
-    text: String,
+struct Session<A: Allocator, D> {
+    alloc: A,
+    json: Global,
+    desk: D,
+    line: Vec<u8, A>,
+    text: String<A>,
 }
 
-impl<C: Desk> Session<C> {
+impl<A: Allocator + Copy, D: Desk<A>> Session<A, D> {
     /// An empty container, and no line yet.
-    fn new(alloc: Global) -> Session<C> {
+    fn new(alloc: A, json: Global) -> Session<A, D> {
         Session {
             alloc,
-            container: C::new(alloc),
+            json,
+            desk: D::new(alloc),
             line: Vec::new(alloc),
             text: String::new(alloc),
         }
@@ -84,8 +91,8 @@ impl<C: Desk> Session<C> {
             return Ok(false);
         }
         self.text.clear();
-        self.container
-            .carry_out(self.alloc, &self.line, &mut self.text)?;
+        self.desk
+            .carry_out(self.alloc, self.json, &self.line, &mut self.text)?;
         if write_out(output, self.text.as_bytes()).is_err() {
             return Err(Cause::Stream);
         }

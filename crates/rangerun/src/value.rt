@@ -2,31 +2,31 @@
 ghost use Rattle.rangemap.specs.Clones.{ValuesCloneFaithfully};
 
 use serde_json::Value as Json;
-use std::alloc::{AllocError, Global};
+use std::alloc::{AllocError, Allocator, Global};
 
 /// A value, as it is printed.
 pub trait Shown {
     /// Appends what stands behind the range in an item.
-    fn write(&self, text: &mut String) -> Result<(), AllocError>;
+    fn write<A: Allocator>(&self, text: &mut String<A>) -> Result<(), AllocError>;
 }
 
 /// A text, as maps have it.
-impl Shown for String {
-    fn write(&self, text: &mut String) -> Result<(), AllocError> {
+impl<B: Allocator> Shown for String<B> {
+    fn write<A: Allocator>(&self, text: &mut String<A>) -> Result<(), AllocError> {
         write!(text, ": \"{}\"", self)
     }
 }
 
 /// The number of a guest.
 impl Shown for u32 {
-    fn write(&self, text: &mut String) -> Result<(), AllocError> {
+    fn write<A: Allocator>(&self, text: &mut String<A>) -> Result<(), AllocError> {
         write!(text, ": {}", self)
     }
 }
 
 /// What sets have in a value's place.
 impl Shown for () {
-    fn write(&self, _text: &mut String) -> Result<(), AllocError> {
+    fn write<A: Allocator>(&self, _text: &mut String<A>) -> Result<(), AllocError> {
         Ok(())
     }
 }
@@ -36,33 +36,27 @@ pub trait Stored: Eq + Clone + Shown {
     /// Whether an insert has a word for it.
     const HAS_WORD: bool;
 
-    /// Makes the value that an insert gives, of its word where it has one.
-    fn made_of(alloc: Global, word: Option<&str>) -> Result<Self, AllocError>;
-
     /// A clone of a value equals it.
     ghost faithful: { ValuesCloneFaithfully Self.is_clone Self.eq };
 }
 
-impl Stored for String {
+impl<A: Allocator + Clone> Stored for String<A> {
     ghost use Rattle.std.proofs.Common.{rules};
 
     const HAS_WORD: bool = true;
 
     ghost faithful = { Prim.search rules };
-
-    fn made_of(alloc: Global, word: Option<&str>) -> Result<String, AllocError> {
-        String::from_str(alloc, word.unwrap_or(""))
-    }
 }
 
 impl Stored for () {
     const HAS_WORD: bool = false;
 
     ghost faithful = { Prim.search };
+}
 
-    fn made_of(_alloc: Global, _word: Option<&str>) -> Result<(), AllocError> {
-        Ok(())
-    }
+/// Makes the text of a word.
+pub fn text_of<A: Allocator>(alloc: A, word: Option<&str>) -> Result<String<A>, AllocError> {
+    String::from_str(alloc, word.unwrap_or(""))
 }
 
 /// Makes the JSON form of a key.

@@ -125,10 +125,16 @@ impl<'a> Chance<'a> {
         }
     }
 
-    /// Says which request of the next call is refused, if one is.
+    /// Says which request of the next call is refused, if one is: an early one more often than a
+    /// late one, which few calls come to.
     pub fn refuse_one(&mut self) {
         if self.is_heads() {
-            self.heap.refuse_after(self.random.below(3));
+            let most = match self.random.below(8) {
+                0 => 40,
+                1 => 10,
+                _ => 3,
+            };
+            self.heap.refuse_after(self.random.below(most));
         }
     }
 

@@ -18,7 +18,7 @@ mod soaked;
 
 use refusing::Refusing;
 use session::soak;
-use soaked::{Heap, InclusiveMap, InclusiveSet, Map, Set, Soaked};
+use soaked::{Heap, InclusiveMap, InclusiveSet, Map, Set, Soaked, TreeMap};
 use std::process::ExitCode;
 use std::{env, io};
 
@@ -62,6 +62,7 @@ fn soak_all(rt: &HostRuntime, seed: u64, calls: u64) -> io::Result<bool> {
     Ok(
         soak_one::<Map<'_>>(rt, &heap, seed, calls)?
             && soak_one::<InclusiveMap<'_>>(rt, &heap, seed, calls)?
+            && soak_one::<TreeMap<'_>>(rt, &heap, seed, calls)?
             && soak_one::<Set<'_>>(rt, &heap, seed, calls)?
             && soak_one::<InclusiveSet<'_>>(rt, &heap, seed, calls)?,
     )

@@ -3,9 +3,6 @@ ghost use Rattle.std.specs.Prelude.{◌≤◌};
 
 use std::alloc::{AllocError, Global};
 
-#[cfg(test)]
-mod tests;
-
 /// The points from a first up to a last, both of which are in it.
 #[derive(Clone, Copy, Debug, PartialEq, Eq)]
 pub struct Span {

@@ -10,6 +10,7 @@ use crate::compared::is_list;
 use crate::difference::{Difference, Stop, check};
 use crate::points::{Points, Run};
 use crate::soaked::{Heap, Soaked};
+pub use gaps::ask_for_gaps;
 use std::alloc::{AllocError, Global};
 
 /// How a run ended.

@@ -3,23 +3,31 @@
 ghost use Rattle.std.specs.Prelude.{IfOk};
 ghost use Rattle.rangemap.specs.Clones.{KeysCloneFaithfully, ValuesCloneFaithfully};
 
+use crate::chance::Chance;
+use crate::difference::Stop;
 use crate::points::{Points, Query, Run, Span};
-use rangemap::ranged_map::{ClonesItself, LeavesGaps, TakesPairs};
+use rangemap::ranged_map::TakesPairs;
 use refusing::Refusing;
 use std::alloc::{AllocError, Global};
 
+mod boxed;
 mod costly;
+mod gaps;
 mod maps;
 mod sets;
 
-pub use maps::{InclusiveMap, Map};
+pub use gaps::AskedGaps;
+pub use maps::{InclusiveMap, Map, TreeMap};
 pub use sets::{InclusiveSet, Set};
 
 /// Where a container takes its memory from.
 pub type Heap = Refusing<Global>;
 
 /// A container over points.
-pub trait Soaked: ClonesItself + TakesPairs + LeavesGaps {
+///
+/// It has one supertrait: with `ClonesItself` beside `TakesPairs`, both of which stand on one trait,
+/// each function over it would be far dearer to prove.
+pub trait OverPoints: TakesPairs {
     /// Whether its values stand for marks. Else all stand for the mark 1.
     const HAS_MARKS: bool;
 
@@ -49,6 +57,9 @@ pub trait Soaked: ClonesItself + TakesPairs + LeavesGaps {
     /// `has_grown` says whether it ever stored one.
     fn needs(blocks: u64, stored: usize, has_grown: bool) -> bool;
 
+    /// Makes an equal container by `clone`.
+    fn copied(&self) -> Result<Self, AllocError>;
+
     /// Makes `self | other` or `self & other`, where the container has these operators.
     fn combined(&self, other: &Self, operator: Operator) -> Option<Result<Self, AllocError>>;
 
@@ -57,6 +68,19 @@ pub trait Soaked: ClonesItself + TakesPairs + LeavesGaps {
 
     /// A clone of a value equals it.
     ghost faithful_values: { ValuesCloneFaithfully Self.Value.is_clone Self.Value.eq };
+}
+
+/// A container that makes every call of a run. It is a trait of its own since the gaps of
+/// containers are of types of their own, and what compares them asks for a container over points.
+pub trait Soaked: OverPoints {
+    /// Asks for the gaps in `outer`, and compares them with runs of the model. Answers whether one
+    /// was refused.
+    fn ask_for_gaps(
+        &self,
+        outer: &Self::Range,
+        runs: &[Run],
+        chance: &mut Chance<'_>,
+    ) -> Result<bool, Stop>;
 }
 
 /// An operator of sets.
@@ -79,7 +103,7 @@ impl Operator {
 }
 
 /// Returns whether a stored range and its value are a run of the model.
-pub fn is_run<S: Soaked>(range: &S::Range, value: &S::Value, run: &Run) -> bool {
+pub fn is_run<S: OverPoints>(range: &S::Range, value: &S::Value, run: &Run) -> bool {
     S::is_range(range, run.span) && S::mark_of(value) == run.mark
 }
 
@@ -97,6 +121,18 @@ pub fn is_marked<S: Soaked>(found: Option<&S::Value>, run: Option<&Run>) -> bool
     match (found, run) {
         (Some(value), Some(run)) => S::mark_of(value) == run.mark,
         (found, run) => found.is_none() && run.is_none(),
+    }
+}
+
+/// Returns whether a tree may hold so many blocks: so many for each stored range, and its nodes, of
+/// which each but the root has 7 to 15 ranges. One without ranges may keep its root.
+fn tree_needs(blocks: u64, stored: usize, for_each: u64, has_grown: bool) -> bool {
+    let stored = stored as u64;
+    let fewest = stored.div_ceil(15);
+    let most = u64::from(has_grown).saturating_add(stored.saturating_sub(1) / 7);
+    match blocks.checked_sub(for_each.saturating_mul(stored)) {
+        Some(nodes) => fewest <= nodes && nodes <= most,
+        None => false,
     }
 }
 

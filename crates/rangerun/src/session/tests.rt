@@ -7,6 +7,7 @@ mod faults;
 mod imap;
 mod iset;
 mod map;
+mod refusals;
 mod set;
 mod streams;
 
@@ -39,7 +40,7 @@ fn assert_run<R: AllocGlobal + Abort>(
 ) -> Result<(), AllocError> {
     let alloc = rt.alloc();
     let mut held = Vec::new(alloc);
-    let ended = run(alloc, &words_for(alloc, kind)?, input, &mut held);
+    let ended = run(alloc, alloc, &words_for(alloc, kind)?, input, &mut held);
     assert_eq!(rt; ended, end, "{kind} after {input:?}");
     assert_eq!(rt;
         held.as_slice(),

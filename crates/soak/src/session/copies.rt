@@ -12,7 +12,7 @@ impl<'a, S: Soaked<Alloc = &'a Heap>> Session<'a, S> {
     pub(super) fn clone(&mut self) -> Result<bool, Stop> {
         let held = self.chance.heap.held();
         self.chance.refuse_one();
-        let made = self.subject.clone();
+        let made = self.subject.copied();
         let is_refused = self.answer(made.is_ok(), held)?;
         if let Ok(copy) = made {
             check(copy == self.subject, Difference::Equality)?;

@@ -1,20 +1,18 @@
 //! The sets.
 
+use super::boxed::{self, Boxed};
 use super::costly::Costly;
-use super::{Heap, Operator, Soaked, list_needs};
+use super::{Heap, Operator, OverPoints, list_needs};
 use crate::points::{Query, Span};
 use rangemap::ranged_set::Combines;
 use rangemap::{RangeInclusiveSet, RangeSet};
 use std::alloc::AllocError;
 use std::ops::{Range, RangeInclusive};
 
-/// A key that holds a block of memory.
-type Boxed<'a> = Box<u16, &'a Heap>;
-
 /// A set of keys each of which holds a block of memory.
 pub type Set<'a> = RangeSet<Boxed<'a>, &'a Heap>;
 
-impl<'a> Soaked for Set<'a> {
+impl<'a> OverPoints for Set<'a> {
     ghost use Rattle.std.proofs.Common.{rules};
     ghost use Rattle.std.specs.Cmp.Rules.{comparing};
 
@@ -33,15 +31,11 @@ impl<'a> Soaked for Set<'a> {
     }
 
     fn range(heap: &'a Heap, span: Span) -> Result<Range<Boxed<'a>>, AllocError> {
-        let start = Box::new(heap, u16::from(span.first))?;
-        let end = Box::new(heap, u16::from(span.last) + 1)?;
-        Ok(start..end)
+        boxed::range(heap, span.first, span.last)
     }
 
     fn query(heap: &'a Heap, query: Query) -> Result<Range<Boxed<'a>>, AllocError> {
-        let start = Box::new(heap, u16::from(query.first))?;
-        let end = Box::new(heap, u16::from(query.last) + 1)?;
-        Ok(start..end)
+        boxed::range(heap, query.first, query.last)
     }
 
     fn value(_heap: &'a Heap, _mark: u8) -> Result<(), AllocError> {
@@ -49,7 +43,7 @@ impl<'a> Soaked for Set<'a> {
     }
 
     fn is_range(range: &Range<Boxed<'a>>, span: Span) -> bool {
-        *range.start == u16::from(span.first) && *range.end == u16::from(span.last) + 1
+        boxed::is_range(range, span.first, span.last)
     }
 
     fn mark_of(_value: &()) -> u8 {
@@ -58,6 +52,10 @@ impl<'a> Soaked for Set<'a> {
 
     fn needs(blocks: u64, stored: usize, has_grown: bool) -> bool {
         list_needs(blocks, stored, 2, has_grown)
+    }
+
+    fn copied(&self) -> Result<Self, AllocError> {
+        self.clone()
     }
 
     fn combined(&self, other: &Self, operator: Operator) -> Option<Result<Self, AllocError>> {
@@ -71,7 +69,7 @@ impl<'a> Soaked for Set<'a> {
 /// A set of keys whose clones take memory.
 pub type InclusiveSet<'a> = RangeInclusiveSet<Costly<'a>, Costly<'a>, &'a Heap>;
 
-impl<'a> Soaked for InclusiveSet<'a> {
+impl<'a> OverPoints for InclusiveSet<'a> {
     ghost use Rattle.std.proofs.Common.{rules};
     ghost use Rattle.std.specs.Cmp.Rules.{comparing};
 
@@ -111,6 +109,10 @@ impl<'a> Soaked for InclusiveSet<'a> {
 
     fn needs(blocks: u64, stored: usize, has_grown: bool) -> bool {
         list_needs(blocks, stored, 0, has_grown)
+    }
+
+    fn copied(&self) -> Result<Self, AllocError> {
+        self.clone()
     }
 
     fn combined(&self, other: &Self, operator: Operator) -> Option<Result<Self, AllocError>> {

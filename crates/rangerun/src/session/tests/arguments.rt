@@ -35,7 +35,7 @@ fn assert_refused<R: AllocGlobal + Abort>(rt: &R, cases: &[&[&str]]) -> Result<(
             args.push(String::from_str(alloc, word)?)?;
         }
         let mut held = Vec::new(alloc);
-        let ended = run(alloc, &args, b"len\n".as_slice(), &mut held);
+        let ended = run(alloc, alloc, &args, b"len\n".as_slice(), &mut held);
         assert_eq!(rt; ended, Err(Fault { number: 1, line: 0 }), "with {words:?}");
         assert!(rt; held.is_empty());
     }

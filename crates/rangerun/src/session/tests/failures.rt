@@ -55,7 +55,7 @@ fn assert_reads_may_fail<R: AllocGlobal + Abort>(
     for (left, line) in lines.iter().enumerate() {
         let mut held = Vec::new(alloc);
         let input = Pieces::new(LINES, size, Failure::after(left, error));
-        let ended = run(alloc, &words_for(alloc, kind)?, input, &mut held);
+        let ended = run(alloc, alloc, &words_for(alloc, kind)?, input, &mut held);
         let fault = Fault {
             number: 6,
             line: *line,
@@ -92,7 +92,7 @@ fn assert_writes_may_fail<R: AllocGlobal + Abort>(
     for (left, line) in lines.iter().enumerate() {
         let mut held = Vec::new(alloc);
         let output = Sink::new(&mut held, size, Failure::after(left, error), Failure::NEVER);
-        let ended = run(alloc, &words_for(alloc, kind)?, LINES, output);
+        let ended = run(alloc, alloc, &words_for(alloc, kind)?, LINES, output);
         let fault = Fault {
             number: 6,
             line: *line,
@@ -117,7 +117,7 @@ fn each_flush_may_fail(rt: HostRuntime) -> Result<(), Fail> {
             let mut held = Vec::new(alloc);
             let failure = Failure::after(left, ErrorKind::Other);
             let output = Sink::new(&mut held, 100, Failure::NEVER, failure);
-            let ended = run(alloc, &words_for(alloc, kind)?, LINES, output);
+            let ended = run(alloc, alloc, &words_for(alloc, kind)?, LINES, output);
             assert_eq!(rt;
                 ended,
                 Err(Fault { number: 6, line }),
@@ -138,7 +138,7 @@ fn what_was_interrupted_is_tried_again(rt: HostRuntime) -> Result<(), Fail> {
             let mut held = Vec::new(alloc);
             let input = Pieces::new(LINES, 1, failure);
             let output = Sink::new(&mut held, 1, failure, Failure::NEVER);
-            let ended = run(alloc, &words_for(alloc, kind)?, input, output);
+            let ended = run(alloc, alloc, &words_for(alloc, kind)?, input, output);
             assert_eq!(rt; ended, Ok(()), "{kind} at {left}");
             assert_eq!(rt;
                 held.as_slice(),
@@ -156,7 +156,7 @@ fn a_writer_that_takes_nothing_is_a_fault(rt: HostRuntime) -> Result<(), Fail> {
     for kind in KINDS {
         let mut held = Vec::new(alloc);
         let output = Sink::new(&mut held, 0, Failure::NEVER, Failure::NEVER);
-        let ended = run(alloc, &words_for(alloc, kind)?, LINES, output);
+        let ended = run(alloc, alloc, &words_for(alloc, kind)?, LINES, output);
         assert_eq!(rt; ended, Err(Fault { number: 6, line: 1 }), "{kind}");
     }
     Ok(())

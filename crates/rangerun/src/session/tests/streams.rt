@@ -1,4 +1,4 @@
-//! Readers and writers that take a few bytes at a time and fail once.
+//! Readers and writers that take a few bytes at a time and fail once, and a reader that counts.
 
 use std::io::{self, ErrorKind, Read, Write};
 
@@ -28,6 +28,33 @@ impl Read for Pieces<'_> {
         buf[..count].copy_from_slice(&self.rest[..count]);
         self.rest = &self.rest[count..];
         Ok(count)
+    }
+}
+
+/// Gives a text line by line, and counts the lines.
+#[derive(Drop)]
+pub struct Lines<'a, 'b> {
+    rest: &'a [u8],
+    count: &'b mut u64,
+}
+
+impl<'a, 'b> Lines<'a, 'b> {
+    /// Gives `text`, whose lines fit the rooms that they are read into.
+    pub fn new(text: &'a [u8], count: &'b mut u64) -> Lines<'a, 'b> {
+        Lines { rest: text, count }
+    }
+}
+
+impl Read for Lines<'_, '_> {
+    fn read(&mut self, buf: &mut [u8]) -> io::Result<usize> {
+        let Some(end) = self.rest.iter().position(|byte| *byte == b'\n') else {
+            return Ok(0);
+        };
+        let size = buf.len().min(end + 1);
+        buf[..size].copy_from_slice(&self.rest[..size]);
+        self.rest = &self.rest[size..];
+        *self.count = self.count.saturating_add(1);
+        Ok(size)
     }
 }
 
