@@ -6,8 +6,6 @@ pub mod gaps;
 pub mod into_iter;
 pub mod iter;
 pub mod overlapping;
-#[cfg(test)]
-mod tests;
 pub mod tree_map;
 
 pub use tree_map::RangeMap;

@@ -40,7 +40,7 @@ pub fn folded<T: Hash>(value: &T) -> u64 {
 }
 
 /// What the hasher makes of a map that was made, unless it was refused memory.
-fn folded_made<M: Hash + Drop>(made: Result<M, AllocError>) -> Result<u64, AllocError> {
+pub fn folded_made<M: Hash + Drop>(made: Result<M, AllocError>) -> Result<u64, AllocError> {
     Ok(folded(&made?))
 }
 

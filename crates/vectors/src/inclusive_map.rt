@@ -7,7 +7,7 @@ use crate::rows::Call::{Clear, Insert, Remove};
 use crate::rows::tables::{Changed, check_changes};
 use crate::rows::{InRows, check_nothing, check_row, make};
 use rangemap::{RangeInclusiveMap, StepFns};
-use std::alloc::{AllocError, Global};
+use std::alloc::Global;
 use std::fmt::Debug;
 use std::ops::RangeInclusive;
 use std::process::Abort;
@@ -49,10 +49,6 @@ impl<K: Ord + Clone + Copy + Debug, V: Eq + Clone + Copy + Debug, StepFnsT: Step
 
     fn value(_alloc: Global, row: &V) -> Result<V, Fail> {
         Ok(*row)
-    }
-
-    fn copy(&self) -> Result<Self, AllocError> {
-        self.clone()
     }
 
     fn is_range(range: &RangeInclusive<K>, row: &RangeInclusive<K>) -> bool {

@@ -3,7 +3,7 @@
 use crate::inclusive_map::filled;
 use crate::rows::InRows;
 use rangemap::{RangeInclusiveSet, StepFns};
-use std::alloc::{AllocError, Global};
+use std::alloc::Global;
 use std::fmt::Debug;
 use std::ops::RangeInclusive;
 use std::test::Fail;
@@ -30,10 +30,6 @@ impl<K: Ord + Clone + Copy + Debug, StepFnsT: StepFns<K>> InRows
 
     fn value(_alloc: Global, _row: &()) -> Result<(), Fail> {
         Ok(())
-    }
-
-    fn copy(&self) -> Result<Self, AllocError> {
-        self.clone()
     }
 
     fn is_range(range: &RangeInclusive<K>, row: &RangeInclusive<K>) -> bool {

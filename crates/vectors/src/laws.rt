@@ -6,6 +6,7 @@ ghost use Rattle.rangemap.specs.Clones.{KeysCloneFaithfully, ValuesCloneFaithful
 
 use crate::rows::{Call, InRows, check_row, make};
 use rangemap::laws;
+use rangemap::ranged_map::LeavesGaps;
 use std::alloc::{AllocGlobal, Global};
 use std::process::Abort;
 use std::test::Fail;
@@ -138,7 +139,7 @@ pub fn check_taken_back<M: InRows<Alloc = Global>, R: AllocGlobal + Abort>(
 }
 
 /// The gaps of the range are those of the row.
-pub fn check_parted<M: InRows<Alloc = Global>, R: AllocGlobal + Abort>(
+pub fn check_parted<M: InRows<Alloc = Global> + LeavesGaps, R: AllocGlobal + Abort>(
     rt: &R,
     calls: &[Call<M::RowRange, M::RowValue>],
     outer_range: &M::Range,

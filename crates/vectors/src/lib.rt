@@ -32,4 +32,6 @@ mod set;
 #[cfg(test)]
 mod text;
 #[cfg(test)]
+mod tree_map;
+#[cfg(test)]
 mod trials;

@@ -4,7 +4,7 @@ ghost use Rattle.rangemap.specs.Ranges.{half_open};
 
 use crate::rows::InRows;
 use rangemap::RangeMap;
-use std::alloc::{AllocError, Global};
+use std::alloc::Global;
 use std::fmt::Debug;
 use std::ops::Range;
 use std::test::Fail;
@@ -12,14 +12,14 @@ use std::test::Fail;
 mod collections;
 pub mod inserts;
 mod laws;
-mod lookups;
-mod queries;
-mod refusals;
-mod removals;
+pub mod lookups;
+pub mod queries;
+pub mod refusals;
+pub mod removals;
 mod replays;
 
 /// A map over numbers.
-type Map = RangeMap<u32, char, Global>;
+pub type Map = RangeMap<u32, char, Global>;
 
 /// The range between two keys of a row, which has to hold a key.
 pub fn filled<K: Ord + Drop>(start: K, end: K) -> Result<Range<K>, &'static str>
@@ -43,10 +43,6 @@ impl<V: Eq + Clone + Copy + Debug> InRows for RangeMap<u32, V, Global> {
 
     fn value(_alloc: Global, row: &V) -> Result<V, Fail> {
         Ok(*row)
-    }
-
-    fn copy(&self) -> Result<Self, AllocError> {
-        self.clone()
     }
 
     fn is_range(range: &Range<u32>, row: &Range<u32>) -> bool {

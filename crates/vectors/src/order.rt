@@ -17,7 +17,7 @@ fn assert_less<M: Ord, R: Abort>(rt: &R, less: &M, greater: &M) -> Result<(), Fa
 }
 
 /// Shows that a map is less than one that was made, unless that was refused memory.
-fn assert_less_than<M: Ord + Drop, R: Abort>(
+pub fn assert_less_than<M: Ord + Drop, R: Abort>(
     rt: &R,
     less: &M,
     made: Result<M, AllocError>,

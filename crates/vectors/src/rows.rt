@@ -4,7 +4,7 @@ ghost use Rattle.std.specs.Prelude.{IfOk};
 ghost use Rattle.std.specs.Iterator.{IsFinite};
 ghost use Rattle.rangemap.specs.Clones.{KeysCloneFaithfully, ValuesCloneFaithfully};
 
-use rangemap::ranged_map::{LeavesGaps, RangedMap, ReadsGaps, ReadsPairs, tell_gaps};
+use rangemap::ranged_map::{ClonesItself, RangedMap, ReadsGaps, ReadsPairs, tell_gaps};
 use std::alloc::AllocError;
 use std::fmt::Debug;
 use std::process::Abort;
@@ -28,7 +28,7 @@ pub enum Call<R, V> {
 ///
 /// It builds on one trait alone: over two that share a third, each function here takes many times
 /// as long to prove.
-pub trait InRows: LeavesGaps {
+pub trait InRows: ClonesItself {
     /// A range as it stands in a row.
     type RowRange;
 
@@ -41,11 +41,6 @@ pub trait InRows: LeavesGaps {
 
     /// Makes a value of a row.
     fn value(alloc: Self::Alloc, row: &Self::RowValue) -> Result<Self::Value, Fail>;
-
-    /// Copies the container, by its own `clone`.
-    fn copy(&self) -> Result<Self, AllocError>
-        requires faithful_keys { KeysCloneFaithfully Self.Key.is_clone Self.Key.cmp }
-        requires faithful_values { ValuesCloneFaithfully Self.Value.is_clone Self.Value.eq };
 
     /// Whether a range is that of a row.
     fn is_range(range: &Self::Range, row: &Self::RowRange) -> bool;
@@ -187,6 +182,17 @@ pub fn check_made<M: InRows, R: Abort>(
     pairs: &[(M::RowRange, M::RowValue)],
 ) -> Result<(), Fail> {
     check_row(rt, &made?, pairs)
+}
+
+/// Compares two maps that were made, unless one was refused memory: whether both are equal.
+pub fn check_equal<M: InRows, R: Abort>(
+    rt: &R,
+    one: Result<M, AllocError>,
+    other: Result<M, AllocError>,
+    are_equal: bool,
+) -> Result<(), Fail> {
+    assert!(rt; (one? == other?) == are_equal);
+    Ok(())
 }
 
 /// Shows that nothing is found in an empty map, at the key or at an end.

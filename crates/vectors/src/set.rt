@@ -3,7 +3,7 @@
 use crate::map::filled;
 use crate::rows::InRows;
 use rangemap::RangeSet;
-use std::alloc::{AllocError, Global};
+use std::alloc::Global;
 use std::ops::Range;
 use std::test::Fail;
 
@@ -29,10 +29,6 @@ impl InRows for Set {
 
     fn value(_alloc: Global, _row: &()) -> Result<(), Fail> {
         Ok(())
-    }
-
-    fn copy(&self) -> Result<Self, AllocError> {
-        self.clone()
     }
 
     fn is_range(range: &Range<u32>, row: &Range<u32>) -> bool {

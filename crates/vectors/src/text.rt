@@ -8,7 +8,11 @@ use std::process::Abort;
 use std::test::Fail;
 
 /// Shows that `{:?}` writes the text.
-fn assert_text<M: Debug, R: AllocGlobal + Abort>(rt: &R, map: &M, text: &str) -> Result<(), Fail> {
+pub fn assert_text<M: Debug, R: AllocGlobal + Abort>(
+    rt: &R,
+    map: &M,
+    text: &str,
+) -> Result<(), Fail> {
     assert_eq!(rt; format!(in rt.alloc(); "{map:?}")?.as_str(), text);
     Ok(())
 }
@@ -41,7 +45,7 @@ fn other_keys_and_values_are_written_by_their_own_text(rt: HostRuntime) -> Resul
 }
 
 /// Shows that `{:#?}` writes the text of a map that was made, unless it was refused memory.
-fn assert_long_text<M: Debug + Drop, R: AllocGlobal + Abort>(
+pub fn assert_long_text<M: Debug + Drop, R: AllocGlobal + Abort>(
     rt: &R,
     made: Result<M, AllocError>,
     text: &str,

@@ -8,7 +8,10 @@ use std::alloc::Global;
 use std::process::Abort;
 use std::test::Fail;
 
+pub mod appends;
 pub mod gaps;
+pub mod items;
+pub mod makers;
 pub mod maps;
 pub mod operations;
 pub mod replays;
@@ -29,11 +32,13 @@ pub trait Trial {
     fn is_accepted<R: AllocGlobal + Abort>(&self, rt: &R, heap: &Heap, left: u64) -> Answer;
 }
 
-/// Tries a call until it is accepted, and counts how often it was refused.
+/// Tries a call until it is accepted, and counts how often it was refused. No block may stay held.
 pub fn count_refusals<R: AllocGlobal + Abort, T: Trial>(rt: &R, trial: &T) -> Result<u64, Fail> {
     for left in 0..MANY {
         let heap = Refusing::new(rt.alloc(), MANY);
-        if trial.is_accepted(rt, &heap, left)? {
+        let is_accepted = trial.is_accepted(rt, &heap, left)?;
+        assert_eq!(rt; heap.held(), 0);
+        if is_accepted {
             return Ok(left);
         }
     }

@@ -5,12 +5,12 @@ use super::costly::Costly;
 use super::filled;
 use crate::rows::Call::{Insert, Remove};
 use crate::rows::InRows;
-use crate::trials::maps::Tried::{Change, Clone, Gaps};
+use crate::trials::gaps::check_gap_refusals;
+use crate::trials::maps::Tried::{Change, Clone};
 use crate::trials::maps::{Row, check_refusals};
 use crate::trials::{Heap, MANY};
 use rangemap::RangeInclusiveMap;
 use refusing::Refusing;
-use std::alloc::AllocError;
 use std::ops::RangeInclusive;
 use std::test::Fail;
 
@@ -36,10 +36,6 @@ impl<'a> InRows for CostlyMap<'a> {
         Ok(*row)
     }
 
-    fn copy(&self) -> Result<Self, AllocError> {
-        self.clone()
-    }
-
     fn is_range(range: &RangeInclusive<Costly<'a>>, row: &Ends) -> bool {
         (range.start().byte, range.end().byte) == *row
     }
@@ -56,7 +52,7 @@ type CostlyRow<'r> = Row<'r, Ends, char>;
 // and so do both ends of a range that is joined.
 #[test]
 fn each_request_may_be_refused(rt: HostRuntime) -> Result<(), Fail> {
-    let rows: [CostlyRow<'_>; 8] = [
+    let rows: [CostlyRow<'_>; 7] = [
         (&[], Change(Insert((0, 255), 'a'), &[((0, 255), 'a')]), 1),
         (
             &[((0, 4), 'a')],
@@ -88,9 +84,15 @@ fn each_request_may_be_refused(rt: HostRuntime) -> Result<(), Fail> {
         ),
         // the list, and six keys
         (&[((0, 2), 'a'), ((3, 5), 'b'), ((6, 9), 'a')], Clone, 7),
-        // The start is cloned, and the end comes of a step.
-        (&[((10, 249), 'a')], Gaps((0, 255), (0, 9), (250, 255)), 1),
     ];
     let heap = Refusing::new(rt.alloc(), MANY);
     check_refusals::<_, CostlyMap<'_>>(&rt, &heap, &rows)
+}
+
+// The start of a gap is cloned, and its end comes of a step.
+#[test]
+fn each_request_of_a_gap_may_be_refused(rt: HostRuntime) -> Result<(), Fail> {
+    let heap = Refusing::new(rt.alloc(), MANY);
+    let row = (&(0, 255), &(0, 9), &(250, 255));
+    check_gap_refusals::<_, CostlyMap<'_>>(&rt, &heap, &[((10, 249), 'a')], row, 1)
 }

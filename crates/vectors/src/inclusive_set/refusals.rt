@@ -5,12 +5,12 @@ use crate::inclusive_map::costly::Costly;
 use crate::inclusive_map::filled;
 use crate::rows::Call::{Insert, Remove};
 use crate::rows::InRows;
-use crate::trials::maps::Tried::{Change, Clone, Gaps};
+use crate::trials::gaps::check_gap_refusals;
+use crate::trials::maps::Tried::{Change, Clone};
 use crate::trials::maps::{Row, check_refusals};
 use crate::trials::{Heap, MANY};
 use rangemap::RangeInclusiveSet;
 use refusing::Refusing;
-use std::alloc::AllocError;
 use std::ops::RangeInclusive;
 use std::test::Fail;
 
@@ -37,10 +37,6 @@ impl<'a> InRows for CostlySet<'a> {
         Ok(())
     }
 
-    fn copy(&self) -> Result<Self, AllocError> {
-        self.clone()
-    }
-
     fn is_range(range: &RangeInclusive<Costly<'a>>, row: &Ends) -> bool {
         (range.start().byte, range.end().byte) == *row
     }
@@ -57,7 +53,7 @@ type CostlyRow<'r> = Row<'r, Ends, ()>;
 // and so do both ends of a range that is joined.
 #[test]
 fn each_request_may_be_refused(rt: HostRuntime) -> Result<(), Fail> {
-    let rows: [CostlyRow<'_>; 6] = [
+    let rows: [CostlyRow<'_>; 5] = [
         (&[], Change(Insert((0, 255), ()), &[((0, 255), ())]), 1),
         (
             &[((0, 4), ())],
@@ -76,9 +72,15 @@ fn each_request_may_be_refused(rt: HostRuntime) -> Result<(), Fail> {
         ),
         // the list, and four keys
         (&[((0, 4), ()), ((9, 255), ())], Clone, 5),
-        // The start is cloned, and the end comes of a step.
-        (&[((10, 249), ())], Gaps((0, 255), (0, 9), (250, 255)), 1),
     ];
     let heap = Refusing::new(rt.alloc(), MANY);
     check_refusals::<_, CostlySet<'_>>(&rt, &heap, &rows)
+}
+
+// The start of a gap is cloned, and its end comes of a step.
+#[test]
+fn each_request_of_a_gap_may_be_refused(rt: HostRuntime) -> Result<(), Fail> {
+    let heap = Refusing::new(rt.alloc(), MANY);
+    let row = (&(0, 255), &(0, 9), &(250, 255));
+    check_gap_refusals::<_, CostlySet<'_>>(&rt, &heap, &[((10, 249), ())], row, 1)
 }

@@ -1,17 +1,26 @@
 //! Rows about maps that are made of pairs and of other maps, and that hand their pairs over.
 
 use crate::rows::iterators::check_counted_back;
-use crate::rows::{check_made, check_row};
+use crate::rows::{check_equal, check_made, check_row};
 use rangemap::RangeMap;
 use std::test::Fail;
 
 #[test]
 fn equality_forgets_the_calls(rt: HostRuntime) -> Result<(), Fail> {
-    let one = RangeMap::from(rt.alloc(), [(0u32..10, 'a'), (3..6, 'b'), (3..6, 'a')])?;
-    assert!(rt; one == RangeMap::from(rt.alloc(), [(0..10, 'a')])?);
-    let shorter = RangeMap::from(rt.alloc(), [(0u32..5, 'a')])?;
-    assert!(rt; shorter != RangeMap::from(rt.alloc(), [(0..6, 'a')])?);
-    Ok(())
+    let one = RangeMap::from(rt.alloc(), [(0u32..10, 'a'), (3..6, 'b'), (3..6, 'a')]);
+    check_equal(
+        &rt,
+        one,
+        RangeMap::from(rt.alloc(), [(0u32..10, 'a')]),
+        true,
+    )?;
+    let shorter = RangeMap::from(rt.alloc(), [(0u32..5, 'a')]);
+    check_equal(
+        &rt,
+        shorter,
+        RangeMap::from(rt.alloc(), [(0u32..6, 'a')]),
+        false,
+    )
 }
 
 #[test]

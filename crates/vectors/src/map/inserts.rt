@@ -1,29 +1,51 @@
 //! Rows about `insert`, and about what the map then answers.
+ghost use Rattle.rangemap.specs.Clones.{KeysCloneFaithfully, ValuesCloneFaithfully};
 
 use super::Map;
 use crate::rows::Call::Insert;
 use crate::rows::tables::{Changed, check_changes};
-use crate::rows::{check_row, make};
+use crate::rows::{InRows, check_row, make};
 use rangemap::RangeMap;
-use std::alloc::Global;
+use std::alloc::{AllocGlobal, Global};
 use std::ops::Range;
+use std::process::Abort;
 use std::test::Fail;
 
 #[test]
 fn what_is_covered_is_replaced(rt: HostRuntime) -> Result<(), Fail> {
-    let mut map: RangeMap<u32, bool, Global> = RangeMap::new(rt.alloc());
+    check_replaced::<RangeMap<u32, bool, Global>, _>(&rt)
+}
+
+/// An insert inside a stored range, and one of its own value back.
+pub fn check_replaced<M, R: AllocGlobal + Abort>(rt: &R) -> Result<(), Fail>
+where
+    M: InRows<RowRange = Range<u32>, RowValue = bool, Alloc = Global>,
+    requires faithful_keys { KeysCloneFaithfully M.Key.is_clone M.Key.cmp }
+    requires faithful_values { ValuesCloneFaithfully M.Value.is_clone M.Value.eq }
+{
+    let mut map = M::empty(rt.alloc());
     make(
         &mut map,
         rt.alloc(),
         &[Insert(0..10, false), Insert(3..6, true)],
     )?;
-    check_row(&rt, &map, &[(0..3, false), (3..6, true), (6..10, false)])?;
+    check_row(rt, &map, &[(0..3, false), (3..6, true), (6..10, false)])?;
     make(&mut map, rt.alloc(), &[Insert(3..6, false)])?;
-    check_row(&rt, &map, &[(0..10, false)])
+    check_row(rt, &map, &[(0..10, false)])
 }
 
 #[test]
 fn pieces_are_kept_and_joined(rt: HostRuntime) -> Result<(), Fail> {
+    check_joined::<Map, _>(&rt)
+}
+
+/// Inserts that touch, fill what is free and cover what is stored.
+pub fn check_joined<M, R: AllocGlobal + Abort>(rt: &R) -> Result<(), Fail>
+where
+    M: InRows<RowRange = Range<u32>, RowValue = char, Alloc = Global>,
+    requires faithful_keys { KeysCloneFaithfully M.Key.is_clone M.Key.cmp }
+    requires faithful_values { ValuesCloneFaithfully M.Value.is_clone M.Value.eq }
+{
     let rows: [Changed<'_, Range<u32>, char>; 4] = [
         (
             &[Insert(0..5, 'a'), Insert(5..9, 'b'), Insert(5..7, 'a')],
@@ -52,7 +74,40 @@ fn pieces_are_kept_and_joined(rt: HostRuntime) -> Result<(), Fail> {
             &[(0..10, 'a')],
         ),
     ];
-    check_changes::<Map, _>(&rt, rt.alloc(), &rows)
+    check_changes::<M, _>(rt, rt.alloc(), &rows)
+}
+
+#[test]
+fn an_insert_covers_several(rt: HostRuntime) -> Result<(), Fail> {
+    check_covered::<Map, _>(&rt)
+}
+
+/// An insert that covers all of three pairs and parts of two, and one that covers all of two that
+/// touch, of which it has the value of one.
+pub fn check_covered<M, R: AllocGlobal + Abort>(rt: &R) -> Result<(), Fail>
+where
+    M: InRows<RowRange = Range<u32>, RowValue = char, Alloc = Global>,
+    requires faithful_keys { KeysCloneFaithfully M.Key.is_clone M.Key.cmp }
+    requires faithful_values { ValuesCloneFaithfully M.Value.is_clone M.Value.eq }
+{
+    let rows: [Changed<'_, Range<u32>, char>; 2] = [
+        (
+            &[
+                Insert(0..2, 'a'),
+                Insert(3..4, 'b'),
+                Insert(5..6, 'c'),
+                Insert(7..8, 'd'),
+                Insert(9..12, 'e'),
+                Insert(1..10, 'f'),
+            ],
+            &[(0..1, 'a'), (1..10, 'f'), (10..12, 'e')],
+        ),
+        (
+            &[Insert(5..8, 'a'), Insert(2..5, 'b'), Insert(2..8, 'b')],
+            &[(2..8, 'b')],
+        ),
+    ];
+    check_changes::<M, _>(rt, rt.alloc(), &rows)
 }
 
 /// A number with a note. The number alone decides whether two are equal.
@@ -84,24 +139,30 @@ impl Eq for Noted {
 
 #[test]
 fn the_newest_of_equal_values_stays(rt: HostRuntime) -> Result<(), Fail> {
-    let mut map = RangeMap::new(rt.alloc());
-    map.insert(
-        0u32..4,
-        Noted {
-            number: 1,
-            note: "x",
-        },
+    check_newest::<RangeMap<u32, Noted, Global>, _>(&rt)
+}
+
+/// Two inserts that touch, whose values are equal in part.
+pub fn check_newest<M, R: AllocGlobal + Abort>(rt: &R) -> Result<(), Fail>
+where
+    M: InRows<Key = u32, Value = Noted, RowRange = Range<u32>, RowValue = Noted, Alloc = Global>,
+{
+    let mut map = M::empty(rt.alloc());
+    let old = Noted {
+        number: 1,
+        note: "x",
+    };
+    let new = Noted {
+        number: 1,
+        note: "y",
+    };
+    make(
+        &mut map,
+        rt.alloc(),
+        &[Insert(0..4, old), Insert(4..8, new)],
     )?;
-    map.insert(
-        4..8,
-        Noted {
-            number: 1,
-            note: "y",
-        },
-    )?;
-    assert_eq!(rt; map.len(), 1);
-    let (range, noted) = map.get_key_value(&0).ok_or("0 is covered")?;
-    assert_eq!(rt; *range, 0..8);
+    check_row(rt, &map, &[(0..8, new)])?;
+    let noted = map.get(&0).ok_or("0 is covered")?;
     assert_eq!(rt; noted.note, "y");
     Ok(())
 }

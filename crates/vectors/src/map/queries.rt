@@ -1,17 +1,30 @@
 //! Rows about queries: which stored pairs a range overlaps, and which parts of it are free.
+ghost use Rattle.rangemap.specs.Clones.{KeysCloneFaithfully, ValuesCloneFaithfully};
 
 use super::Map;
 use crate::rows::Call::Insert;
 use crate::rows::iterators::check_found_three;
-use crate::rows::make;
 use crate::rows::tables::{Free, Overlapped, check_free, check_queries};
+use crate::rows::{InRows, make};
 use rangemap::RangeMap;
+use rangemap::laws::iterators::StaysEndedAtBack;
+use std::alloc::{AllocGlobal, Global};
 use std::ops::Range;
 use std::process::Abort;
 use std::test::Fail;
 
 #[test]
 fn what_a_query_overlaps_is_found(rt: HostRuntime) -> Result<(), Fail> {
+    check_overlapped::<Map, _>(&rt)
+}
+
+/// Queries that are empty, reversed or touch.
+pub fn check_overlapped<M, R: AllocGlobal + Abort>(rt: &R) -> Result<(), Fail>
+where
+    M: InRows<Range = Range<u32>, RowRange = Range<u32>, RowValue = char, Alloc = Global>,
+    requires faithful_keys { KeysCloneFaithfully M.Key.is_clone M.Key.cmp }
+    requires faithful_values { ValuesCloneFaithfully M.Value.is_clone M.Value.eq }
+{
     let rows: [Overlapped<'_, Range<u32>, Range<u32>, char>; 7] = [
         (&[Insert(0..10, 'a')], 7..3, &[(0..10, 'a')]),
         (&[Insert(0..5, 'a'), Insert(5..10, 'b')], 5..5, &[]),
@@ -25,12 +38,25 @@ fn what_a_query_overlaps_is_found(rt: HostRuntime) -> Result<(), Fail> {
             &[(0..2, 'a'), (2..4, 'b')],
         ),
     ];
-    check_queries::<Map, _>(&rt, rt.alloc(), &rows)
+    check_queries::<M, _>(rt, rt.alloc(), &rows)
 }
 
 #[test]
 fn overlapping_pairs_come_from_both_ends(rt: HostRuntime) -> Result<(), Fail> {
-    let mut map: Map = RangeMap::new(rt.alloc());
+    let map: Map = make_four(&rt)?;
+    let query = 1..8;
+    check_three(&rt, map.overlapping(&query));
+    Ok(())
+}
+
+/// A map of four pairs, of which 1 to 8 overlaps three.
+pub fn make_four<M, R: AllocGlobal>(rt: &R) -> Result<M, Fail>
+where
+    M: InRows<RowRange = Range<u32>, RowValue = char, Alloc = Global>,
+    requires faithful_keys { KeysCloneFaithfully M.Key.is_clone M.Key.cmp }
+    requires faithful_values { ValuesCloneFaithfully M.Value.is_clone M.Value.eq }
+{
+    let mut map = M::empty(rt.alloc());
     make(
         &mut map,
         rt.alloc(),
@@ -41,22 +67,30 @@ fn overlapping_pairs_come_from_both_ends(rt: HostRuntime) -> Result<(), Fail> {
             Insert(8..9, 'c'),
         ],
     )?;
-    take_overlapping(&rt, &map);
-    Ok(())
+    Ok(map)
 }
 
-/// Takes what a query overlaps from both ends, and asks on.
-fn take_overlapping<R: Abort>(rt: &R, map: &Map) {
-    let query = 1..8;
-    check_found_three(
-        rt,
-        map.overlapping(&query),
-        ((&(0..2), &'a'), (&(2..4), &'b'), (&(4..6), &'a')),
-    );
+/// Takes these three from both ends, and asks on.
+pub fn check_three<'a, I, R: Abort>(rt: &R, found: I)
+where
+    I: StaysEndedAtBack<Item = (&'a Range<u32>, &'a char)>,
+{
+    let pairs = ((&(0..2), &'a'), (&(2..4), &'b'), (&(4..6), &'a'));
+    check_found_three(rt, found, pairs);
 }
 
 #[test]
 fn what_nothing_covers_is_free(rt: HostRuntime) -> Result<(), Fail> {
+    check_uncovered::<Map, _>(&rt)
+}
+
+/// Gaps before, between and behind stored ranges.
+pub fn check_uncovered<M, R: AllocGlobal + Abort>(rt: &R) -> Result<(), Fail>
+where
+    M: InRows<Range = Range<u32>, RowRange = Range<u32>, RowValue = char, Alloc = Global>,
+    requires faithful_keys { KeysCloneFaithfully M.Key.is_clone M.Key.cmp }
+    requires faithful_values { ValuesCloneFaithfully M.Value.is_clone M.Value.eq }
+{
     let rows: [Free<'_, Range<u32>, Range<u32>, char>; 6] = [
         (&[], 0..3, &[0..3]),
         (&[Insert(0..2, 'a'), Insert(2..4, 'b')], 0..4, &[]),
@@ -69,7 +103,7 @@ fn what_nothing_covers_is_free(rt: HostRuntime) -> Result<(), Fail> {
         (&[Insert(1..3, 'a'), Insert(5..7, 'a')], 4..4, &[]),
         (&[Insert(1..3, 'a'), Insert(5..7, 'a')], 8..0, &[]),
     ];
-    check_free::<Map, _>(&rt, rt.alloc(), &rows)
+    check_free::<M, _>(rt, rt.alloc(), &rows)
 }
 
 #[test]

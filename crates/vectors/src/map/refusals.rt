@@ -4,28 +4,28 @@
 use crate::map::filled;
 use crate::rows::Call::{Insert, Remove};
 use crate::rows::InRows;
-use crate::trials::maps::Tried::{Change, Clone, Gaps};
+use crate::trials::gaps::check_gap_refusals;
+use crate::trials::maps::Tried::{Change, Clone};
 use crate::trials::maps::{Row, check_refusals};
 use crate::trials::{Heap, MANY};
 use rangemap::RangeMap;
 use refusing::Refusing;
-use std::alloc::AllocError;
 use std::ops::Range;
 use std::process::Abort;
 use std::test::Fail;
 
-mod makers;
+pub mod makers;
 
-type Text<'a> = String<&'a Heap>;
+pub type Text<'a> = String<&'a Heap>;
 
 /// A map to texts.
 type Texts<'a> = RangeMap<u32, Text<'a>, &'a Heap>;
 
 /// A map over texts.
-type Names<'a> = RangeMap<Text<'a>, char, &'a Heap>;
+pub type Names<'a> = RangeMap<Text<'a>, char, &'a Heap>;
 
 /// The ends of a range between texts, as they stand in a row.
-type Ends = (&'static str, &'static str);
+pub type Ends = (&'static str, &'static str);
 
 impl<'a> InRows for Texts<'a> {
     type RowRange = Range<u32>;
@@ -38,10 +38,6 @@ impl<'a> InRows for Texts<'a> {
 
     fn value(heap: &'a Heap, row: &&'static str) -> Result<Text<'a>, Fail> {
         Ok(String::from_str(heap, *row)?)
-    }
-
-    fn copy(&self) -> Result<Self, AllocError> {
-        self.clone()
     }
 
     fn is_range(range: &Range<u32>, row: &Range<u32>) -> bool {
@@ -67,10 +63,6 @@ impl<'a> InRows for Names<'a> {
 
     fn value(_heap: &'a Heap, row: &char) -> Result<char, Fail> {
         Ok(*row)
-    }
-
-    fn copy(&self) -> Result<Self, AllocError> {
-        self.clone()
     }
 
     fn is_range(range: &Range<Text<'a>>, row: &Ends) -> bool {
@@ -128,30 +120,26 @@ fn each_request_may_be_refused(rt: HostRuntime) -> Result<(), Fail> {
 /// A row over the map over texts.
 type NamesRow<'r> = Row<'r, Ends, char>;
 
-/// Tries the call of each row.
-#[tactic(auto, using(crate::proofs::Texts::clones_tie))]
-fn check_names<R: AllocGlobal + Abort>(rt: &R, rows: &[NamesRow<'_>]) -> Result<(), Fail> {
-    let heap = Refusing::new(rt.alloc(), MANY);
-    check_refusals::<_, Names<'_>>(rt, &heap, rows)
-}
-
 // Both ends of each piece that stays are cloned, and both ends of a gap.
 #[test]
+#[tactic(auto, using(crate::proofs::Texts::clones_tie))]
 fn each_clone_of_a_key_may_be_refused(rt: HostRuntime) -> Result<(), Fail> {
-    let rows: [NamesRow<'_>; 2] = [
-        (
-            &[(("a", "k"), 'a'), (("u", "z"), 'b')],
-            Change(
-                Insert(("f", "w"), 'c'),
-                &[(("a", "f"), 'a'), (("f", "w"), 'c'), (("w", "z"), 'b')],
-            ),
-            4,
+    let rows: [NamesRow<'_>; 1] = [(
+        &[(("a", "k"), 'a'), (("u", "z"), 'b')],
+        Change(
+            Insert(("f", "w"), 'c'),
+            &[(("a", "f"), 'a'), (("f", "w"), 'c'), (("w", "z"), 'b')],
         ),
-        (
-            &[(("b", "d"), 'a')],
-            Gaps(("a", "f"), ("a", "b"), ("d", "f")),
-            2,
-        ),
-    ];
-    check_names(&rt, &rows)
+        4,
+    )];
+    let heap = Refusing::new(rt.alloc(), MANY);
+    check_refusals::<_, Names<'_>>(&rt, &heap, &rows)
+}
+
+#[test]
+#[tactic(auto, using(crate::proofs::Texts::clones_tie))]
+fn each_clone_of_a_gap_may_be_refused(rt: HostRuntime) -> Result<(), Fail> {
+    let heap = Refusing::new(rt.alloc(), MANY);
+    let row = (&("a", "f"), &("a", "b"), &("d", "f"));
+    check_gap_refusals::<_, Names<'_>>(&rt, &heap, &[(("b", "d"), 'a')], row, 2)
 }

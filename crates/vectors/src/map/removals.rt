@@ -1,14 +1,28 @@
 //! Rows about `remove` and `clear`.
+ghost use Rattle.rangemap.specs.Clones.{KeysCloneFaithfully, ValuesCloneFaithfully};
 
 use super::Map;
 use crate::rows::Call::{Clear, Insert, Remove};
+use crate::rows::InRows;
 use crate::rows::tables::{Changed, check_changes};
+use std::alloc::{AllocGlobal, Global};
 use std::ops::Range;
+use std::process::Abort;
 use std::test::Fail;
 
 #[test]
 fn what_is_removed_is_cut_out(rt: HostRuntime) -> Result<(), Fail> {
-    let rows: [Changed<'_, Range<u32>, char>; 4] = [
+    check_removed::<Map, _>(&rt)
+}
+
+/// Removals inside one range, over several, of all of one and beside one, and a `clear`.
+pub fn check_removed<M, R: AllocGlobal + Abort>(rt: &R) -> Result<(), Fail>
+where
+    M: InRows<RowRange = Range<u32>, RowValue = char, Alloc = Global>,
+    requires faithful_keys { KeysCloneFaithfully M.Key.is_clone M.Key.cmp }
+    requires faithful_values { ValuesCloneFaithfully M.Value.is_clone M.Value.eq }
+{
+    let rows: [Changed<'_, Range<u32>, char>; 6] = [
         (
             &[Insert(0..10, 'a'), Remove(3..6)],
             &[(0..3, 'a'), (6..10, 'a')],
@@ -26,7 +40,12 @@ fn what_is_removed_is_cut_out(rt: HostRuntime) -> Result<(), Fail> {
             ],
             &[(0..5, 'a'), (25..30, 'a')],
         ),
+        (
+            &[Insert(0..2, 'a'), Insert(2..4, 'b'), Remove(2..4)],
+            &[(0..2, 'a')],
+        ),
+        (&[Insert(0..2, 'a'), Remove(2..6)], &[(0..2, 'a')]),
         (&[Insert(0..10, 'a'), Insert(10..20, 'b'), Clear], &[]),
     ];
-    check_changes::<Map, _>(&rt, rt.alloc(), &rows)
+    check_changes::<M, _>(rt, rt.alloc(), &rows)
 }

@@ -4,12 +4,12 @@
 use crate::map::filled;
 use crate::rows::Call::{Insert, Remove};
 use crate::rows::InRows;
-use crate::trials::maps::Tried::{Change, Clone, Gaps};
+use crate::trials::gaps::check_gap_refusals;
+use crate::trials::maps::Tried::{Change, Clone};
 use crate::trials::maps::{Row, check_refusals};
 use crate::trials::{Heap, MANY};
 use rangemap::RangeSet;
 use refusing::Refusing;
-use std::alloc::AllocError;
 use std::ops::Range;
 use std::process::Abort;
 use std::test::Fail;
@@ -40,10 +40,6 @@ impl<'a> InRows for Names<'a> {
 
     fn value(_heap: &'a Heap, _row: &()) -> Result<(), Fail> {
         Ok(())
-    }
-
-    fn copy(&self) -> Result<Self, AllocError> {
-        self.clone()
     }
 
     fn is_range(range: &Range<Text<'a>>, row: &Ends) -> bool {
@@ -95,11 +91,16 @@ fn each_request_of_a_removal_may_be_refused(rt: HostRuntime) -> Result<(), Fail>
 }
 
 #[test]
-fn each_request_of_a_gap_and_of_a_clone_may_be_refused(rt: HostRuntime) -> Result<(), Fail> {
-    let rows: [NamesRow<'_>; 2] = [
-        (&INNER, Gaps(("a", "f"), ("a", "b"), ("d", "f")), 2),
-        // the list, and four keys
-        (&PIECES, Clone, 5),
-    ];
+fn each_request_of_a_clone_may_be_refused(rt: HostRuntime) -> Result<(), Fail> {
+    // the list, and four keys
+    let rows: [NamesRow<'_>; 1] = [(&PIECES, Clone, 5)];
     check_names(&rt, &rows)
+}
+
+#[test]
+#[tactic(auto, using(crate::proofs::Texts::clones_tie))]
+fn each_clone_of_a_gap_may_be_refused(rt: HostRuntime) -> Result<(), Fail> {
+    let heap = Refusing::new(rt.alloc(), MANY);
+    let row = (&("a", "f"), &("a", "b"), &("d", "f"));
+    check_gap_refusals::<_, Names<'_>>(&rt, &heap, &INNER, row, 2)
 }

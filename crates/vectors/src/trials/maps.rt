@@ -1,8 +1,7 @@
-//! What a container of either kind leaves where a call that changes it, copies it or looks for its
-//! gaps is refused memory.
+//! What a container of either kind leaves where a call that changes it or copies it is refused
+//! memory.
 ghost use Rattle.rangemap.specs.Clones.{KeysCloneFaithfully, ValuesCloneFaithfully};
 
-use super::gaps::try_gaps;
 use super::{Answer, Heap, MANY};
 use crate::rows::Call::{self, Clear, Insert, Remove};
 use crate::rows::{InRows, check_row};
@@ -17,8 +16,6 @@ pub enum Tried<'r, R, V> {
     Change(Call<R, V>, &'r [(R, V)]),
     /// `clone`.
     Clone,
-    /// `gaps` in a range that begins in one and ends in another, and these two.
-    Gaps(R, R, R),
 }
 
 /// The pairs that a container holds, a call on it, and the number of requests that this makes.
@@ -44,7 +41,8 @@ pub fn check_refusals<'a, R: Abort, M: InRows<Alloc = &'a Heap>>(
     Ok(())
 }
 
-/// Tries the call of a row until it is accepted, and counts how often it was refused.
+/// Tries the call of a row until it is accepted, and counts how often it was refused. No block may
+/// stay held.
 fn count<'a, R: Abort, M: InRows<Alloc = &'a Heap>>(
     rt: &R,
     heap: &'a Heap,
@@ -54,7 +52,9 @@ fn count<'a, R: Abort, M: InRows<Alloc = &'a Heap>>(
     requires faithful_values { ValuesCloneFaithfully M.Value.is_clone M.Value.eq }
 {
     for left in 0..MANY {
-        if is_accepted::<R, M>(rt, heap, row, left)? {
+        let is_accepted = is_accepted::<R, M>(rt, heap, row, left)?;
+        assert_eq!(rt; heap.held(), 0);
+        if is_accepted {
             return Ok(left);
         }
     }
@@ -77,9 +77,6 @@ fn is_accepted<'a, R: Abort, M: InRows<Alloc = &'a Heap>>(
             try_change(rt, heap, &mut map, (row.0, call, *changed), left)
         }
         Tried::Clone => try_clone(rt, heap, &map, row.0, left),
-        Tried::Gaps(outer_range, before, behind) => {
-            try_gaps(rt, heap, &map, (outer_range, before, behind), left)
-        }
     }
 }
 
@@ -100,7 +97,8 @@ pub fn make_map<'a, M: InRows<Alloc = &'a Heap>>(
     Ok(map)
 }
 
-/// Tries a change: one that is refused leaves what was stored, and is accepted with memory.
+/// Tries a change: one that is refused leaves what was stored, in as many blocks, and is accepted
+/// with memory.
 fn try_change<'a, R: Abort, M: InRows<Alloc = &'a Heap>>(
     rt: &R,
     heap: &'a Heap,
@@ -116,8 +114,10 @@ fn try_change<'a, R: Abort, M: InRows<Alloc = &'a Heap>>(
     requires faithful_values { ValuesCloneFaithfully M.Value.is_clone M.Value.eq }
 {
     let (stored, call, changed) = change;
+    let held = heap.held();
     let is_accepted = call_with(heap, map, call, left)?.is_ok();
     if !is_accepted {
+        assert_eq!(rt; heap.held(), held);
         check_row(rt, map, stored)?;
         call_with(heap, map, call, MANY)??;
     }
@@ -169,7 +169,7 @@ fn try_clone<R: Abort, M: InRows>(
     requires faithful_values { ValuesCloneFaithfully M.Value.is_clone M.Value.eq }
 {
     heap.refuse_after(left);
-    let answer = map.copy();
+    let answer = map.clone();
     heap.refuse_after(MANY);
     let is_made = is_made(rt, answer, stored)?;
     check_row(rt, map, stored)?;
@@ -185,21 +185,6 @@ pub fn is_made<R: Abort, M: InRows>(
     match answer {
         Ok(map) => {
             check_row(rt, &map, pairs)?;
-            Ok(true)
-        }
-        Err(AllocError) => Ok(false),
-    }
-}
-
-/// Whether a map was made of three pairs of numbers. Told of one that was: the count of its pairs,
-/// and what 14 is mapped to.
-pub fn is_made_of_three<R: Abort>(
-    rt: &R,
-    told: Result<(usize, Option<u32>), AllocError>,
-) -> Answer {
-    match told {
-        Ok(told) => {
-            assert_eq!(rt; told, (3, Some(1)));
             Ok(true)
         }
         Err(AllocError) => Ok(false),

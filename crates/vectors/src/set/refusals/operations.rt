@@ -1,7 +1,7 @@
 //! Unions and intersections of sets over texts, with each request for memory refused in its turn.
 
 use super::{Ends, Names};
-use crate::trials::operations::{Operand, Row, count_refusals, try_both};
+use crate::trials::operations::{Operand, Row, count_refusals, try_row};
 use crate::trials::{Answer, Heap, MANY};
 use refusing::Refusing;
 use std::process::Abort;
@@ -16,7 +16,7 @@ impl<'a> Operand for Names<'a> {
         left: u64,
     ) -> Answer {
         let items = (sets.0.union(sets.1), sets.0.union(sets.1));
-        try_both::<R, Self, _>(rt, heap, items, row, left)
+        try_row::<R, Self, _>(rt, heap, items, row, left)
     }
 
     fn try_intersection<R: Abort>(
@@ -27,7 +27,7 @@ impl<'a> Operand for Names<'a> {
         left: u64,
     ) -> Answer {
         let items = (sets.0.intersection(sets.1), sets.0.intersection(sets.1));
-        try_both::<R, Self, _>(rt, heap, items, row, left)
+        try_row::<R, Self, _>(rt, heap, items, row, left)
     }
 }
 

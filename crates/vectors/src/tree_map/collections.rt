@@ -1,0 +1,98 @@
+//! Rows about maps in a tree that are made of pairs and of other maps, that hand their pairs over,
+//! and that are compared, hashed and written.
+
+use super::Map;
+use crate::hash::folded_made;
+use crate::order::assert_less_than;
+use crate::rows::Call::{Clear, Insert};
+use crate::rows::iterators::check_counted_back;
+use crate::rows::tables::{Changed, check_changes};
+use crate::rows::{check_made, check_row};
+use crate::text::assert_long_text;
+use rangemap::tree_map::RangeMap;
+use std::ops::Range;
+use std::process::Abort;
+use std::test::Fail;
+
+#[test]
+fn pairs_are_inserted_in_order(rt: HostRuntime) -> Result<(), Fail> {
+    let made = RangeMap::from(rt.alloc(), [(0u32..10, 'a'), (3..6, 'b')]);
+    check_made(&rt, made, &[(0..3, 'a'), (3..6, 'b'), (6..10, 'a')])
+}
+
+#[test]
+fn an_extend_keeps_what_was_there(rt: HostRuntime) -> Result<(), Fail> {
+    let mut map: Map = RangeMap::from(rt.alloc(), [(0..10, 'a')])?;
+    map.extend((1u32..3).map(|i| (10 * i..10 * i + 5, 'c')))?;
+    check_row(&rt, &map, &[(0..10, 'a'), (10..15, 'c'), (20..25, 'c')])
+}
+
+#[test]
+fn an_iterator_is_collected(rt: HostRuntime) -> Result<(), Fail> {
+    let made = RangeMap::from_iter(rt.alloc(), (0u32..3).map(|i| (0..i + 1, 'd')));
+    check_made(&rt, made, &[(0..3, 'd')])
+}
+
+#[test]
+fn a_clone_has_the_same_pairs(rt: HostRuntime) -> Result<(), Fail> {
+    let map: Map = RangeMap::from(rt.alloc(), [(0..2, 'a'), (4..6, 'b')])?;
+    check_made(&rt, map.clone(), &[(0..2, 'a'), (4..6, 'b')])
+}
+
+#[test]
+fn a_map_that_was_cleared_takes_pairs_again(rt: HostRuntime) -> Result<(), Fail> {
+    let rows: [Changed<'_, Range<u32>, char>; 1] = [(
+        &[Insert(0..10, 'a'), Clear, Insert(1..2, 'b')],
+        &[(1..2, 'b')],
+    )];
+    check_changes::<Map, _>(&rt, rt.alloc(), &rows)
+}
+
+#[test]
+fn a_map_hands_its_pairs_over_from_both_ends(rt: HostRuntime) -> Result<(), Fail> {
+    let map = RangeMap::from(rt.alloc(), [(0u32..2, 'a'), (4..6, 'b'), (8..9, 'c')])?;
+    check_counted_back(
+        &rt,
+        map.into_iter(),
+        ((0..2, 'a'), (4..6, 'b'), (8..9, 'c')),
+    );
+    Ok(())
+}
+
+#[test]
+fn maps_lie_by_their_first_difference(rt: HostRuntime) -> Result<(), Fail> {
+    let map: Map = RangeMap::from(rt.alloc(), [(0..2, 'a'), (4..6, 'b')])?;
+    check_greater(&rt, &map)
+}
+
+/// Compares a map with greater ones: one that goes on, one of fewer pairs whose first range is
+/// longer, and one with another value.
+fn check_greater<R: AllocGlobal + Abort>(rt: &R, map: &Map) -> Result<(), Fail> {
+    let alloc = rt.alloc();
+    let more = RangeMap::from(alloc, [(0..2, 'a'), (4..6, 'b'), (8..9, 'c')]);
+    assert_less_than(rt, map, more)?;
+    assert_less_than(rt, map, RangeMap::from(alloc, [(0..3, 'a')]))?;
+    assert_less_than(rt, map, RangeMap::from(alloc, [(0..2, 'a'), (4..6, 'c')]))
+}
+
+#[test]
+fn each_part_of_a_pair_is_fed(rt: HostRuntime) -> Result<(), Fail> {
+    let alloc = rt.alloc();
+    let first = folded_made(RangeMap::from(alloc, [(0u32..5, 'a')]))?;
+    let same = folded_made(RangeMap::from(alloc, [(0u32..3, 'a'), (3..5, 'a')]))?;
+    let longer = folded_made(RangeMap::from(alloc, [(0u32..6, 'a')]))?;
+    let later = folded_made(RangeMap::from(alloc, [(1u32..5, 'a')]))?;
+    let other = folded_made(RangeMap::from(alloc, [(0u32..5, 'b')]))?;
+    assert!(rt; first == same);
+    assert!(rt; first != longer && first != later && first != other);
+    Ok(())
+}
+
+#[test]
+fn the_long_form_gives_each_pair_a_line(rt: HostRuntime) -> Result<(), Fail> {
+    assert_long_text(
+        &rt,
+        RangeMap::from(rt.alloc(), [(0u32..100, 'a'), (200..300, 'g')]),
+        "{\n    0..100: 'a',\n    200..300: 'g',\n}",
+    )
+}
