@@ -1,4 +1,5 @@
-//! Makes a library of the Rust crate, from the folder that `RANGEMAP_RUST` names, and links it and the proved library.
+//! Makes a library of the Rust crate, from the folder that `RANGEMAP_RUST` names, and links it and
+//! the proved library.
 
 use std::env;
 use std::path::{Path, PathBuf};
@@ -27,7 +28,8 @@ fn link_static(name: &str, library: &Path) {
     println!("cargo:rustc-link-lib=static={name}");
 }
 
-// By the compiler alone: Cargo would ask a registry for what the crate only needs with features that are off.
+// By the compiler alone: Cargo would ask a registry for what the crate only needs with features
+// that are off.
 fn make_rust_crate(folder: &Path) {
     let root = folder.join("src/lib.rs");
     let out = env::var("OUT_DIR").expect("Cargo sets OUT_DIR");

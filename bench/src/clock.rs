@@ -1,4 +1,5 @@
-//! The time that this thread has had of a processor, which other programs on the machine don't lengthen.
+//! The time that this thread has had of a processor, which other programs on the machine don't
+//! lengthen.
 
 #[repr(C)]
 struct Timespec {
@@ -23,7 +24,8 @@ pub fn processor_time() -> f64 {
         seconds: 0,
         nanoseconds: 0,
     };
-    // SAFETY: the call writes to the one struct that it is lent, whose layout is that of 64-bit Linux.
+    // SAFETY: the call writes to the one struct that it is lent, whose layout is that of 64-bit
+    // Linux.
     let status = unsafe { clock_gettime(THREAD_PROCESSOR_TIME, &mut time) };
     assert_eq!(status, 0, "the clock of the thread's processor time");
     time.seconds as f64 + time.nanoseconds as f64 * 1e-9

@@ -1,5 +1,11 @@
 //! The inputs, which both sides get.
 
+/// What one call gets.
+pub struct Input {
+    pub entries: Vec<Entry>,
+    pub queries: Vec<Query>,
+}
+
 /// The keys from `start` up to, and without, `end`, and their value.
 #[repr(C)]
 #[derive(Clone, Copy)]
@@ -23,7 +29,10 @@ const SPACING: u64 = 100;
 
 /// `count` ranges in order, which don't touch and cover about half of the keys.
 pub fn in_order(count: usize) -> Vec<Entry> {
-    let mut random = Random(count as u64);
+    in_order_by(count, Random(count as u64))
+}
+
+fn in_order_by(count: usize, mut random: Random) -> Vec<Entry> {
     let entry = |at: u64| {
         let start = at * SPACING;
         let end = start + 1 + random.below(SPACING - 1);
@@ -47,8 +56,8 @@ pub fn shuffled(count: usize, seed: u64) -> Vec<Entry> {
     entries
 }
 
-/// `2 * count` ranges with few values, in a random order over so few keys that about `count` stand in the end; others for
-/// each seed.
+/// `2 * count` ranges with few values, in a random order over so few keys that about `count` stand
+/// in the end; others for each seed.
 pub fn overlapping(count: usize, seed: u64) -> Vec<Entry> {
     let mut random = Random(count as u64 ^ 4242 ^ (seed << 32));
     let length = 1000;
@@ -86,6 +95,20 @@ pub fn wide_queries(count: usize, number: usize) -> Vec<Query> {
         end: query.start + 10 * SPACING,
     };
     queries(count, number, 1).into_iter().map(wide).collect()
+}
+
+/// Two sets of `count` ranges in order, others for each seed. A range of the second one begins
+/// half a spacing behind one of the first, and about one in two overlaps it, or the next.
+pub fn two_sets(count: usize, seed: u64) -> Input {
+    let ranges = |side: u64| in_order_by(count, Random(count as u64 ^ side ^ (seed << 32)));
+    let behind = |entry: Entry| Query {
+        start: entry.start + SPACING / 2,
+        end: entry.end + SPACING / 2,
+    };
+    Input {
+        entries: ranges(1_001),
+        queries: ranges(2_002).into_iter().map(behind).collect(),
+    }
 }
 
 // SplitMix64.

@@ -1,21 +1,28 @@
 //! Times the proved library beside the Rust crate, and prints tables in Markdown.
 //!
-//! Each answer of one side is compared with the other's, and a difference ends the run with an error.
+//! Each answer of one side is compared with the other's, and a difference ends the run with an
+//! error.
 
 // By name, since Cargo doesn't know of it: build.rs makes it.
 extern crate rangemap;
 
+mod agreement;
 mod clock;
+mod containers;
 mod input;
 mod measure;
+mod picture;
 mod rattle_side;
 mod rust_side;
+mod saved;
 mod side;
+mod table;
 mod workloads;
 
-use measure::Measured;
-use side::Side;
-use workloads::{Workload, WORKLOADS};
+use containers::Container;
+use std::fs;
+use table::{print_ratios, print_times, row};
+use workloads::CHANGES;
 
 const SIZES: [usize; 5] = [10, 100, 1_000, 10_000, 100_000];
 
@@ -23,105 +30,72 @@ const SIZES: [usize; 5] = [10, 100, 1_000, 10_000, 100_000];
 const CROSSING: [usize; 6] = [500, 1_000, 2_000, 3_000, 4_000, 6_000];
 
 fn main() {
-    let mut words = std::env::args().skip(1);
-    let only = words.next().unwrap_or_default();
-    let greatest = words.next().map_or(usize::MAX, |word| {
-        word.parse().expect("the second word is a size")
-    });
-    let wanted: Vec<&Workload> = WORKLOADS
-        .iter()
-        .filter(|workload| workload.name.contains(&only))
-        .collect();
-    let sizes: Vec<usize> = SIZES.into_iter().filter(|size| *size <= greatest).collect();
-    for (map, rust, rattle) in [
-        ("RangeMap", &rust_side::HALF_OPEN, &rattle_side::HALF_OPEN),
-        ("RangeInclusiveMap", &rust_side::CLOSED, &rattle_side::CLOSED),
+    let words: Vec<String> = std::env::args().skip(1).collect();
+    let words: Vec<&str> = words.iter().map(String::as_str).collect();
+    match words[..] {
+        ["--compare", first, second] => {
+            agreement::print_differences(&saved_tables(first), &saved_tables(second));
+        }
+        ["--draw", tables, picture] => {
+            let drawn = picture::drawn(&saved_tables(tables));
+            fs::write(picture, drawn).unwrap_or_else(|error| panic!("{picture}: {error}"));
+        }
+        [] => {
+            measure("", &SIZES);
+            crossing();
+        }
+        [word] => measure(word, &SIZES),
+        [word, size] => {
+            let greatest: usize = size.parse().expect("the second word is a size");
+            let sizes: Vec<usize> = SIZES.into_iter().filter(|size| *size <= greatest).collect();
+            measure(word, &sizes);
+        }
+        _ => panic!("[WORD [SIZE]], --compare TABLES TABLES or --draw TABLES PICTURE"),
+    }
+}
+
+fn saved_tables(path: &str) -> Vec<saved::Table> {
+    let text = fs::read_to_string(path).unwrap_or_else(|error| panic!("{path}: {error}"));
+    saved::tables(&text)
+}
+
+// The workloads whose names have the word.
+fn measure(word: &str, sizes: &[usize]) {
+    for map in [
+        containers::HALF_OPEN,
+        containers::CLOSED,
+        containers::TREE,
+        containers::TEXTS,
     ] {
-        tables(map, rust, rattle, &wanted, &sizes);
+        print_tables(&map, word, sizes);
     }
-    if only.is_empty() {
-        crossing(&rust_side::HALF_OPEN, &rattle_side::HALF_OPEN);
+    for set in [containers::SET, containers::CLOSED_SET] {
+        print_tables(&set, word, sizes);
     }
 }
 
-type Row<'a> = (&'a Workload, Vec<Measured>);
-
-fn tables(map: &str, rust: &Side, rattle: &Side, workloads: &[&Workload], sizes: &[usize]) {
-    let rows = rows(rust, rattle, workloads, sizes);
-    println!("\n### `{map}`\n");
-    table("Ratio of the times", sizes, &rows, ratio);
-    println!();
-    table(
-        "Nanoseconds: Rust crate / this library",
-        sizes,
-        &rows,
-        times,
-    );
-}
-
-fn crossing(rust: &Side, rattle: &Side) {
-    let changes: Vec<&Workload> = WORKLOADS
+fn print_tables<S>(container: &Container<S>, word: &str, sizes: &[usize]) {
+    let rows: Vec<table::Row> = container
+        .workloads
         .iter()
-        .filter(|workload| workload.name.contains("random"))
+        .filter(|workload| workload.name.contains(word))
+        .map(|workload| row(container, workload, sizes))
         .collect();
-    println!("\n### Where changes at random places cross\n");
-    table(
-        "Ratio of the times",
-        &CROSSING,
-        &rows(rust, rattle, &changes, &CROSSING),
-        ratio,
-    );
+    if !rows.is_empty() {
+        println!("\n### `{}`\n", container.name);
+        print_ratios(sizes, &rows);
+        println!();
+        print_times(sizes, &rows);
+    }
 }
 
-fn rows<'a>(
-    rust: &Side,
-    rattle: &Side,
-    workloads: &[&'a Workload],
-    sizes: &[usize],
-) -> Vec<Row<'a>> {
+fn crossing() {
     let mut rows = vec![];
-    for &workload in workloads {
-        eprintln!("{}", workload.name);
-        let measured = sizes
-            .iter()
-            .map(|&size| (workload.case)(size).measure(rust, rattle));
-        rows.push((workload, measured.collect()));
+    for workload in CHANGES {
+        for container in [containers::HALF_OPEN, containers::TREE] {
+            rows.push(row(&container, workload, &CROSSING).named_with(container.name));
+        }
     }
-    rows
-}
-
-fn table(
-    title: &str,
-    sizes: &[usize],
-    rows: &[Row],
-    cell: fn(&Workload, usize, &Measured) -> String,
-) {
-    let heads: Vec<String> = sizes.iter().map(ToString::to_string).collect();
-    println!("| {title} | {} |", heads.join(" | "));
-    println!("|---|{}", "---|".repeat(sizes.len()));
-    for (workload, measured) in rows {
-        let cells: Vec<String> = sizes
-            .iter()
-            .zip(measured)
-            .map(|(&size, times)| cell(workload, size, times))
-            .collect();
-        println!("| {} | {} |", workload.name, cells.join(" | "));
-    }
-}
-
-// Bold where it misses its target.
-fn ratio(workload: &Workload, size: usize, measured: &Measured) -> String {
-    let Measured {
-        ratio,
-        first_quartile,
-        last_quartile,
-        ..
-    } = measured;
-    let misses = (workload.target)(size).is_some_and(|target| target < *ratio);
-    let mark = if misses { "**" } else { "" };
-    format!("{mark}{ratio:.2}{mark} ({first_quartile:.2} to {last_quartile:.2})")
-}
-
-fn times(_: &Workload, _: usize, measured: &Measured) -> String {
-    format!("{:.3} / {:.3}", measured.rust, measured.rattle)
+    println!("\n### Where changes at random places cross\n");
+    print_ratios(&CROSSING, &rows);
 }

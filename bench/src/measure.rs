@@ -1,24 +1,33 @@
 //! Both sides timed in turns on the same input.
 
 use crate::clock::processor_time;
-use crate::input::{Entry, Query};
-use crate::side::{Run, Side};
+use crate::input::Input;
+use crate::side::Run;
 use std::hint::black_box;
 use std::time::{Duration, Instant};
 
 /// What one side does in one cell of the table.
 pub struct Case {
-    pub run: fn(&Side) -> Run,
-    /// Lists that a round goes through in turn: more than one where a list is so short that the processor would learn by
-    /// heart how its searches turn out.
-    pub lists: Vec<Vec<Entry>>,
-    pub queries: Vec<Query>,
+    /// What a round goes through in turn: more than one where a list is so short that the processor
+    /// would learn by heart how its searches turn out.
+    pub inputs: Vec<Input>,
+    /// How often a round does its work on an input before the next, where there are many.
+    pub turns: u32,
     /// How many operations a round has.
     pub operations: usize,
+    pub base: Base,
 }
 
-/// Nanoseconds of processor time an operation, and the ratio of the two times: each the middle of all samples, the ratio with
-/// its quartiles.
+/// The call whose time is subtracted, as no part of the work.
+pub enum Base {
+    /// One without rounds: it makes the containers.
+    NoRounds,
+    /// One without queries: it also does what a round does beside them.
+    NoQueries,
+}
+
+/// Nanoseconds of processor time an operation, and the ratio of the two times: each the middle of
+/// all samples, the ratio with its quartiles.
 pub struct Measured {
     pub rust: f64,
     pub rattle: f64,
@@ -27,37 +36,34 @@ pub struct Measured {
     pub last_quartile: f64,
 }
 
-/// How long a sample is to take at least, in seconds, and how many times what is subtracted from it.
+/// How long a sample is to take at least, in seconds, and how many times what is subtracted.
 const SAMPLE: f64 = 0.006;
 const SHARE: f64 = 10.0;
 
-/// How long a case may take, and the least and the most samples.
+/// After how long a case has enough samples where it has five, and where it has three.
 const CASE: Duration = Duration::from_millis(900);
-const SAMPLES: (usize, usize) = (5, 41);
+const SLOW_CASE: Duration = Duration::from_secs(4);
+const MOST_SAMPLES: usize = 41;
+
+/// After how long a time that is to be the shortest of three is not taken again.
+const SLOW_CALL: Duration = Duration::from_millis(200);
 
 impl Case {
-    /// Stops where the two sides' maps or any two answers differ.
-    pub fn measure(&self, rust: &Side, rattle: &Side) -> Measured {
-        for list in &self.lists {
-            let contents = [rust.contents, rattle.contents].map(|run| run(list, &[], 1));
-            assert_eq!(
-                contents[0], contents[1],
-                "the two maps of the same entries differ"
-            );
-        }
-        let runs = [(self.run)(rust), (self.run)(rattle)];
-        let rounds = runs.map(|run| self.rounds(run)).into_iter().max().unwrap_or(1);
+    /// Times the first side beside the second. Stops where what they contain, or any two answers,
+    /// differ.
+    pub fn measure(&self, contents: [Run; 2], runs: [Run; 2]) -> Measured {
+        self.compare_contents(contents);
+        let rounds = runs.map(|run| self.rounds(run));
+        let rounds = rounds[0].max(rounds[1]);
         let bases = runs.map(|run| self.base(run, rounds));
         let mut times = [vec![], vec![]];
         let begun = Instant::now();
-        while times[0].len() < SAMPLES.0 || (begun.elapsed() < CASE && times[0].len() < SAMPLES.1) {
+        while !is_enough(times[0].len(), begun.elapsed()) {
             let first = times[0].len() % 2;
             let mut answers = [0, 0];
             for side in [first, 1 - first] {
                 let (time, answer) = timed(|| self.work(runs[side], rounds));
-                times[side].push(
-                    (time - bases[side]) * 1e9 / (self.operations as f64 * f64::from(rounds)),
-                );
+                times[side].push((time - bases[side]) * 1e9 / self.all_operations(rounds));
                 answers[side] = answer;
             }
             assert_eq!(answers[0], answers[1], "the two sides answer differently");
@@ -65,18 +71,31 @@ impl Case {
         summary(times)
     }
 
-    // A call for each list where there are more than one, so that they come in turn.
+    fn compare_contents(&self, contents: [Run; 2]) {
+        for input in &self.inputs {
+            let [rust, rattle] = contents.map(|run| run(&input.entries, &[], 1));
+            assert_eq!(rust, rattle, "the containers of the same entries differ");
+        }
+    }
+
+    fn all_operations(&self, rounds: u32) -> f64 {
+        self.operations as f64 * f64::from(rounds)
+    }
+
+    // A call for each input where there are more than one, so that they come in turn.
     fn work(&self, run: Run, rounds: u32) -> u64 {
-        if let [list] = &self.lists[..] {
-            return run(list, &self.queries, rounds);
+        if let [input] = &self.inputs[..] {
+            return run(&input.entries, &input.queries, rounds);
         }
-        let mut answers = 0;
-        for _ in 0..rounds {
-            for list in &self.lists {
-                answers = run(list, &self.queries, 1).wrapping_add(u64::wrapping_mul(answers, 31));
-            }
-        }
-        answers
+        (0..rounds).fold(0, |answers, _| self.pass(run, self.turns, answers))
+    }
+
+    // Each input once, with so many turns.
+    fn pass(&self, run: Run, turns: u32, before: u64) -> u64 {
+        self.inputs.iter().fold(before, |answers, input| {
+            let answer = run(&input.entries, &input.queries, turns);
+            answer.wrapping_add(answers.wrapping_mul(31))
+        })
     }
 
     // So many that a sample is long enough, and what is subtracted a small part of it.
@@ -84,16 +103,25 @@ impl Case {
         let base = self.base(run, 1);
         let whole = shortest(|| self.work(run, 1));
         let round = (whole - base).max(whole / 20.0);
-        (SAMPLE.max(SHARE * base) / round).clamp(1.0, 1e6) as u32
+        let share = if self.inputs.len() == 1 { SHARE } else { 0.0 };
+        (SAMPLE.max(share * base) / round).clamp(1.0, 1e6) as u32
     }
 
-    // The time of what is no part of the work: making the map, and what a round does without queries.
+    // The time of what is no part of the work.
     fn base(&self, run: Run, rounds: u32) -> f64 {
-        let rounds = if self.queries.is_empty() { 0 } else { rounds };
-        match &self.lists[..] {
-            [list] => shortest(|| run(list, &[], rounds)),
-            _ => 0.0,
+        match (&self.base, &self.inputs[..]) {
+            (Base::NoRounds, [input]) => shortest(|| run(&input.entries, &input.queries, 0)),
+            (Base::NoQueries, [input]) => shortest(|| run(&input.entries, &[], rounds)),
+            _ => shortest(|| self.pass(run, 0, 0)) * f64::from(rounds),
         }
+    }
+}
+
+fn is_enough(samples: usize, time: Duration) -> bool {
+    match samples {
+        0..=2 => false,
+        3..=4 => time > SLOW_CASE,
+        _ => time > CASE || samples >= MOST_SAMPLES,
     }
 }
 
@@ -104,7 +132,14 @@ fn timed(run: impl Fn() -> u64) -> (f64, u64) {
 }
 
 fn shortest(run: impl Fn() -> u64) -> f64 {
-    (0..3).map(|_| timed(&run).0).fold(f64::INFINITY, f64::min)
+    let begun = Instant::now();
+    let mut shortest = timed(&run).0;
+    for _ in 0..2 {
+        if begun.elapsed() < SLOW_CALL {
+            shortest = shortest.min(timed(&run).0);
+        }
+    }
+    shortest
 }
 
 fn summary(times: [Vec<f64>; 2]) -> Measured {

@@ -1,14 +1,15 @@
 //! The proved library's side.
 
-use crate::side::Side;
+use crate::side::{MapSide, SetSide};
 
-// A function of `crates/bench_map/src/exports.rt`. A slice is a pointer and a length there.
+// A function of `crates/bench_map/src/exports.rt`, over the container that `containers.rt` gives
+// the number. A slice is a pointer and a length there.
 macro_rules! run {
-    ($is_closed:literal, $export:ident) => {
+    ($container:literal, $export:ident) => {
         |entries, queries, rounds| {
             extern "C" {
                 fn $export(
-                    is_closed: bool,
+                    container: u32,
                     entries: *const crate::input::Entry,
                     entry_count: usize,
                     queries: *const crate::input::Query,
@@ -19,7 +20,7 @@ macro_rules! run {
             // SAFETY: the export reads the two slices, and asks nothing else of its caller.
             unsafe {
                 $export(
-                    $is_closed,
+                    $container,
                     entries.as_ptr(),
                     entries.len(),
                     queries.as_ptr(),
@@ -31,22 +32,43 @@ macro_rules! run {
     };
 }
 
-macro_rules! side {
-    ($is_closed:literal) => {
-        Side {
-            contents: run!($is_closed, bench_contents),
-            inserts: run!($is_closed, bench_inserts),
-            lookups: run!($is_closed, bench_lookups),
-            iterations: run!($is_closed, bench_iterations),
-            removals: run!($is_closed, bench_removals),
-            overlaps: run!($is_closed, bench_overlaps),
-            gaps: run!($is_closed, bench_gaps),
-            clones: run!($is_closed, bench_clones),
-            comparisons: run!($is_closed, bench_comparisons),
+macro_rules! map_side {
+    ($container:literal) => {
+        MapSide {
+            contents: run!($container, bench_contents),
+            inserts: run!($container, bench_inserts),
+            lookups: run!($container, bench_lookups),
+            iterations: run!($container, bench_iterations),
+            removals: run!($container, bench_removals),
+            overlaps: run!($container, bench_overlaps),
+            gaps: run!($container, bench_gaps),
+            clones: run!($container, bench_clones),
+            comparisons: run!($container, bench_comparisons),
         }
     };
 }
 
-pub const HALF_OPEN: Side = side!(false);
+macro_rules! set_side {
+    ($container:literal) => {
+        SetSide {
+            contents: run!($container, bench_contents),
+            unions: run!($container, bench_unions),
+            intersections: run!($container, bench_intersections),
+            joined_sets: run!($container, bench_joined_sets),
+            common_sets: run!($container, bench_common_sets),
+            members: run!($container, bench_members),
+        }
+    };
+}
 
-pub const CLOSED: Side = side!(true);
+pub const HALF_OPEN: MapSide = map_side!(0);
+
+pub const CLOSED: MapSide = map_side!(1);
+
+pub const TREE: MapSide = map_side!(2);
+
+pub const TEXTS: MapSide = map_side!(3);
+
+pub const SET: SetSide = set_side!(4);
+
+pub const CLOSED_SET: SetSide = set_side!(5);

@@ -2,11 +2,12 @@
 
 use crate::input::{Entry, Query};
 
-/// Makes a map of the entries, does its work as often as the number says, and answers a digest of what the map answered.
+/// Makes a container of the entries, does its work as often as the number says, and answers a
+/// digest of what the container answered.
 pub type Run = fn(&[Entry], &[Query], u32) -> u64;
 
-/// One side's workloads over one kind of range.
-pub struct Side {
+/// One side's workloads over a map.
+pub struct MapSide {
     pub contents: Run,
     pub inserts: Run,
     pub lookups: Run,
@@ -16,4 +17,14 @@ pub struct Side {
     pub gaps: Run,
     pub clones: Run,
     pub comparisons: Run,
+}
+
+/// One side's workloads over a set. The queries are the ranges of a second set, but for `members`.
+pub struct SetSide {
+    pub contents: Run,
+    pub unions: Run,
+    pub intersections: Run,
+    pub joined_sets: Run,
+    pub common_sets: Run,
+    pub members: Run,
 }

@@ -1,141 +1,224 @@
-//! What is timed, and the ratios that are wanted.
+//! What is timed.
 
-use crate::input::{in_order, overlapping, queries, shuffled, wide_queries, Entry, Query};
-use crate::measure::Case;
-use crate::side::{Run, Side};
+use crate::input::{
+    in_order, overlapping, queries, shuffled, two_sets, wide_queries, Entry, Input, Query,
+};
+use crate::measure::{Base, Case};
+use crate::side::{MapSide, Run, SetSide};
 
-pub struct Workload {
+/// A workload over the containers of a side `S`.
+pub struct Workload<S> {
     pub name: &'static str,
+    pub kind: Kind,
+    pub run: fn(&S) -> Run,
     pub case: fn(usize) -> Case,
-    /// The greatest ratio that is wanted at a size.
-    pub target: fn(usize) -> Option<f64>,
 }
 
-pub const WORKLOADS: [Workload; 10] = [
+/// What the targets tell apart.
+#[derive(Clone, Copy, PartialEq)]
+pub enum Kind {
+    /// Lookups, queries, whole maps, two whole sets, and inserts at the end.
+    Steady,
+    /// Changes at random places.
+    RandomChanges,
+}
+
+const APPENDS: Workload<MapSide> = Workload {
+    name: "append in order",
+    kind: Kind::Steady,
+    run: |side| side.inserts,
+    case: whole,
+};
+
+const DISJOINT_INSERTS: Workload<MapSide> = Workload {
+    name: "random disjoint inserts",
+    kind: Kind::RandomChanges,
+    run: |side| side.inserts,
+    case: |size| unasked(many(size, shuffled)),
+};
+
+const OVERLAPPING_INSERTS: Workload<MapSide> = Workload {
+    name: "random overlapping inserts",
+    kind: Kind::RandomChanges,
+    run: |side| side.inserts,
+    case: |size| unasked(many(size, overlapping)),
+};
+
+const LOOKUPS: Workload<MapSide> = Workload {
+    name: "lookups, half of them misses",
+    kind: Kind::Steady,
+    run: |side| side.lookups,
+    case: key_by_key,
+};
+
+const ITERATION: Workload<MapSide> = Workload {
+    name: "iteration",
+    kind: Kind::Steady,
+    run: |side| side.iterations,
+    case: whole,
+};
+
+const REMOVALS: Workload<MapSide> = Workload {
+    name: "`remove` of random ranges",
+    kind: Kind::RandomChanges,
+    run: |side| side.removals,
+    case: |size| asked(size, queries(size, size / 2, 200)),
+};
+
+const OVERLAPS: Workload<MapSide> = Workload {
+    name: "`overlapping`, ten ranges a query",
+    kind: Kind::Steady,
+    run: |side| side.overlaps,
+    case: ten_by_ten,
+};
+
+const GAPS: Workload<MapSide> = Workload {
+    name: "`gaps`, ten ranges a query",
+    kind: Kind::Steady,
+    run: |side| side.gaps,
+    case: ten_by_ten,
+};
+
+const CLONES: Workload<MapSide> = Workload {
+    name: "`clone`",
+    kind: Kind::Steady,
+    run: |side| side.clones,
+    case: whole,
+};
+
+const COMPARISONS: Workload<MapSide> = Workload {
+    name: "`==`",
+    kind: Kind::Steady,
+    run: |side| side.comparisons,
+    case: whole,
+};
+
+/// Those over every map to numbers.
+pub const OVER_MAPS: &[Workload<MapSide>] = &[
+    APPENDS,
+    DISJOINT_INSERTS,
+    OVERLAPPING_INSERTS,
+    LOOKUPS,
+    ITERATION,
+    REMOVALS,
+    OVERLAPS,
+    GAPS,
+    CLONES,
+    COMPARISONS,
+];
+
+/// Those over a map to texts, where values cost most.
+pub const OVER_TEXTS: &[Workload<MapSide>] = &[
+    APPENDS,
+    DISJOINT_INSERTS,
+    OVERLAPPING_INSERTS,
+    LOOKUPS,
+    REMOVALS,
+    CLONES,
+    COMPARISONS,
+];
+
+/// Those that change a map at random places.
+pub const CHANGES: &[Workload<MapSide>] = &[DISJOINT_INSERTS, OVERLAPPING_INSERTS, REMOVALS];
+
+/// Those over sets.
+pub const OVER_SETS: &[Workload<SetSide>] = &[
     Workload {
-        name: "append in order",
-        case: appends,
-        target: everywhere,
+        name: "`union` to its end",
+        kind: Kind::Steady,
+        run: |side| side.unions,
+        case: over_two,
     },
     Workload {
-        name: "random disjoint inserts",
-        case: disjoint_inserts,
-        target: up_to_a_thousand,
+        name: "`intersection` to its end",
+        kind: Kind::Steady,
+        run: |side| side.intersections,
+        case: over_two,
     },
     Workload {
-        name: "random overlapping inserts",
-        case: overlapping_inserts,
-        target: up_to_a_thousand,
+        name: "`bitor`",
+        kind: Kind::Steady,
+        run: |side| side.joined_sets,
+        case: over_two,
     },
     Workload {
-        name: "lookups, half of them misses",
-        case: lookups,
-        target: |size| at_first(0.6, size),
+        name: "`bitand`",
+        kind: Kind::Steady,
+        run: |side| side.common_sets,
+        case: over_two,
     },
     Workload {
-        name: "iteration",
-        case: iterations,
-        target: |size| at_first(0.35, size),
-    },
-    Workload {
-        name: "`remove` of random ranges",
-        case: removals,
-        target: up_to_a_thousand,
-    },
-    Workload {
-        name: "`overlapping`, ten ranges a query",
-        case: overlaps,
-        target: everywhere,
-    },
-    Workload {
-        name: "`gaps`, ten ranges a query",
-        case: gaps,
-        target: everywhere,
-    },
-    Workload {
-        name: "`clone`",
-        case: clones,
-        target: everywhere,
-    },
-    Workload {
-        name: "`==`",
-        case: comparisons,
-        target: everywhere,
+        name: "`contains`, half of them misses",
+        kind: Kind::Steady,
+        run: |side| side.members,
+        case: key_by_key,
     },
 ];
 
-fn everywhere(_: usize) -> Option<f64> {
-    Some(1.0)
+// How often a round goes over one pair of sets before the next.
+const TURNS: u32 = 16;
+
+// As many lists of the size as make some thousands of entries.
+fn list_count(size: usize) -> u64 {
+    (4_000 / size).max(1) as u64
 }
 
-fn up_to_a_thousand(size: usize) -> Option<f64> {
-    (size <= 1_000).then_some(1.0)
-}
-
-fn at_first(target: f64, size: usize) -> Option<f64> {
-    Some(if size <= 10_000 { target } else { 1.0 })
-}
-
-fn appends(size: usize) -> Case {
-    unasked(|side| side.inserts, vec![in_order(size)])
-}
-
-fn disjoint_inserts(size: usize) -> Case {
-    unasked(|side| side.inserts, many(size, shuffled))
-}
-
-fn overlapping_inserts(size: usize) -> Case {
-    unasked(|side| side.inserts, many(size, overlapping))
-}
-
-// Lists of the size, each of another seed: as many as make some thousands of entries.
+// Lists of the size, each of another seed.
 fn many(size: usize, list: fn(usize, u64) -> Vec<Entry>) -> Vec<Vec<Entry>> {
-    let count = (4_000 / size).max(1) as u64;
-    (0..count).map(|seed| list(size, seed)).collect()
+    (0..list_count(size)).map(|seed| list(size, seed)).collect()
 }
 
-fn lookups(size: usize) -> Case {
-    asked(size, |side| side.lookups, queries(size, 65_536, 1))
+// The ranges in order, and nothing asked of them.
+fn whole(size: usize) -> Case {
+    unasked(vec![in_order(size)])
 }
 
-fn iterations(size: usize) -> Case {
-    unasked(|side| side.iterations, vec![in_order(size)])
+// Keys at random places, half of which no range has.
+fn key_by_key(size: usize) -> Case {
+    asked(size, queries(size, 65_536, 1))
 }
 
-fn removals(size: usize) -> Case {
-    asked(size, |side| side.removals, queries(size, size / 2, 200))
+// Queries that each meet about ten ranges.
+fn ten_by_ten(size: usize) -> Case {
+    asked(size, wide_queries(size, 16_384))
 }
 
-fn overlaps(size: usize) -> Case {
-    asked(size, |side| side.overlaps, wide_queries(size, 16_384))
-}
-
-fn gaps(size: usize) -> Case {
-    asked(size, |side| side.gaps, wide_queries(size, 16_384))
-}
-
-fn clones(size: usize) -> Case {
-    unasked(|side| side.clones, vec![in_order(size)])
-}
-
-fn comparisons(size: usize) -> Case {
-    unasked(|side| side.comparisons, vec![in_order(size)])
-}
-
-fn asked(size: usize, run: fn(&Side) -> Run, queries: Vec<Query>) -> Case {
+fn asked(size: usize, queries: Vec<Query>) -> Case {
     Case {
-        run,
-        lists: vec![in_order(size)],
         operations: queries.len(),
-        queries,
+        inputs: vec![Input {
+            entries: in_order(size),
+            queries,
+        }],
+        turns: 1,
+        base: Base::NoQueries,
     }
 }
 
-fn unasked(run: fn(&Side) -> Run, lists: Vec<Vec<Entry>>) -> Case {
-    Case {
-        run,
-        operations: lists.iter().map(Vec::len).sum(),
-        lists,
+fn unasked(lists: Vec<Vec<Entry>>) -> Case {
+    let input = |entries: Vec<Entry>| Input {
+        entries,
         queries: vec![],
+    };
+    Case {
+        operations: lists.iter().map(Vec::len).sum(),
+        inputs: lists.into_iter().map(input).collect(),
+        turns: 1,
+        base: Base::NoRounds,
+    }
+}
+
+// An operation is a range of one of the two sets. Each pair of sets has some turns before the next,
+// so that making them, which is subtracted, doesn't take most of the time.
+fn over_two(size: usize) -> Case {
+    let inputs: Vec<Input> = (0..list_count(size))
+        .map(|seed| two_sets(size, seed))
+        .collect();
+    let turns = if inputs.len() == 1 { 1 } else { TURNS };
+    Case {
+        operations: 2 * size * inputs.len() * turns as usize,
+        inputs,
+        turns,
+        base: Base::NoRounds,
     }
 }

@@ -1,6 +1,7 @@
 //! Numbers that tell what a map answers from other answers.
 ghost use Rattle.std.specs.Prelude.{◌<◌};
 
+use crate::value::Stored;
 use rangemap::ranged_map::{ReadsGaps, ReadsPairs};
 use std::alloc::AllocError;
 use std::ops::{Range, RangeInclusive};
@@ -66,8 +67,8 @@ impl Keys for RangeInclusive<u64> {
 
 /// A number that tells the range and the value from others.
 #[inline(always)]
-fn of_pair<R: Keys>(range: &R, value: u32) -> u64 {
-    of_range(range).wrapping_add(u64::from(value))
+fn of_pair<R: Keys, V: Stored>(range: &R, value: &V) -> u64 {
+    of_range(range).wrapping_add(value.number())
 }
 
 /// A number that tells the range from others.
@@ -92,10 +93,10 @@ pub struct Mix {
     pub mix: u64,
 }
 
-impl<R: Keys> ReadsPairs<R, u32> for Mix {
+impl<R: Keys, V: Stored> ReadsPairs<R, V> for Mix {
     #[inline(always)]
-    fn pair(&mut self, range: &R, value: &u32) -> Result<(), AllocError> {
-        self.mix ^= of_pair(range, *value);
+    fn pair(&mut self, range: &R, value: &V) -> Result<(), AllocError> {
+        self.mix ^= of_pair(range, value);
         Ok(())
     }
 }
@@ -115,10 +116,10 @@ pub struct Digest {
     pub digest: u64,
 }
 
-impl<R: Keys> ReadsPairs<R, u32> for Digest {
+impl<R: Keys, V: Stored> ReadsPairs<R, V> for Digest {
     #[inline(always)]
-    fn pair(&mut self, range: &R, value: &u32) -> Result<(), AllocError> {
-        self.digest = followed_by(self.digest, of_pair(range, *value));
+    fn pair(&mut self, range: &R, value: &V) -> Result<(), AllocError> {
+        self.digest = followed_by(self.digest, of_pair(range, value));
         Ok(())
     }
 }

@@ -1,17 +1,70 @@
-//! The workloads, over any map.
+//! The workloads, over any map; `sets` has those over sets alone.
+//!
+//! None is inlined, so that what is timed is compiled by itself and not as a part of `run`.
 
 use crate::digest::{Digest, Keys, Mix, followed_by};
 use crate::input::{Entry, Query};
 use crate::store::Store;
+use crate::value::Stored;
 use std::alloc::{AllocError, Global};
 
-/// The map of the entries, inserted in their order. Entries without keys are passed over.
+pub mod sets;
+
+/// What is done with a map. Each is the function of its name.
+#[derive(Clone, Copy)]
+pub enum Workload {
+    Contents,
+    Inserts,
+    Lookups,
+    Iterations,
+    Removals,
+    Overlaps,
+    Gaps,
+    Clones,
+    Comparisons,
+}
+
+/// What a workload answers over a map.
+pub fn run<S: Store>(
+    workload: Workload,
+    alloc: Global,
+    entries: &[Entry],
+    queries: &[Query],
+    rounds: u32,
+) -> Result<u64, AllocError> {
+    match workload {
+        Workload::Contents => contents::<S>(alloc, entries, rounds),
+        Workload::Inserts => inserts::<S>(alloc, entries, rounds),
+        Workload::Lookups => lookups::<S>(alloc, entries, queries, rounds),
+        Workload::Iterations => iterations::<S>(alloc, entries, rounds),
+        Workload::Removals => removals::<S>(alloc, entries, queries, rounds),
+        Workload::Overlaps => overlaps::<S>(alloc, entries, queries, rounds),
+        Workload::Gaps => gaps::<S>(alloc, entries, queries, rounds),
+        Workload::Clones => clones::<S>(alloc, entries, rounds),
+        Workload::Comparisons => comparisons::<S>(alloc, entries, rounds),
+    }
+}
+
+// Gives the keys from `start` up to `end` the value of the number. Passes over what has no keys.
+fn put<S: Store>(
+    map: &mut S,
+    alloc: Global,
+    start: u64,
+    end: u64,
+    number: u32,
+) -> Result<(), AllocError> {
+    if start < end {
+        let value = S::Value::made_of(alloc, number)?;
+        map.insert(S::Range::up_to(start, end), value)?;
+    }
+    Ok(())
+}
+
+// The map of the entries, inserted in their order.
 fn filled<S: Store>(alloc: Global, entries: &[Entry]) -> Result<S, AllocError> {
     let mut map = S::empty(alloc);
     for entry in entries {
-        if entry.start < entry.end {
-            map.insert(S::Range::up_to(entry.start, entry.end), entry.value)?;
-        }
+        put(&mut map, alloc, entry.start, entry.end, entry.value)?;
     }
     Ok(map)
 }
@@ -24,6 +77,7 @@ fn digest_of<S: Store>(map: &S) -> Result<u64, AllocError> {
 }
 
 /// The digest of all pairs, in each round.
+#[inline(never)]
 pub fn contents<S: Store>(
     alloc: Global,
     entries: &[Entry],
@@ -38,6 +92,7 @@ pub fn contents<S: Store>(
 }
 
 /// In each round a new map, and its number of pairs.
+#[inline(never)]
 pub fn inserts<S: Store>(alloc: Global, entries: &[Entry], rounds: u32) -> Result<u64, AllocError> {
     let mut digest = 0u64;
     for _ in 0..rounds {
@@ -47,7 +102,8 @@ pub fn inserts<S: Store>(alloc: Global, entries: &[Entry], rounds: u32) -> Resul
     Ok(digest)
 }
 
-/// In each round the sum of the values at the starts of the queries.
+/// In each round the sum of the numbers of the values at the starts of the queries.
+#[inline(never)]
 pub fn lookups<S: Store>(
     alloc: Global,
     entries: &[Entry],
@@ -66,13 +122,14 @@ fn values_sum<S: Store>(map: &S, queries: &[Query]) -> u64 {
     let mut sum = 0u64;
     for query in queries {
         if let Some(value) = map.get(&query.start) {
-            sum = sum.wrapping_add(u64::from(*value));
+            sum = sum.wrapping_add(value.number());
         }
     }
     sum
 }
 
 /// In each round a mix of all pairs.
+#[inline(never)]
 pub fn iterations<S: Store>(
     alloc: Global,
     entries: &[Entry],
@@ -89,6 +146,7 @@ pub fn iterations<S: Store>(
 }
 
 /// In each round a clone from which the queries are removed, and the digest of what stays.
+#[inline(never)]
 pub fn removals<S: Store>(
     alloc: Global,
     entries: &[Entry],
@@ -116,6 +174,7 @@ fn without<S: Store>(map: &S, queries: &[Query]) -> Result<S, AllocError> {
 }
 
 /// In each round the sum of the mixes of the pairs that each query overlaps.
+#[inline(never)]
 pub fn overlaps<S: Store>(
     alloc: Global,
     entries: &[Entry],
@@ -141,6 +200,7 @@ fn overlaps_sum<S: Store>(map: &S, queries: &[Query]) -> Result<u64, AllocError>
 }
 
 /// In each round the sum of the mixes of the gaps in each query.
+#[inline(never)]
 pub fn gaps<S: Store>(
     alloc: Global,
     entries: &[Entry],
@@ -166,6 +226,7 @@ fn gaps_sum<S: Store>(map: &S, queries: &[Query]) -> Result<u64, AllocError> {
 }
 
 /// In each round a clone, and its number of pairs.
+#[inline(never)]
 pub fn clones<S: Store>(alloc: Global, entries: &[Entry], rounds: u32) -> Result<u64, AllocError> {
     let map: S = filled(alloc, entries)?;
     let mut digest = 0u64;
@@ -177,6 +238,7 @@ pub fn clones<S: Store>(alloc: Global, entries: &[Entry], rounds: u32) -> Result
 }
 
 /// In each round whether the map equals one of two clones, in turns.
+#[inline(never)]
 pub fn comparisons<S: Store>(
     alloc: Global,
     entries: &[Entry],

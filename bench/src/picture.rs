@@ -1,0 +1,201 @@
+//! A picture of the ratios over the sizes, both by their logarithms: a panel for each container,
+//! and in it a line for each workload.
+
+use crate::containers::{TREE, VECTOR_TARGET};
+use crate::saved::{Row, Table};
+
+mod scale;
+
+use scale::{Frame, Scale};
+
+/// A panel's size, and what of it the lines have.
+const PANEL: (f64, f64) = (640.0, 380.0);
+const LINES: Frame = Frame {
+    left: 50.0,
+    right: 410.0,
+    top: 40.0,
+    bottom: 340.0,
+};
+
+/// How many panels stand side by side.
+const COLUMNS: usize = 2;
+
+/// How far two names are apart.
+const NAME_HEIGHT: f64 = 13.0;
+
+const COLOURS: [&str; 10] = [
+    "#1f77b4", "#d95f02", "#d62728", "#1b9e77", "#2ca02c", "#a6761d", "#7b4fb5", "#c7379b",
+    "#8c564b", "#444444",
+];
+
+/// What is marked on the sides of a panel, where it lies within.
+const SIZES: [f64; 5] = [10.0, 100.0, 1_000.0, 10_000.0, 100_000.0];
+const RATIOS: [f64; 12] = [
+    0.02, 0.05, 0.1, 0.2, 0.5, 1.0, 2.0, 5.0, 10.0, 20.0, 50.0, 100.0,
+];
+
+/// Draws the containers' tables as an SVG. Their headings are the containers' names, in backticks.
+pub fn drawn(tables: &[Table]) -> String {
+    let tables: Vec<&Table> = tables.iter().filter(|table| is_container(table)).collect();
+    let names = names(&tables);
+    let scale = scale_of(&tables);
+    let panels = tables.iter().enumerate().map(|(at, table)| {
+        let left = PANEL.0 * (at % COLUMNS) as f64;
+        let top = PANEL.1 * (at / COLUMNS) as f64;
+        let panel = panel(table, &names, &scale);
+        format!("<g transform=\"translate({left} {top})\">\n{panel}</g>\n")
+    });
+    let width = PANEL.0 * COLUMNS as f64;
+    let height = PANEL.1 * tables.len().div_ceil(COLUMNS) as f64;
+    format!(
+        "<svg xmlns=\"http://www.w3.org/2000/svg\" viewBox=\"0 0 {width} {height}\" \
+         font-family=\"sans-serif\" font-size=\"11\">\n\
+         <rect width=\"{width}\" height=\"{height}\" fill=\"white\"/>\n{}</svg>\n",
+        panels.collect::<String>()
+    )
+}
+
+fn is_container(table: &Table) -> bool {
+    table.title.starts_with('`')
+}
+
+// Each workload's name once, so that it has one colour in all panels.
+fn names<'a>(tables: &[&'a Table]) -> Vec<&'a str> {
+    let mut names: Vec<&str> = vec![];
+    for row in tables.iter().flat_map(|table| &table.rows) {
+        if !names.contains(&row.name.as_str()) {
+            names.push(&row.name);
+        }
+    }
+    names
+}
+
+// One for all panels, so that they can be compared.
+fn scale_of(tables: &[&Table]) -> Scale {
+    let rows = || tables.iter().flat_map(|table| &table.rows);
+    let points = || rows().flat_map(|row| &row.ratios).copied();
+    Scale {
+        sizes: scale::around(points().map(|point| point.0)),
+        ratios: scale::around(points().map(|point| point.1).chain([VECTOR_TARGET, 1.0])),
+        frame: LINES,
+    }
+}
+
+fn panel(table: &Table, names: &[&str], scale: &Scale) -> String {
+    let mut drawn = format!(
+        "<text x=\"{}\" y=\"22\" font-size=\"15\" font-weight=\"bold\">{}</text>\n",
+        LINES.left,
+        plain(&table.title)
+    );
+    drawn += &sides(scale);
+    drawn += &level(1.0, "2", scale);
+    if plain(&table.title) != plain(TREE.name) {
+        drawn += &level(VECTOR_TARGET, "1\" stroke-dasharray=\"5 3", scale);
+    }
+    let colour = |row: &Row| {
+        let place = names.iter().position(|name| *name == row.name);
+        COLOURS[place.unwrap_or(0) % COLOURS.len()]
+    };
+    for row in &table.rows {
+        drawn += &line(row, colour(row), scale);
+    }
+    for (row, y) in table.rows.iter().zip(name_heights(&table.rows, scale)) {
+        drawn += &format!(
+            "<text x=\"{}\" y=\"{:.1}\" fill=\"{}\">{}</text>\n",
+            LINES.right + 8.0,
+            y + 4.0,
+            colour(row),
+            plain(&row.name)
+        );
+    }
+    drawn
+}
+
+// The marks below and on the left, each with a thin line through the panel.
+fn sides(scale: &Scale) -> String {
+    let mut drawn = String::new();
+    for size in SIZES.into_iter().filter(|size| scale.sizes.has(*size)) {
+        let x = scale.x(size);
+        drawn += &thin_line((x, LINES.top), (x, LINES.bottom));
+        drawn += &mark((x, LINES.bottom + 16.0), "middle", size);
+    }
+    for ratio in RATIOS.into_iter().filter(|ratio| scale.ratios.has(*ratio)) {
+        let y = scale.y(ratio);
+        drawn += &thin_line((LINES.left, y), (LINES.right, y));
+        drawn += &mark((LINES.left - 6.0, y + 4.0), "end", ratio);
+    }
+    drawn
+}
+
+fn thin_line(from: (f64, f64), to: (f64, f64)) -> String {
+    format!(
+        "<path d=\"M{:.1} {:.1}L{:.1} {:.1}\" stroke=\"#dddddd\"/>\n",
+        from.0, from.1, to.0, to.1
+    )
+}
+
+fn mark((x, y): (f64, f64), anchor: &str, number: f64) -> String {
+    format!("<text x=\"{x:.1}\" y=\"{y:.1}\" text-anchor=\"{anchor}\">{number}</text>\n")
+}
+
+// A black line at a ratio, with the width and what else its stroke has.
+fn level(ratio: f64, stroke: &str, scale: &Scale) -> String {
+    let y = scale.y(ratio);
+    format!(
+        "<path d=\"M{} {y:.1}H{}\" stroke=\"black\" stroke-width=\"{stroke}\"/>\n",
+        LINES.left, LINES.right
+    )
+}
+
+fn line(row: &Row, colour: &str, scale: &Scale) -> String {
+    let place =
+        |(size, ratio): &(f64, f64)| format!("{:.1},{:.1}", scale.x(*size), scale.y(*ratio));
+    let places: Vec<String> = row.ratios.iter().map(place).collect();
+    format!(
+        "<polyline points=\"{}\" fill=\"none\" stroke=\"{colour}\" stroke-width=\"1.8\"/>\n",
+        places.join(" ")
+    )
+}
+
+// Where the names stand: at the ends of their lines, but for what keeps them apart.
+fn name_heights(rows: &[Row], scale: &Scale) -> Vec<f64> {
+    let end = |row: &Row| {
+        row.ratios
+            .last()
+            .map_or(LINES.bottom, |last| scale.y(last.1))
+    };
+    let mut heights: Vec<f64> = rows.iter().map(end).collect();
+    let mut order: Vec<usize> = (0..rows.len()).collect();
+    order.sort_by(|one, other| heights[*one].total_cmp(&heights[*other]));
+    keep_apart(&mut heights, order.iter(), LINES.top, f64::max, NAME_HEIGHT);
+    keep_apart(
+        &mut heights,
+        order.iter().rev(),
+        LINES.bottom,
+        f64::min,
+        -NAME_HEIGHT,
+    );
+    heights
+}
+
+// Moves each of the heights, in the order, where it isn't a step behind the one before.
+fn keep_apart<'a>(
+    heights: &mut [f64],
+    order: impl Iterator<Item = &'a usize>,
+    first: f64,
+    further: fn(f64, f64) -> f64,
+    step: f64,
+) {
+    let mut next = first;
+    for at in order {
+        heights[*at] = further(heights[*at], next);
+        next = heights[*at] + step;
+    }
+}
+
+// Without the marks of Markdown, and safe in XML.
+fn plain(text: &str) -> String {
+    text.replace('`', "")
+        .replace('&', "&amp;")
+        .replace('<', "&lt;")
+}

@@ -1,0 +1,104 @@
+//! The sets.
+
+use super::{asked, contents, filled, in_turn, mixed, repeat, Keys, Store};
+use crate::input::{Entry, Query};
+use crate::side::SetSide;
+use rangemap::{RangeInclusiveSet, RangeSet};
+
+pub const SET: SetSide = side::<RangeSet<u64>>();
+
+pub const CLOSED_SET: SetSide = side::<RangeInclusiveSet<u64>>();
+
+trait SetStore: Store {
+    fn has(&self, key: u64) -> bool;
+    fn mix_of_union(&self, other: &Self) -> u64;
+    fn mix_of_intersection(&self, other: &Self) -> u64;
+    fn joined_with(&self, other: &Self) -> Self;
+    fn common_with(&self, other: &Self) -> Self;
+}
+
+macro_rules! set_store {
+    ($set:ident) => {
+        impl Store for $set<u64> {
+            fn empty() -> Self {
+                $set::new()
+            }
+
+            fn insert(&mut self, start: u64, end: u64, _value: u32) {
+                $set::insert(self, Keys::up_to(start, end));
+            }
+
+            fn digest(&self) -> u64 {
+                in_turn(self.iter().map(Keys::number))
+            }
+        }
+
+        impl SetStore for $set<u64> {
+            fn has(&self, key: u64) -> bool {
+                self.contains(&key)
+            }
+
+            fn mix_of_union(&self, other: &Self) -> u64 {
+                mixed(self.union(other).map(|item| item.number()))
+            }
+
+            fn mix_of_intersection(&self, other: &Self) -> u64 {
+                mixed(self.intersection(other).map(|item| item.number()))
+            }
+
+            fn joined_with(&self, other: &Self) -> Self {
+                self | other
+            }
+
+            fn common_with(&self, other: &Self) -> Self {
+                self & other
+            }
+        }
+    };
+}
+
+set_store!(RangeSet);
+
+set_store!(RangeInclusiveSet);
+
+const fn side<S: SetStore>() -> SetSide {
+    SetSide {
+        contents: contents::<S>,
+        unions: |left, right, rounds| over_two(left, right, rounds, S::mix_of_union),
+        intersections: |left, right, rounds| over_two(left, right, rounds, S::mix_of_intersection),
+        joined_sets: |left, right, rounds| {
+            over_two(left, right, rounds, |left: &S, right| {
+                left.joined_with(right).digest()
+            })
+        },
+        common_sets: |left, right, rounds| {
+            over_two(left, right, rounds, |left: &S, right| {
+                left.common_with(right).digest()
+            })
+        },
+        members: |entries, queries, rounds| {
+            asked(entries, queries, rounds, |set: &S, query| {
+                u64::from(set.has(query.start))
+            })
+        },
+    }
+}
+
+// Rounds over the sets of the entries and of the queries.
+fn over_two<S: SetStore>(
+    entries: &[Entry],
+    queries: &[Query],
+    rounds: u32,
+    work: impl Fn(&S, &S) -> u64,
+) -> u64 {
+    let (left, right): (S, S) = (filled(entries), set_of(queries));
+    repeat(rounds, |_| work(&left, &right))
+}
+
+fn set_of<S: SetStore>(ranges: &[Query]) -> S {
+    let mut set = S::empty();
+    for range in ranges {
+        set.insert(range.start, range.end, 0);
+    }
+    set
+}

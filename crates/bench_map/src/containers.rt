@@ -1,0 +1,19 @@
+//! The numbers by which a timing program names the containers.
+
+/// The map over half-open ranges.
+pub const HALF_OPEN: u32 = 0;
+
+/// The map over closed ranges.
+pub const CLOSED: u32 = 1;
+
+/// The map over half-open ranges in a tree.
+pub const TREE: u32 = 2;
+
+/// The map over half-open ranges to texts.
+pub const TEXTS: u32 = 3;
+
+/// The set over half-open ranges.
+pub const SET: u32 = 4;
+
+/// The set over closed ranges.
+pub const CLOSED_SET: u32 = 5;
