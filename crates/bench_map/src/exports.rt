@@ -1,10 +1,12 @@
 //! The calls that a timing program makes. Each names its container by a number of `containers`.
 
 use crate::containers;
-use crate::input::{Entry, Query};
-use crate::store::{ClosedSet, ClosedStore, HalfOpenSet, HalfOpenStore, TextStore, TreeStore};
-use crate::workloads::sets::SetWorkload;
-use crate::workloads::{self, Workload, sets};
+use bench_workloads::input::{Entry, Query};
+use bench_workloads::store::{
+    ClosedSet, ClosedStore, HalfOpenSet, HalfOpenStore, TextStore, TreeStore,
+};
+use bench_workloads::workloads::sets::SetWorkload;
+use bench_workloads::workloads::{self, Workload, sets};
 use std::alloc::{AllocError, Global};
 
 // The digest, or what stands for a refusal.

@@ -10,7 +10,7 @@ use Rattle.std.specs.List.{All, AllByRecursion}
 use Rattle.std.proofs.lemmas.List.Elements.{recursion_from_All}
 use Rattle.std.specs.declared.alloc.AllocError.{AllocError}
 use Rattle.rangemap_core.specs.Ranges.{RangeKind, AreGaps, IsCanonical, IsStorable, covering, covers, unit_eq, value_at, with_unit}
-use Rattle.rangemap.specs.Histories.{IsUndefinedOn}
+use Rattle.rangemap_laws.specs.Histories.{IsUndefinedOn}
 use Rattle.rangemap_core.specs.Items.{AreSame, IsSame, GivesRange, TakesRange}
 use Rattle.rangemap_core.specs.engine.Endpoints.{IsPlaced, EndpointOf}
 use Rattle.rangemap_core.specs.engine.Places.{place_cmp}
@@ -18,7 +18,7 @@ use Rattle.rangemap_core.specs.laws.Orders.{eq_le, eq_turn, itself, le_Equal, le
 use Rattle.rangemap_core.specs.engine.PlacedKinds.{place_total}
 use Rattle.rangemap_core.proofs.SameRangeLemmas.{same_gaps}
 use Rattle.rangemap_core.proofs.UniquenessLemmas.{same_points}
-use Rattle.rangemap.proofs.CallerLemmas.{covering_holds, changes_behind, below_end_place, from_start, gap_undefined, gap_within, holds_between, holds_start, none_before, undefined_in_gap}
+use Rattle.rangemap_laws.proofs.CallerLemmas.{covering_holds, changes_behind, below_end_place, from_start, gap_undefined, gap_within, holds_between, holds_start, none_before, undefined_in_gap}
 
 -- ---- one gap for a stretch of keys
 

@@ -1,29 +1,28 @@
--- For callers that loop over the pairs that overlap a query, over the ranges of a union or an
+-- For callers that loop over the pairs that overlap a query, over the ranges of a set, a union or an
 -- intersection, or over the gaps of a set: what they were given so far, and what all of them are.
-use Rattle.std.proofs.Common.{arith, ◌≡◌, ℕ, Bool, true, false, cond, ◌||◌, List, [], ◌∷◌, ◌++◌, map, append-nil, Option, Some, None, is_some, Result, Ok, Err, IsOkAnd, Ordering, Equal, refl, sym, ap, subst, ◌∙◌, true≢false}
+use Rattle.std.proofs.Common.{arith, ◌≡◌, ℕ, Bool, true, false, cond, List, [], ◌∷◌, ◌++◌, map, append-nil, Option, Some, None, is_some, Result, Ok, Err, IsOkAnd, Ordering, Equal, refl, sym, ap, subst, ◌∙◌, true≢false}
 use Rattle.std.proofs.lemmas.Bool.Decides.{nat_tests}
 use Rattle.std.proofs.lemmas.List.Elements.{recursion_from_All}
+use Rattle.std.proofs.lemmas.Map.Iter.{iter_end}
 use Rattle.std.specs.Bool.{⊤}
 use Rattle.std.specs.Cmp.{int_ranked}
 use Rattle.std.specs.Iterator.{Yields}
 use Rattle.std.specs.Borrow.{Bor}
 use Rattle.std.specs.List.{All, AllByRecursion, find}
-use Rattle.std.specs.Map.Iter.{TakesFirst, deref_pair}
+use Rattle.std.specs.Map.Iter.{TakesFirst, deref, deref_pair}
 use Rattle.std.specs.Ordering.{int_cmp, nat_cmp}
 use Rattle.std.specs.Prelude.{ℤ}
 use Rattle.std.specs.declared.alloc.AllocError.{AllocError}
-use Rattle.std.specs.declared.ops.Range.{Range}
-use Rattle.std.specs.declared.ops.RangeInclusive.{RangeInclusive}
 use Rattle.rangemap_core.specs.Items.{GivesRange, IsSame}
 use Rattle.rangemap_core.specs.Ranges.{RangeKind, AreGaps, IsCanonical, IsStorable, closed, covers, half_open, overlapped, value_at, with_unit}
 use Rattle.rangemap_core.specs.engine.Endpoints.{IsPlaced, EndpointOf}
-use Rattle.rangemap_sets.specs.Sets.{AreCommon, AreHulls, CoverEither, IsCanonicalSet, IsHull}
-use Rattle.rangemap_sets.proofs.UnitValueLemmas.{ranges_with}
-use Rattle.rangemap.proofs.CallerLemmas.{meets_where_shared, value_cons}
+use Rattle.rangemap_operations.specs.Sets.{AreCommon, AreHulls, CoverEither, IsCanonicalSet, IsHull}
+use Rattle.rangemap_operations.proofs.UnitValueLemmas.{ranges_with}
+use Rattle.rangemap_laws.proofs.CallerLemmas.{meets_where_shared, value_cons}
 use Rattle.rangemap.proofs.NumberKinds.{NumberKind}
 use Rattle.rangemap.proofs.NumberLemmas.{IsInOne, IsStretch, last_gap, next_gap}
 use Rattle.rangemap.proofs.PairLoopLemmas.{value_from_items}
-use Rattle.rangemap.proofs.SetLemmas.{valued_where_covered}
+use Rattle.rangemap_operations.proofs.SetLemmas.{valued_where_covered}
 
 -- ---- the pairs that overlap a query
 
@@ -167,6 +166,20 @@ module _ {K X : Type 0} {k : RangeKind K X} (exact : IsExact k) (all start : Lis
     -- at the end each key that they cover is one of an item, of which P holds
     pub covered_by_item : result ≡ None → (x : K) → covers k all x ≡ true → (s : X) × P s × (k.holds s x ≡ true)
     covered_by_item none x h = has_one P k given.0 given.2 x (sym (ap (λ xs. covers k xs x) (ranges_collected given.0 given.1 none)) ∙ h)
+
+-- ---- the ranges of a set
+
+module _ {K X : Type 0} (k : RangeKind K X) (P : X → Type 0) where
+  each_range : (items : List (Bor X)) → AllByRecursion (λ item. P (deref item)) items → AllByRecursion P (map deref items)
+  each_range [] each = each
+  each_range (item ∷ items) each = (each.0, each_range items each.1)
+
+  -- at the end of a loop over `set.iter()` each key of the set is one of a range of which P holds
+  pub covered_by_items : (list lent start : List X) (items : List (Bor X)) (left new : List X) (result : Option (Bor X))
+      → lent ≡ list → start ≡ lent → Yields (TakesFirst deref) start items left → TakesFirst deref left result new → result ≡ None → All (λ item. P (deref item)) items
+      → (x : K) → covers k list x ≡ true → (r : X) × P r × (k.holds r x ≡ true)
+  covered_by_items list lent start items left new result all is so_far step none each =
+      has_one P k list (subst (AllByRecursion P) (iter_end deref list items start left new result (is ∙ all) so_far none step).0 (each_range items (recursion_from_All (λ item. P (deref item)) items each)))
 
 -- ---- what such a loop has collected at its end
 

@@ -13,7 +13,7 @@ use Rattle.rangemap_core.specs.Ranges.{RangeKind, IsCanonical, IsStorable, cover
 use Rattle.rangemap_core.specs.engine.Endpoints.{IsPlaced, EndpointOf}
 use Rattle.rangemap_core.specs.engine.PlacedKinds.{place_total}
 use Rattle.rangemap_core.specs.laws.Orders.{lt_le}
-use Rattle.rangemap.proofs.CallerLemmas.{below_end_place, none_before}
+use Rattle.rangemap_laws.proofs.CallerLemmas.{below_end_place, none_before}
 
 -- The pair is one of the list: its range may be stored, and each key of it has its value.
 pub record IsStored {K X V : Type 0} (k : RangeKind K X) (list : List (X × V)) (a : X × V) : Type 0 where

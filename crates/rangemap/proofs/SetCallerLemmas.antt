@@ -14,17 +14,17 @@ use Rattle.rangemap_core.specs.Items.{GivesRange}
 use Rattle.rangemap_core.specs.engine.Endpoints.{IsPlaced, EndpointOf}
 use Rattle.rangemap_maps.specs.ClosedEndpoints.{closed_part, closed_placed}
 use Rattle.rangemap_maps.specs.ClosedPlaces.{closed_end_place}
-use Rattle.rangemap_sets.specs.Sets.{Adds, AreCommon, AreEither, IsCanonicalSet, TakesOut, range_at}
-use Rattle.rangemap_sets.proofs.UnitValueLemmas.{adds_last, covers_one, points_of, ranges_with}
+use Rattle.rangemap_operations.specs.Sets.{Adds, AreCommon, AreEither, IsCanonicalSet, TakesOut, range_at}
+use Rattle.rangemap_operations.proofs.UnitValueLemmas.{adds_last, covers_one, points_of, ranges_with}
 use Rattle.rangemap.specs.CharLaws.{IsChar, char_after, char_before, char_follows, char_precedes}
-use Rattle.rangemap.specs.Operators.{common, either}
-use Rattle.rangemap.specs.UnitPairs.{same_with_unit}
-use Rattle.rangemap.proofs.CallerLemmas.{holds_start, same_function}
+use Rattle.rangemap_operations.specs.Operators.{common, either}
+use Rattle.rangemap_operations.specs.UnitPairs.{same_with_unit}
+use Rattle.rangemap_laws.proofs.CallerLemmas.{holds_start, same_function}
 use Rattle.rangemap.proofs.GapLoopLemmas.{gaps_collected}
 use Rattle.rangemap.proofs.NumberKinds.{NumberKind}
 use Rattle.rangemap.proofs.NumberLemmas.{IsRun, run_found}
-use Rattle.rangemap.proofs.OperatorLemmas.{common_some, either_some}
-use Rattle.rangemap.proofs.SetLemmas.{copied, pair_found, valued_where_covered}
+use Rattle.rangemap_operations.proofs.OperatorLemmas.{common_some, either_some}
+use Rattle.rangemap_operations.proofs.SetLemmas.{copied, pair_found, valued_where_covered}
 use Rattle.rangemap.proofs.SetRoundTripLemmas.{unit_equiv}
 
 -- ---- keys of a set
@@ -46,7 +46,7 @@ module _ {K X : Type 0} (k : RangeKind K X) where
     taken_outside h e = h.points x key ∙ ap (λ b. not b && covers k old x) e
 
   module _ (ps qs rs : List X) where
-    -- what the operators give, as `Combines` says it
+    -- what the operators give, as `Combine` says it
     pub either_points : IsCanonOf k (unit_eq k) (either (value_at k (with_unit k ps)) (value_at k (with_unit k qs))) (with_unit k rs) → AreEither k ps qs rs
     either_points h = subst (AreEither k ps qs) (ranges_with k rs) (points_of k _ _ (with_unit k rs) (λ x key. either_some (value_at k (with_unit k ps) x) (value_at k (with_unit k qs) x) ∙ ap (λ b. b || is_some (value_at k (with_unit k qs) x)) (valued_where_covered k ps x) ∙ ap (λ b. covers k ps x || b) (valued_where_covered k qs x)) h)
 

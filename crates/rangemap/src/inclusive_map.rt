@@ -5,13 +5,11 @@ ghost use Rattle.rangemap.specs.Clones.{KeysCloneFaithfully, ValuesCloneFaithful
 ghost use Rattle.rangemap.specs.Histories.{ChangeStep, HasNonEmptyRange, HasNonEmptyRanges, MakesAll, Step};
 ghost use Rattle.rangemap.specs.Ranges.{closed};
 
-use crate::{StepFns, StepLite, calls, replay};
+use crate::{StepFns, StepLite};
+use rangemap_laws::{calls, replay};
+pub use rangemap_maps::inclusive_map::{Gaps, IntoIter, Iter, Overlapping, RangeInclusiveMap};
 use std::alloc::{AllocError, Allocator};
 use std::ops::RangeInclusive;
-
-mod ranged;
-
-pub use rangemap_maps::inclusive_map::{Gaps, IntoIter, Iter, Overlapping, RangeInclusiveMap};
 
 /// A call that makes a map or changes the one at a place of a list.
 pub type Call<K, V, A> = calls::Call<RangeInclusive<K>, V, A>;
@@ -75,5 +73,5 @@ pub fn replay_with_step_fns<
     ensures ok { IfOk result (λ answers. MakesAll (closed StepFnsT.is_key K.cmp) V.eq (λ list. list) (ChangeStep (closed StepFnsT.is_key K.cmp)) maps.old.items changes.items answers.items maps.new.items) }
     ensures err { OnErr result (maps.new.items ≡ maps.old.items) }
 {
-    replay::replay_changes(alloc, maps, changes)
+    replay::replay(alloc, maps, changes)
 }

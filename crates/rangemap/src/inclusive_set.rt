@@ -2,28 +2,61 @@
 ghost use Rattle.std.specs.Prelude.{◌≡◌, IfOk, OnErr};
 ghost use Rattle.std.specs.List.{AllByRecursion};
 ghost use Rattle.rangemap.specs.Clones.{KeysCloneFaithfully};
-ghost use Rattle.rangemap.specs.Histories.{MakesAll};
-ghost use Rattle.rangemap.specs.SetHistories.{SetChangeStep, SetHasNonEmptyRange, SetHasNonEmptyRanges, SetStep};
+ghost use Rattle.rangemap.specs.Histories.{ChangeStep, HasNonEmptyRange, MakesAll};
+ghost use Rattle.rangemap.specs.SetHistories.{SetHasNonEmptyRanges, SetStep};
 ghost use Rattle.rangemap.specs.Ranges.{closed, unit_eq, with_unit};
 
-use crate::calls::sets;
-use crate::replay::sets::{replay_set_changes, replay_sets};
+use crate::range_set::Set;
 use crate::{StepFns, StepLite};
+use rangemap_laws::calls::{self, sets};
+use rangemap_laws::replay;
+use rangemap_maps::closed::Closed;
+use rangemap_maps::inclusive_map;
+use rangemap_operations::{into_iter, iter, operations, overlapping};
 use std::alloc::{AllocError, Allocator};
 use std::ops::RangeInclusive;
 
-mod ranged;
+/// A set of keys in disjoint closed ranges, `a..=b`, which joins ranges that overlap or touch: those
+/// that touch have no key between. `StepFnsT` is the type whose steps tell that, mostly `T` itself.
+///
+/// Its calls are those of `range_set::Set`, and are described there. Those that take or give whole
+/// ranges, the texts and the operators exist where `StepFnsT` is `T`. The range of an `insert` or a
+/// `remove` is not empty, `range.start() <= range.end()`, and was not iterated to its end.
+///
+/// # Examples
+///
+/// ```text
+/// let mut set = RangeInclusiveSet::from(alloc, [0..=2, 6..=8])?;
+/// set.insert(3..=5)?; // {0..=8}
+/// set.remove(4..=4)?; // {0..=3, 5..=8}
+/// ```
+pub type RangeInclusiveSet<T, StepFnsT, A> = Set<Closed<StepFnsT>, T, RangeInclusive<T>, A>;
 
-pub use rangemap_sets::inclusive_set::{
-    Gaps, Intersection, IntoIter, Iter, Overlapping, RangeInclusiveSet, Union,
-};
+/// The ranges of a set, in order and from both ends.
+pub type Iter<'a, T> = iter::Iter<'a, RangeInclusive<T>>;
+
+/// The ranges that a set hands over, in order and from both ends.
+pub type IntoIter<T, A> = into_iter::IntoIter<RangeInclusive<T>, A>;
+
+/// The ranges of a set that overlap a range, in order and from both ends. The first `next_back`
+/// searches for the end, in *O*(log *n*).
+pub type Overlapping<'a, T> = overlapping::Overlapping<'a, RangeInclusive<T>>;
+
+/// The parts of a range that a set does not cover, in order.
+pub type Gaps<'a, T, StepFnsT> = inclusive_map::Gaps<'a, T, (), StepFnsT>;
+
+/// The ranges of two sets, joined where they overlap, in order.
+pub type Union<'a, T> = operations::union::Union<'a, RangeInclusive<T>>;
+
+/// The parts that two sets have in common, in order.
+pub type Intersection<'a, T> = operations::intersection::Intersection<'a, RangeInclusive<T>>;
 
 /// A call that makes a set or changes the one at a place of a list.
 pub type Call<T, A> = sets::SetCall<RangeInclusive<T>, A>;
 
 /// A call that a set over any steps has: those of `Call` but the two that take ranges and the
 /// operators.
-pub type Change<T> = sets::SetChange<RangeInclusive<T>>;
+pub type Change<T> = calls::Change<RangeInclusive<T>, ()>;
 
 /// Makes any list of calls, in order, on a list of sets over the key type's own steps, and answers
 /// of each whether it was accepted.
@@ -56,7 +89,7 @@ pub fn replay<T: StepLite + Clone, A: Allocator + Clone>(
     ensures ok { IfOk result (λ answers. MakesAll (closed T.StepLite.is_key T.cmp) (unit_eq (closed T.StepLite.is_key T.cmp)) (with_unit (closed T.StepLite.is_key T.cmp)) (SetStep (closed T.StepLite.is_key T.cmp)) sets.old.items calls.items answers.items sets.new.items) }
     ensures err { OnErr result (sets.new.items ≡ sets.old.items) }
 {
-    replay_sets(alloc, sets, calls)
+    replay::replay(alloc, sets, calls)
 }
 
 /// Makes any list of the calls that a set over any steps has, in order, on a list of sets, and
@@ -69,10 +102,10 @@ pub fn replay_with_step_fns<T: Ord + Clone, StepFnsT: StepFns<T>, A: Allocator +
     sets: &mut Vec<RangeInclusiveSet<T, StepFnsT, A>, A>,
     changes: Vec<Change<T>, A>,
 ) -> Result<Vec<bool, A>, AllocError>
-    requires non_empty { AllByRecursion (SetHasNonEmptyRange (closed StepFnsT.is_key T.cmp)) changes.items }
+    requires non_empty { AllByRecursion (HasNonEmptyRange (closed StepFnsT.is_key T.cmp)) changes.items }
     requires faithful_keys { KeysCloneFaithfully T.is_clone T.cmp }
-    ensures ok { IfOk result (λ answers. MakesAll (closed StepFnsT.is_key T.cmp) (unit_eq (closed StepFnsT.is_key T.cmp)) (with_unit (closed StepFnsT.is_key T.cmp)) (SetChangeStep (closed StepFnsT.is_key T.cmp)) sets.old.items changes.items answers.items sets.new.items) }
+    ensures ok { IfOk result (λ answers. MakesAll (closed StepFnsT.is_key T.cmp) (unit_eq (closed StepFnsT.is_key T.cmp)) (with_unit (closed StepFnsT.is_key T.cmp)) (ChangeStep (closed StepFnsT.is_key T.cmp)) sets.old.items changes.items answers.items sets.new.items) }
     ensures err { OnErr result (sets.new.items ≡ sets.old.items) }
 {
-    replay_set_changes(alloc, sets, changes)
+    replay::replay(alloc, sets, changes)
 }

@@ -5,13 +5,10 @@ ghost use Rattle.rangemap.specs.Clones.{KeysCloneFaithfully, ValuesCloneFaithful
 ghost use Rattle.rangemap.specs.Histories.{HasNonEmptyRanges, MakesAll, Step};
 ghost use Rattle.rangemap.specs.Ranges.{half_open};
 
-use crate::{calls, replay};
+use rangemap_laws::{calls, replay};
+pub use rangemap_maps::map::{Gaps, IntoIter, Iter, Overlapping, RangeMap};
 use std::alloc::{AllocError, Allocator};
 use std::ops::Range;
-
-mod ranged;
-
-pub use rangemap_maps::map::{Gaps, IntoIter, Iter, Overlapping, RangeMap};
 
 /// A call that makes a map or changes the one at a place of a list.
 pub type Call<K, V, A> = calls::Call<Range<K>, V, A>;

@@ -6,21 +6,12 @@ ghost use Rattle.rangemap.specs.Clones.{KeysCloneFaithfully, ValuesCloneFaithful
 ghost use Rattle.rangemap.specs.Histories.{HasNonEmptyRanges, MakesAll, Step};
 ghost use Rattle.rangemap.specs.Ranges.{half_open};
 
-use crate::{calls, replay};
+pub use crate::container::Container;
+pub use rangemap_laws::commands::{Answer, Command, Outcome, run};
+use rangemap_laws::{calls, replay};
+pub use rangemap_tree::tree_map::{Gaps, IntoIter, Iter, Overlapping, RangeMap};
 use std::alloc::{AllocError, Allocator};
 use std::ops::Range;
-
-mod answers;
-mod clones;
-pub mod command;
-mod ranged;
-pub mod represented;
-mod runs;
-
-pub use command::{Answer, Command};
-pub use rangemap_tree::tree_map::{Gaps, IntoIter, Iter, Overlapping, RangeMap};
-pub use represented::Represented;
-pub use runs::{Outcome, run};
 
 /// A call that makes a map or changes the one at a place of a list.
 pub type Call<K, V, A> = calls::Call<Range<K>, V, A>;

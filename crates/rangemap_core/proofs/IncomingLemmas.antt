@@ -1,16 +1,25 @@
 -- Iterators whose items are pairs of non-empty ranges.
-use Rattle.std.proofs.Common.{arith, ◌≡◌, Bool, ℕ, ◌<◌, ◌≤◌, zero, suc, List, [], ◌∷◌, ◌++◌, length, get_or, Option, Some, None, MatchOption, inl, inr, take, ap, subst, sym, ◌∙◌}
+use Rattle.std.proofs.Common.{arith, ◌≡◌, Bool, ℕ, ◌<◌, ◌≤◌, zero, suc, List, [], ◌∷◌, ◌++◌, length, get_or, Option, Some, None, MatchOption, Result, Ok, Err, true≢false, inl, inr, take, ap, subst, sym, ◌∙◌}
+use Rattle.std.specs.Prelude.{MatchResult}
+use Rattle.std.specs.Result.{IsErr}
 use Rattle.std.specs.List.{HoldsAt, slice_get}
 use Rattle.std.specs.Iterator.{Yields}
 use Rattle.std.specs.Vec.Iter.{into_iter_items, into_iter_steps}
 use Rattle.std.specs.declared.vec.IntoIter.{IntoIter}
 use Rattle.std.proofs.Math.Seq.{take-append_seam}
-use Rattle.std.specs.Iterator.Runs.{AllItems, EveryRun, ItemsAre, Run}
+use Rattle.std.specs.Iterator.Runs.{AllItems, EachRunFrom, EveryRun, ItemsAre, Run}
 use Rattle.std.proofs.iter.runs.Made.{at-is, each, run_of_turn, took}
 use Rattle.std.proofs.lemmas.Option.{slice_get_cases}
 use Rattle.std.specs.Map.Iter.{TakesFirst}
 use Rattle.rangemap_core.specs.Ranges.{RangeKind, AreNonEmpty, IsCanonical}
 use Rattle.rangemap_core.specs.Incoming.{GivesNonEmpty}
+use Rattle.rangemap_core.specs.engine.Stretch.{Every}
+
+-- what holds of each item that may come holds of the item of a turn
+pub turn_item : {A S : Type 0} (steps : S → Option A → S → Type 0) (P : A → Type 0) (it : S) (xs : List A) (t : S) (x : A) (u : S) → EachRunFrom steps it (λ run. AllItems run P) → Yields steps it xs t → steps t (Some x) u → P x
+turn_item steps P it xs t x u gives ran step =
+    let turn = run_of_turn steps it xs t ran x u step in
+    subst (λ o. MatchOption o (Unit {0}) P) turn.2.2 (gives turn.0 turn.0.seen turn.1 (length xs))
 
 module _ {K X V : Type 0} (k : RangeKind K X) where
   held : (xs : List (X × V)) (i : ℕ) (x : X × V) → AreNonEmpty k xs → i < length xs → x ≡ get_or xs i x → k.IsNonEmpty x.0
@@ -37,9 +46,7 @@ module _ {K X V : Type 0} (k : RangeKind K X) where
 
     -- the item of a turn
     pub at_turn : (it : S) (xs : List (X × V)) (t : S) (x : X × V) (u : S) → GivesNonEmpty k steps it → Yields steps it xs t → steps t (Some x) u → k.IsNonEmpty x.0
-    at_turn it xs t x u gives ran step =
-        let turn = run_of_turn steps it xs t ran x u step in
-        subst (λ o. MatchOption o (Unit {0}) (λ (y : X × V). k.IsNonEmpty y.0)) turn.2.2 (gives turn.0 turn.0.seen turn.1 (length xs))
+    at_turn it xs t x u = turn_item steps (λ pair. k.IsNonEmpty pair.0) it xs t x u
 
 -- what the iterator of a vector has given is a beginning of its items
 pub taken_front : {X A : Type 0} (s : IntoIter X A) (xs : List X) (t : IntoIter X A) → Yields into_iter_steps s xs t → xs ≡ take (length xs) (into_iter_items s)
@@ -54,15 +61,29 @@ pub canonical_non_empty : {K X V : Type 0} (k : RangeKind K X) (eq : V → V →
 canonical_non_empty k eq [] c = tt
 canonical_non_empty k eq (x ∷ xs) c = (c.0.non_empty, canonical_non_empty k eq xs c.2)
 
--- an iterator that owns the pairs of a map
-pub owned : {K X V : Type 0} (k : RangeKind K X) (it xs : List (X × V)) → it ≡ xs → AreNonEmpty k xs → GivesNonEmpty k (TakesFirst (λ pair. pair)) it
-owned {X = X} {V = V} k it xs is a p seen from = each p (λ pair. k.IsNonEmpty pair.0) (everywhere p.items (front p.items p.from (took p).0 (took p).1 (subst (AreNonEmpty k) (sym (from ∙ is)) a)))
+-- what holds of each element of a list holds of each item that may come of an iterator that shows it
+pub each_shown : {A X : Type 0} (shows : A → X) (P : X → Type 0) (it xs : List X) → it ≡ xs → Every P xs → EachRunFrom (TakesFirst shows) it (λ run. AllItems run (λ item. P (shows item)))
+each_shown {A = A} {X = X} shows P it xs is a p seen from =
+    each p (λ item. P (shows item)) (everywhere p.items (front p.items p.from (took p).0 (took p).1 (subst (Every P) (sym (from ∙ is)) a)))
   where
-    front : (ys s t : List (X × V)) → Yields (TakesFirst (λ pair. pair)) s ys t → AreNonEmpty k s → AreNonEmpty k ys
+    front : (ys : List A) (s t : List X) → Yields (TakesFirst shows) s ys t → Every P s → Every (λ item. P (shows item)) ys
     front [] s t y b = tt
-    front (y ∷ ys) s t ran b = let c = subst (AreNonEmpty k) ran.1 b in (c.0, front ys ran.0 t ran.2 c.1)
+    front (y ∷ ys) s t ran b = let c = subst (Every P) ran.1 b in (c.0, front ys ran.0 t ran.2 c.1)
 
-    everywhere : (ys : List (X × V)) → AreNonEmpty k ys → (i : ℕ) → MatchOption (slice_get ys i) (Unit {0}) (λ pair. k.IsNonEmpty pair.0)
+    everywhere : (ys : List A) → Every (λ item. P (shows item)) ys → (i : ℕ) → MatchOption (slice_get ys i) (Unit {0}) (λ item. P (shows item))
     everywhere [] b i = tt
     everywhere (y ∷ ys) b zero = b.0
     everywhere (y ∷ ys) b (suc i) = everywhere ys b.1 i
+
+-- an iterator that owns the pairs of a map
+pub owned : {K X V : Type 0} (k : RangeKind K X) (it xs : List (X × V)) → it ≡ xs → AreNonEmpty k xs → GivesNonEmpty k (TakesFirst (λ pair. pair)) it
+owned {V = V} k it xs is a = each_shown (λ pair. pair) (λ pair. k.IsNonEmpty pair.0) it xs is (every xs a)
+  where
+    every : (ys : List (_ × V)) → AreNonEmpty k ys → Every (λ pair. k.IsNonEmpty pair.0) ys
+    every [] b = tt
+    every (y ∷ ys) b = (b.0, every ys b.1)
+
+-- what follows of a call that was refused
+pub where_refused : {E D : Type 0} (C : Type 0) (r : Result (Unit {0}) E) → IsErr r → D → MatchResult r (λ _. C) (λ _. D)
+where_refused C (Ok u) refused d = absurd (true≢false (sym refused))
+where_refused C (Err e) refused d = d

@@ -21,7 +21,10 @@ pub mod EqualListLemmas
 pub mod IncomingLemmas
 pub mod OverlapLemmas
 pub mod GapLemmas
+pub mod CommonLemmas
+pub mod SegmentLemmas
 pub mod SameRangeLemmas
 pub mod UnitLemmas
 pub mod OwnPairLemmas
 pub mod StoredLemmas
+pub mod AppendLemmas

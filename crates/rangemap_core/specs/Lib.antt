@@ -3,8 +3,10 @@ pub use Rattle.rangemap_steps.specs.Steps
 pub mod Touch
 pub mod Clones
 pub mod Incoming
+pub mod Appends
 pub mod ListOrder
 pub mod Hashes
 pub mod Items
+pub mod Segments
 pub mod engine
 pub mod laws

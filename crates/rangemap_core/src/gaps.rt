@@ -37,7 +37,7 @@ impl<'a, Q: Kind<K, R>, K: Ord + Clone, R, V> Model for Gaps<'a, Q, K, R, V> {
 
 impl<'a, Q: Kind<K, R>, K: Ord + Clone, R, V> Gaps<'a, Q, K, R, V> {
     /// Returns the gaps that a canonical list leaves in the range, which may be empty or reversed.
-    pub(crate) fn new(pairs: &'a [(R, V)], outer_range: &'a R) -> Self
+    pub fn new(pairs: &'a [(R, V)], outer_range: &'a R) -> Self
     where
         V: Eq,
         requires { IsCanonical Q.kind V.eq pairs.now }

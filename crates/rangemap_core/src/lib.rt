@@ -5,6 +5,8 @@
 //! means is said in `specs/Ranges.antt`; every public contract is in its words.
 #![tactic(auto)]
 
+pub mod common;
+pub mod container;
 pub mod entries;
 pub mod gaps;
 pub mod half_open;
@@ -12,8 +14,7 @@ pub mod into_iter;
 pub mod iter;
 pub mod kind;
 pub mod overlapping;
-mod partition_point;
 mod probe;
 mod search;
-mod splice;
+pub mod splice;
 pub mod std_ext;

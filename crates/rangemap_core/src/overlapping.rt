@@ -11,7 +11,6 @@ ghost use Rattle.rangemap_core.specs.engine.Shape.{PassesUpTo, shape_of};
 ghost use Rattle.rangemap_core.specs.engine.Stretch.{IsOverlap, ends_by, starts_within};
 
 use crate::kind::{Endpoint, Interval, Kind, known_ends};
-use crate::partition_point::{Test, partition_point_from, partition_point_near};
 use crate::search::starts_up_to;
 use std::iter::{DoubleEndedIterator, Iterator};
 use std::marker::{Model, PhantomData};
@@ -47,7 +46,7 @@ impl<'a, I: Interval<K, R>, K: Ord + Clone, R, V> Model for Overlapping<'a, I, K
 impl<'a, I: Interval<K, R>, K: Ord + Clone, R, V: Eq> Overlapping<'a, I, K, R, V> {
     /// Returns the pairs of a canonical list that overlap the query, which may be empty or
     /// reversed.
-    pub(crate) fn new<Q: Kind<K, R>>(pairs: &'a [(R, V)], query: &'a R) -> Self
+    pub fn new<Q: Kind<K, R>>(pairs: &'a [(R, V)], query: &'a R) -> Self
         requires canonical { IsCanonical Q.kind V.eq pairs.now }
         requires alike { ReachAlike Q.kind Q.has_end I.kind I.has_end }
         ensures { result ≡ overlapped Q.kind pairs.now query.now }
@@ -103,7 +102,7 @@ impl<'a, I: Interval<K, R>, K: Ord + Clone, R, V> DoubleEndedIterator
 }
 
 /// Returns whether a pair of a canonical list overlaps the query.
-pub(crate) fn overlaps<Q: Kind<K, R>, K: Ord + Clone, R, V: Eq>(pairs: &[(R, V)], query: &R) -> bool
+pub fn overlaps<Q: Kind<K, R>, K: Ord + Clone, R, V: Eq>(pairs: &[(R, V)], query: &R) -> bool
     requires { IsCanonical Q.kind V.eq pairs.now }
     ensures { result ≡ nat_lt 0 (length (overlapped Q.kind pairs.now query.now)) }
 {
@@ -155,7 +154,7 @@ fn take_begun<'a, I: Interval<K, R>, K: Ord + Clone, R, V>(
 
 /// Returns the places of the pairs that overlap a range which is to be changed: from the first up
 /// to the second.
-pub(crate) fn overlap<Q: Kind<K, R>, K: Ord + Clone, R, V: Eq>(
+pub fn overlap<Q: Kind<K, R>, K: Ord + Clone, R, V: Eq>(
     pairs: &[(R, V)],
     range: &R,
 ) -> (usize, usize)
@@ -169,18 +168,19 @@ pub(crate) fn overlap<Q: Kind<K, R>, K: Ord + Clone, R, V: Eq>(
 // The place of the first pair that ends after the query starts.
 //
 // Of the pairs that start no later than the query, only the last can reach past its start: a search
-// among the starts and one look find the place.
+// among the starts and one look find the place. The look compiles to no branch: where a query
+// begins one answer is as likely as the other, so a branch would be guessed wrong every other time.
 fn overlap_start<Q: Kind<K, R>, K: Ord + Clone, R, V: Eq>(pairs: &[(R, V)], query: &R) -> usize
     requires { IsCanonical Q.kind V.eq pairs.now }
     ensures bound { result ≤ length pairs.now }
     ensures point { PassesUpTo (ends_by (shape_of Q.kind Q.end_place V.eq) query.now) pairs.now result }
 {
-    let ended: EndsBefore<'_, Q, K, R> = EndsBefore {
-        query,
-        kind: PhantomData,
-    };
-    let near_start = starts_up_to::<Q, K, R, V>(pairs, Q::start(query));
-    partition_point_near(pairs, &ended, near_start)
+    let near = starts_up_to::<Q, K, R, V>(pairs, Q::start(query));
+    if near == 0 {
+        return 0;
+    }
+    let reaches = Q::is_before(Endpoint::Start(query), Endpoint::End(&pairs[near - 1].0));
+    near - usize::from(reaches)
 }
 
 // How many pairs a stretch may have for its end to be looked for from its start.
@@ -200,15 +200,18 @@ fn overlap_end<Q: Kind<K, R>, K: Ord + Clone, R, V: Eq>(
     ensures begun { AllWithin (λ b. starts_within (shape_of Q.kind Q.end_place V.eq) query.now b ≡ true) pairs.now start result }
     ensures later { AllWithin (λ b. starts_within (shape_of Q.kind Q.end_place V.eq) query.now b ≡ false) pairs.now result (length pairs.now) }
 {
-    let begun: StartsBefore<'_, Q, K, R> = StartsBefore {
-        query,
-        kind: PhantomData,
-    };
-    if SHORT < pairs.len() - start && begun.test(&pairs[start + SHORT]) {
-        searched_end::<Q, K, R, V>(pairs, query, start)
-    } else {
-        partition_point_from(pairs, &begun, start)
+    let end = Endpoint::End(query);
+    if SHORT < pairs.len() - start && Q::is_before(Endpoint::Start(&pairs[start + SHORT].0), end) {
+        return searched_end::<Q, K, R, V>(pairs, query, start);
     }
+    let mut at = start;
+    'on: while at < pairs.len() {
+        if !Q::is_before(Endpoint::Start(&pairs[at].0), end) {
+            return at;
+        }
+        at += 1;
+    }
+    at
 }
 
 // The end of an overlap, by a search.
@@ -229,52 +232,10 @@ fn searched_end<Q: Kind<K, R>, K: Ord + Clone, R, V: Eq>(
     ensures later { AllWithin (λ b. starts_within (shape_of Q.kind Q.end_place V.eq) query.now b ≡ false) pairs.now result (length pairs.now) }
 {
     known_ends::<Q, K, R>(query);
-    let begun: StartsBefore<'_, Q, K, R> = StartsBefore {
-        query,
-        kind: PhantomData,
-    };
-    let near_end = starts_up_to::<Q, K, R, V>(pairs, Q::end(query));
-    partition_point_near(pairs, &begun, near_end).max(start)
-}
-
-// The pair's range ends before the query starts.
-#[derive(Drop)]
-struct EndsBefore<'a, Q, K, R> {
-    query: &'a R,
-    kind: PhantomData<(Q, K)>,
-}
-
-impl<'a, Q: Kind<K, R>, K: Ord + Clone, R, V: Eq> Test<(R, V)> for EndsBefore<'a, Q, K, R> {
-    ghost use Rattle.std.specs.Prelude.{⊤};
-    ghost use Rattle.rangemap_core.specs.engine.Shape.{shape_of};
-    ghost use Rattle.rangemap_core.specs.engine.Stretch.{ends_by};
-
-    ghost passes = { λ t pair. ends_by (shape_of Q.kind Q.end_place V.eq) t.query.now pair };
-
-    ghost applies = { λ _ _. ⊤ };
-
-    fn test(&self, pair: &(R, V)) -> bool {
-        !Q::is_before(Endpoint::Start(self.query), Endpoint::End(&pair.0))
+    let near = starts_up_to::<Q, K, R, V>(pairs, Q::end(query));
+    if near == 0 {
+        return start;
     }
-}
-
-// The pair's range starts before the query ends.
-#[derive(Drop)]
-struct StartsBefore<'a, Q, K, R> {
-    query: &'a R,
-    kind: PhantomData<(Q, K)>,
-}
-
-impl<'a, Q: Kind<K, R>, K: Ord + Clone, R, V: Eq> Test<(R, V)> for StartsBefore<'a, Q, K, R> {
-    ghost use Rattle.std.specs.Prelude.{⊤};
-    ghost use Rattle.rangemap_core.specs.engine.Shape.{shape_of};
-    ghost use Rattle.rangemap_core.specs.engine.Stretch.{starts_within};
-
-    ghost passes = { λ t pair. starts_within (shape_of Q.kind Q.end_place V.eq) t.query.now pair };
-
-    ghost applies = { λ _ _. ⊤ };
-
-    fn test(&self, pair: &(R, V)) -> bool {
-        Q::is_before(Endpoint::Start(&pair.0), Endpoint::End(self.query))
-    }
+    let begins = Q::is_before(Endpoint::Start(&pairs[near - 1].0), Endpoint::End(query));
+    (near - usize::from(!begins)).max(start)
 }

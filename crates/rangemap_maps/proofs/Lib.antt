@@ -1,1 +1,2 @@
 pub mod ClosedEndpointLemmas
+pub mod ChangeLemmas

@@ -1,3 +1,4 @@
+pub mod KeyOrder
 pub mod Steppable
 pub mod ClosedPlaces
 pub mod ClosedEndpoints

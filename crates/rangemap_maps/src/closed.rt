@@ -1,7 +1,8 @@
 //! Closed ranges as a kind.
 //!
 //! A step is asked of a key only where a greater or smaller key was seen, which is a condition of
-//! the step: so nothing here steps past the last key of a type.
+//! the step: so nothing here steps past the last key of a type. Whether two ranges touch is told by
+//! `rangemap_core::std_ext::touch_test_inclusive`, which stands beside the test of `a..b`.
 ghost use Rattle.std.specs.Prelude.{◌≡◌, ◌&&◌, IfOk};
 ghost use Rattle.std.specs.Ordering.{is_le};
 ghost use Rattle.std.specs.Range.{range_inclusive_start, range_inclusive_end};

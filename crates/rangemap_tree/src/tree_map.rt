@@ -10,6 +10,7 @@ use std::ops::Range;
 
 mod collect;
 mod compare;
+mod container;
 mod insert;
 mod remove;
 mod text;

@@ -117,7 +117,7 @@ impl<'a, S: Soaked<Alloc = &'a Heap>> Session<'a, S> {
     /// Compares the list, its length and the number of blocks that are held.
     fn compare(&mut self) -> Result<(), Stop> {
         let runs = self.runs()?;
-        check(is_list(&self.subject, &runs)?, Difference::List)?;
+        check(is_list(self.alloc, &self.subject, &runs)?, Difference::List)?;
         let stored = self.subject.len();
         check(stored == runs.len(), Difference::Length)?;
         self.has_grown |= 0 < stored;

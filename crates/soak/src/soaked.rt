@@ -6,7 +6,7 @@ ghost use Rattle.rangemap.specs.Clones.{KeysCloneFaithfully, ValuesCloneFaithful
 use crate::chance::Chance;
 use crate::difference::Stop;
 use crate::points::{Points, Query, Run, Span};
-use rangemap::ranged_map::TakesPairs;
+use rangemap::container::Collect;
 use refusing::Refusing;
 use std::alloc::{AllocError, Global};
 
@@ -25,9 +25,9 @@ pub type Heap = Refusing<Global>;
 
 /// A container over points.
 ///
-/// It has one supertrait: with `ClonesItself` beside `TakesPairs`, both of which stand on one trait,
+/// It has one supertrait: with `TryClone` beside `Collect`, both of which stand on one trait,
 /// each function over it would be far dearer to prove.
-pub trait OverPoints: TakesPairs {
+pub trait OverPoints: Collect {
     /// Whether its values stand for marks. Else all stand for the mark 1.
     const HAS_MARKS: bool;
 

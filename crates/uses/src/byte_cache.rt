@@ -5,9 +5,6 @@ ghost use Rattle.std.specs.declared.ops.Range.{Range as RangeOf};
 ghost use Rattle.rangemap.specs.Ranges.{AreGaps, half_open};
 ghost use Rattle.rangemap.specs.Sets.{Adds};
 
-#[cfg(test)]
-mod tests;
-
 use rangemap::RangeSet;
 use std::alloc::{AllocError, Global};
 use std::ops::Range;

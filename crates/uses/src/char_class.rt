@@ -4,19 +4,16 @@ ghost use Rattle.rangemap.specs.Ranges.{IsCanonOfPoints, same_ranges};
 ghost use Rattle.rangemap.specs.Sets.{AreNonEmptyRanges};
 ghost use Rattle.uses.specs.Characters.{characters, has, is_word};
 
-#[cfg(test)]
-mod tests;
-
 use rangemap::RangeInclusiveSet;
-use rangemap::ranged_map::RangedMap;
-use rangemap::ranged_set::Combines;
+use rangemap::container::{Combine, Container};
 use std::alloc::{AllocError, Global};
 use std::ops::RangeInclusive;
 
 /// A set of characters. Two classes of the same characters are equal, however they were made.
 #[derive(Drop)]
 pub struct CharClass {
-    members: RangeInclusiveSet<char, char, Global>,
+    /// The characters.
+    pub members: RangeInclusiveSet<char, char, Global>,
 }
 
 impl CharClass {

@@ -2,9 +2,6 @@
 ghost use Rattle.std.specs.Prelude.{◌≡◌, ◌+◌, ◌-◌, ◌<◌, ◌≤◌, ◌^◌, ◌↔◌, ℕ, IfOk, IfSome, None as NoneWord, OnErr, OnOk, Some as SomeWord, false, true};
 ghost use Rattle.uses.specs.Places.{IsOneToOne, IsOutside, IsUsed, LiesOn, place_of};
 
-#[cfg(test)]
-mod tests;
-
 use rangemap::RangeInclusiveMap;
 use std::alloc::{AllocError, Global};
 

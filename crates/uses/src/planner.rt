@@ -2,9 +2,6 @@
 ghost use Rattle.std.specs.Prelude.{◌≡◌, ◌+◌, ◌<◌, ◌≤◌, ◌^◌, ◌↔◌, ℕ, [], IfNone, IfOk, IfSome, OnErr, OnOk, Some as SomeWord, false, true};
 ghost use Rattle.uses.specs.Blocks.{IsFree, IsLowestFree, owner_of};
 
-#[cfg(test)]
-mod tests;
-
 use rangemap::RangeInclusiveMap;
 use std::alloc::{AllocError, Global};
 

@@ -2,9 +2,6 @@
 ghost use Rattle.std.specs.Prelude.{◌≡◌, ◌≢◌, ◌+◌, ◌<◌, ◌≤◌, ◌^◌, ◌↔◌, ℕ, [], IfNone, IfOk, IfSome, OnErr, OnOk, false, true};
 ghost use Rattle.uses.specs.Numbers.{IsLowestMissing, is_in};
 
-#[cfg(test)]
-mod tests;
-
 use rangemap::RangeInclusiveSet;
 use std::alloc::{AllocError, Global};
 

@@ -2,9 +2,6 @@
 ghost use Rattle.std.specs.Prelude.{◌≡◌, ◌<◌, ◌≤◌, ◌⊎◌, ℕ, [], None as NoneWord, IfOk, OnErr, OnOk, Some as SomeWord, false, true};
 ghost use Rattle.uses.specs.Duty.{AreUncovered, IsSwapped, on_duty};
 
-#[cfg(test)]
-mod tests;
-
 use rangemap::RangeMap;
 use rangemap::map::Gaps;
 use std::alloc::{AllocError, Global};
@@ -32,6 +29,29 @@ impl Rota {
         ensures { result ≡ on_duty self.now.shifts hour }
     {
         self.shifts.get(&hour).copied()
+    }
+
+    /// Returns up to which hour nobody is on: from `hour` on, at which nobody is, and up to `limit`.
+    ///
+    /// # Requires
+    ///
+    /// Nobody is on at `hour`, which comes before `limit`.
+    ///
+    /// # Errors
+    ///
+    /// Memory was refused.
+    pub fn off_until(&self, hour: u32, limit: u32) -> Result<u32, AllocError>
+        requires forward { hour < limit }
+        requires off { on_duty self.now.shifts hour ≡ NoneWord }
+        ensures forward { IfOk result (λ end. hour < end) }
+        ensures off { IfOk result (λ end. (later : ℕ) → hour ≤ later → later < end → on_duty self.now.shifts later ≡ NoneWord) }
+    {
+        let rest = hour..limit;
+        let mut gaps = self.shifts.gaps(&rest);
+        match gaps.next() {
+            Some(gap) => Ok(gap?.end),
+            None => unreachable!(),
+        }
     }
 
     /// Puts the person on for the hours, in place of whoever was.

@@ -1,3 +1,2 @@
 -- Lemmas of the rows.
-pub mod PairLists
 pub mod Texts

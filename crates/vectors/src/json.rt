@@ -13,9 +13,8 @@ use std::test::Fail;
 
 mod long;
 mod maps;
-mod refusals;
-mod roster;
 mod round_trips;
+mod sets;
 
 /// Why a part is refused.
 #[derive(Clone, Copy, Debug, PartialEq, Eq)]

@@ -4,9 +4,8 @@
 ghost use Rattle.std.specs.Prelude.{◌≡◌, ◌&&◌, false};
 ghost use Rattle.rangemap.specs.Clones.{KeysCloneFaithfully, ValuesCloneFaithfully};
 
-use crate::rows::{Call, InRows, check_row, make};
 use rangemap::laws;
-use rangemap::ranged_map::LeavesGaps;
+use rows::{Call, InRows, check_row, make};
 use std::alloc::{AllocGlobal, Global};
 use std::process::Abort;
 use std::test::Fail;
@@ -59,7 +58,7 @@ pub fn check_insert<M: InRows<Alloc = Global>, R: AllocGlobal + Abort>(
     let mut map = M::empty(rt.alloc());
     make(&mut map, rt.alloc(), calls)?;
     laws::insert_changes_its_range_alone(&mut map, range, value)?;
-    check_row(rt, &map, pairs)
+    check_row(&map, pairs)
 }
 
 /// A remove leaves the pairs, where the calls were made before.
@@ -76,7 +75,7 @@ pub fn check_remove<M: InRows<Alloc = Global>, R: AllocGlobal + Abort>(
     let mut map = M::empty(rt.alloc());
     make(&mut map, rt.alloc(), calls)?;
     laws::remove_changes_its_range_alone(&mut map, range)?;
-    check_row(rt, &map, pairs)
+    check_row(&map, pairs)
 }
 
 /// An insert leaves the pairs, made once or twice.
@@ -94,8 +93,8 @@ pub fn check_twice<M: InRows<Alloc = Global>, R: AllocGlobal + Abort>(
     let (mut once, mut twice) = pair_of::<M, R>(rt, calls)?;
     assert!(rt; laws::equal_exactly_when_alike(&once, &twice));
     laws::insert_twice_equals_once(&mut once, &mut twice, range, value)?;
-    check_row(rt, &once, pairs)?;
-    check_row(rt, &twice, pairs)
+    check_row(&once, pairs)?;
+    check_row(&twice, pairs)
 }
 
 /// Two inserts with no common key leave the pairs, in either order.
@@ -115,8 +114,8 @@ pub fn check_commute<M: InRows<Alloc = Global>, R: AllocGlobal + Abort>(
     let (mut forth, mut back) = pair_of::<M, R>(rt, calls)?;
     assert!(rt; laws::equal_exactly_when_alike(&forth, &back));
     laws::inserts_commute(&mut forth, &mut back, first, second)?;
-    check_row(rt, &forth, pairs)?;
-    check_row(rt, &back, pairs)
+    check_row(&forth, pairs)?;
+    check_row(&back, pairs)
 }
 
 /// A remove leaves the pairs, whether or not its range was inserted before it.
@@ -134,12 +133,12 @@ pub fn check_taken_back<M: InRows<Alloc = Global>, R: AllocGlobal + Abort>(
     let (mut changed, mut removed) = pair_of::<M, R>(rt, calls)?;
     assert!(rt; laws::equal_exactly_when_alike(&changed, &removed));
     laws::remove_after_insert_equals_remove(&mut changed, &mut removed, range, value)?;
-    check_row(rt, &changed, pairs)?;
-    check_row(rt, &removed, pairs)
+    check_row(&changed, pairs)?;
+    check_row(&removed, pairs)
 }
 
 /// The gaps of the range are those of the row.
-pub fn check_parted<M: InRows<Alloc = Global> + LeavesGaps, R: AllocGlobal + Abort>(
+pub fn check_parted<M: InRows<Alloc = Global>, R: AllocGlobal + Abort>(
     rt: &R,
     calls: &[Call<M::RowRange, M::RowValue>],
     outer_range: &M::Range,

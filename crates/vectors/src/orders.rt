@@ -3,14 +3,10 @@
 //!
 //! `down` and `pairs` bring an order and steps as a user writes them, and are accepted as lawful.
 
-#[cfg(test)]
 mod characters;
-pub mod down;
-#[cfg(test)]
+mod down;
 mod ends;
-#[cfg(test)]
 mod half_open;
-pub mod pairs;
-pub mod taken;
-#[cfg(test)]
+mod pairs;
+mod taken;
 mod values;

@@ -1,25 +1,18 @@
 //! How many starts a search asks for.
-ghost use Rattle.std.specs.Prelude.{IfOk, nat_eq};
-ghost use Rattle.std.specs.Ordering.{nat_cmp};
-ghost use Rattle.rangemap_core.specs.Ranges.{IsCanonical, half_open};
-
-use rangemap_core::entries::Entries;
+use rangemap::RangeMap;
+use rangemap_core::entries::covering;
 use rangemap_core::half_open::HalfOpen;
 use std::alloc::{AllocError, Allocator};
 use std::ops::Range;
 use std::test::Fail;
 
-type Bytes<A> = Entries<HalfOpen, u32, Range<u32>, u8, A>;
-
 // So many ranges of two keys, each with a key between it and the next.
-fn spread<A: Allocator>(alloc: A, count: u16) -> Result<Bytes<A>, AllocError>
-    ensures { IfOk result (IsCanonical (half_open nat_cmp) nat_eq) }
-{
-    let mut entries = Entries::new(alloc);
+fn spread<A: Allocator>(alloc: A, count: u16) -> Result<RangeMap<u32, u8, A>, AllocError> {
+    let mut map = RangeMap::new(alloc);
     for place in 0..u32::from(count) {
-        entries.insert(3 * place..3 * place + 2, 0)?;
+        map.insert(3 * place..3 * place + 2, 0)?;
     }
-    Ok(entries)
+    Ok(map)
 }
 
 #[test]
@@ -38,10 +31,11 @@ fn covering_asks_by_halving(rt: HostRuntime) -> Result<(), Fail> {
         (1024, 11),
     ];
     for (len, most) in table {
-        let entries = spread(rt.alloc(), len)?;
-        assert_eq!(rt; entries.len(), usize::from(len));
+        let map = spread(rt.alloc(), len)?;
+        assert_eq!(rt; map.len(), usize::from(len));
+        let pairs = map.iter().as_slice();
         for key in 0..3 * u32::from(len) + 1 {
-            let (pair, asked) = entries.covering(&key);
+            let (pair, asked) = covering::<HalfOpen, u32, Range<u32>, u8>(pairs, &key);
             assert!(rt; asked <= most, "{asked} asks for {key} among {len}");
             assert_eq!(rt;
                 pair.is_some(),

@@ -44,6 +44,15 @@ fn other_keys_and_values_are_written_by_their_own_text(rt: HostRuntime) -> Resul
     assert_text(&rt, &map, "{'a'..'f': Some(true), 'x'..'z': None}")
 }
 
+/// Shows that `{:?}` writes the text of a set that was made, unless it was refused memory.
+pub fn assert_made_text<S: Debug + Drop, R: AllocGlobal + Abort>(
+    rt: &R,
+    made: Result<S, AllocError>,
+    text: &str,
+) -> Result<(), Fail> {
+    assert_text(rt, &made?, text)
+}
+
 /// Shows that `{:#?}` writes the text of a map that was made, unless it was refused memory.
 pub fn assert_long_text<M: Debug + Drop, R: AllocGlobal + Abort>(
     rt: &R,
@@ -82,5 +91,7 @@ fn the_laws_of_texts_write_them(rt: HostRuntime) -> Result<(), Fail> {
         signed_text(alloc, &signed)?.as_str(),
         "{-128..=-1: 7, 5..=127: 8}"
     );
+    let texts = range_map! { in alloc; 0..5u32 => "a\"b" }?;
+    assert_eq!(rt; ascii_text(alloc, &texts)?.as_str(), "{0..5: \"a\\\"b\"}");
     Ok(())
 }

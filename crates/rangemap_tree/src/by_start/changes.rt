@@ -62,21 +62,16 @@ impl<K: Ord + Drop, V: Drop, A: Allocator> ByStart<K, V, A> {
         }
     }
 
-    // Gives the pair that starts where the range does that range. It takes no memory.
-    fn recut(&mut self, range: Range<K>)
-        ensures { IsRecut K.cmp (SomeWord range) self.old self.new }
-    {
-        if let Some(tree) = &mut self.tree {
-            set_range(tree, range);
-        }
-    }
-
-    // The same, where there is a range.
-    fn recut_if(&mut self, cut: Option<Range<K>>)
+    // Gives the pair that starts where the range does that range, if there is one. It takes no
+    // memory.
+    fn recut(&mut self, cut: Option<Range<K>>)
         ensures { IsRecut K.cmp cut self.old self.new }
     {
-        if let Some(range) = cut {
-            self.recut(range);
+        let Some(range) = cut else {
+            return;
+        };
+        if let Some(tree) = &mut self.tree {
+            set_range(tree, range);
         }
     }
 
@@ -155,7 +150,7 @@ impl<K: Ord + Drop, V: Drop, A: Allocator> ByStart<K, V, A> {
     {
         self.put_both(key, range, value, piece)?;
         self.take_all(starts);
-        self.recut_if(cut);
+        self.recut(cut);
         Ok(())
     }
 
@@ -186,7 +181,7 @@ impl<K: Ord + Drop, V: Drop, A: Allocator> ByStart<K, V, A> {
     {
         self.put_piece(piece)?;
         self.take_all(starts);
-        self.recut_if(cut);
+        self.recut(cut);
         Ok(())
     }
 }

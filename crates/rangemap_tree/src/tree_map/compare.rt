@@ -1,10 +1,12 @@
 //! Equality and order of maps in trees, and what such a map feeds a hasher.
-ghost use Rattle.std.specs.Prelude.{◌≡◌, fold, flat_map};
-ghost use Rattle.rangemap_core.specs.Hashes.{pair_fed};
-ghost use Rattle.rangemap_core.specs.ListOrder.{pair_cmp, pairs_cmp, range_cmp};
-ghost use Rattle.rangemap_core.specs.Ranges.{half_open, same_pair, same_pairs};
+ghost use Rattle.std.specs.Prelude.{◌≡◌};
+ghost use Rattle.rangemap_core.specs.ListOrder.{pairs_cmp};
+ghost use Rattle.rangemap_core.specs.Ranges.{half_open, same_pairs};
 
 use super::{Iter, RangeMap};
+use rangemap_core::entries::compare::{compare_pairs, is_same};
+use rangemap_core::entries::hash::feed_pair;
+use rangemap_core::half_open::HalfOpen;
 use std::alloc::Allocator;
 use std::cmp::Ordering;
 use std::hash::{Hash, Hasher};
@@ -84,12 +86,15 @@ impl<K: Ord + Clone + Hash, V: Eq + Clone + Hash, A: Allocator + Clone> Hash for
     /// Feeds the number of stored ranges, and then the start, the end and the value of each pair.
     fn hash<H: Hasher>(&self, state: &mut H) {
         state.write_usize(self.len());
-        feed_each(self.iter(), state);
+        let mut rest = self.iter();
+        'pairs: while let Some((range, value)) = rest.next() {
+            feed_pair::<HalfOpen, K, Range<K>, V, H>(range, value, state);
+        }
     }
 }
 
 // Whether the pairs to come are equal pair by pair.
-fn are_same<K: Ord, V: Eq>(left: Iter<'_, K, V>, right: Iter<'_, K, V>) -> bool
+fn are_same<K: Ord + Clone, V: Eq>(left: Iter<'_, K, V>, right: Iter<'_, K, V>) -> bool
     ensures { result ≡ same_pairs (half_open K.cmp) V.eq left.entry right.entry }
 {
     let mut ours = left;
@@ -98,24 +103,15 @@ fn are_same<K: Ord, V: Eq>(left: Iter<'_, K, V>, right: Iter<'_, K, V>) -> bool
         let Some((other, other_value)) = theirs.next() else {
             return false;
         };
-        if !is_same(range, value, other, other_value) {
+        if !is_same::<HalfOpen, K, Range<K>, V>(range, value, other, other_value) {
             return false;
         }
     }
     theirs.next().is_none()
 }
 
-// Whether the ranges have the same ends, and the values are equal.
-fn is_same<K: Ord, V: Eq>(range: &Range<K>, value: &V, other: &Range<K>, other_value: &V) -> bool
-    ensures { result ≡ same_pair (half_open K.cmp) V.eq (range.now, value.now) (other.now, other_value.now) }
-{
-    range.start.cmp(&other.start).is_eq()
-        && range.end.cmp(&other.end).is_eq()
-        && *value == *other_value
-}
-
 // How the pairs to come lie to one another: by the first two that differ, else by their numbers.
-fn compare_lists<K: Ord, V: Ord>(left: Iter<'_, K, V>, right: Iter<'_, K, V>) -> Ordering
+fn compare_lists<K: Ord + Clone, V: Ord>(left: Iter<'_, K, V>, right: Iter<'_, K, V>) -> Ordering
     ensures { result ≡ pairs_cmp (half_open K.cmp) V.cmp left.entry right.entry }
 {
     let mut ours = left;
@@ -124,7 +120,7 @@ fn compare_lists<K: Ord, V: Ord>(left: Iter<'_, K, V>, right: Iter<'_, K, V>) ->
         let Some((other, other_value)) = theirs.next() else {
             return Ordering::Greater;
         };
-        let found = compare_pairs(range, value, other, other_value);
+        let found = compare_pairs::<HalfOpen, K, Range<K>, V>(range, value, other, other_value);
         if found.is_ne() {
             return found;
         }
@@ -134,50 +130,4 @@ fn compare_lists<K: Ord, V: Ord>(left: Iter<'_, K, V>, right: Iter<'_, K, V>) ->
     } else {
         Ordering::Equal
     }
-}
-
-// By the ranges, and where these are equal by the values.
-fn compare_pairs<K: Ord, V: Ord>(
-    range: &Range<K>,
-    value: &V,
-    other: &Range<K>,
-    other_value: &V,
-) -> Ordering
-    ensures { result ≡ pair_cmp (half_open K.cmp) V.cmp (range.now, value.now) (other.now, other_value.now) }
-{
-    let ranges = compare_ranges(range, other);
-    if ranges.is_ne() {
-        return ranges;
-    }
-    value.cmp(other_value)
-}
-
-// By the starts, and where these are equal by the ends.
-fn compare_ranges<K: Ord>(left: &Range<K>, right: &Range<K>) -> Ordering
-    ensures { result ≡ range_cmp (half_open K.cmp) left.now right.now }
-{
-    let starts = left.start.cmp(&right.start);
-    if starts.is_ne() {
-        return starts;
-    }
-    left.end.cmp(&right.end)
-}
-
-// Feeds each pair to come.
-fn feed_each<K: Ord + Hash, V: Eq + Hash, H: Hasher>(pairs: Iter<'_, K, V>, state: &mut H)
-    ensures { state.new ≡ fold H.write state.old (flat_map (pair_fed (half_open K.cmp) K.hash_input V.hash_input) pairs.entry) }
-{
-    let mut rest = pairs;
-    'pairs: while let Some((range, value)) = rest.next() {
-        feed_pair(range, value, state);
-    }
-}
-
-// Feeds the start, the end and the value.
-fn feed_pair<K: Ord + Hash, V: Eq + Hash, H: Hasher>(range: &Range<K>, value: &V, state: &mut H)
-    ensures { state.new ≡ fold H.write state.old (pair_fed (half_open K.cmp) K.hash_input V.hash_input (range.now, value.now)) }
-{
-    range.start.hash(state);
-    range.end.hash(state);
-    value.hash(state);
 }

@@ -62,7 +62,7 @@ impl<'a, S: Soaked<Alloc = &'a Heap>> Session<'a, S> {
     /// list. It is not all of it.
     fn take_beginning(&mut self, puts: &[Put; 3]) -> Result<(), Stop> {
         for put in puts {
-            if is_list(&self.subject, &self.runs()?)? {
+            if is_list(self.alloc, &self.subject, &self.runs()?)? {
                 return Ok(());
             }
             self.points.put(*put);

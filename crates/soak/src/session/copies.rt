@@ -63,7 +63,7 @@ impl<'a, S: Soaked<Alloc = &'a Heap>> Session<'a, S> {
     /// Compares a container that was made with its model, and with this one.
     fn check_made(&self, made: &S, points: &Points, held: u64) -> Result<(), Stop> {
         let runs = points.runs(self.alloc)?;
-        check(is_list(made, &runs)?, Difference::Made)?;
+        check(is_list(self.alloc, made, &runs)?, Difference::Made)?;
         let are_equal = *made == self.subject;
         check(are_equal == (runs == self.runs()?), Difference::Equality)?;
         let blocks = self.chance.heap.held().wrapping_sub(held);

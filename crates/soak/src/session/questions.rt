@@ -37,7 +37,7 @@ impl<'a, S: Soaked<Alloc = &'a Heap>> Session<'a, S> {
         let query = self.chance.query();
         let range = S::query(self.chance.heap, query)?;
         let runs = self.points.overlapping(query, self.alloc)?;
-        check_overlapping(&self.subject, &range, &runs)?;
+        check_overlapping(self.alloc, &self.subject, &range, &runs)?;
         Ok(false)
     }
 }

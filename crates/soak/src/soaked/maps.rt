@@ -135,7 +135,7 @@ impl<'a> OverPoints for TreeMap<'a> {
     }
 
     fn key(heap: &'a Heap, point: u8) -> Result<Boxed<'a>, AllocError> {
-        Ok(Box::new(heap, u16::from(point))?)
+        Boxed::new(heap, u16::from(point))
     }
 
     fn range(heap: &'a Heap, span: Span) -> Result<Range<Boxed<'a>>, AllocError> {

@@ -4,7 +4,7 @@ use super::boxed::{self, Boxed};
 use super::costly::Costly;
 use super::{Heap, Operator, OverPoints, list_needs};
 use crate::points::{Query, Span};
-use rangemap::ranged_set::Combines;
+use rangemap::container::Combine;
 use rangemap::{RangeInclusiveSet, RangeSet};
 use std::alloc::AllocError;
 use std::ops::{Range, RangeInclusive};
@@ -27,7 +27,7 @@ impl<'a> OverPoints for Set<'a> {
     }
 
     fn key(heap: &'a Heap, point: u8) -> Result<Boxed<'a>, AllocError> {
-        Ok(Box::new(heap, u16::from(point))?)
+        Boxed::new(heap, u16::from(point))
     }
 
     fn range(heap: &'a Heap, span: Span) -> Result<Range<Boxed<'a>>, AllocError> {

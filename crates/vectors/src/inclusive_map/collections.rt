@@ -2,9 +2,9 @@
 //! pairs over.
 
 use super::Map;
-use crate::rows::iterators::check_counted_back;
-use crate::rows::{check_made, check_row};
+use crate::iterators::check_counted_back;
 use rangemap::RangeInclusiveMap;
+use rows::{check_made, check_row};
 use std::process::Abort;
 use std::test::Fail;
 
@@ -15,7 +15,6 @@ fn pairs_are_inserted_in_order(rt: HostRuntime) -> Result<(), Fail> {
         [(0..=100u32, "abc"), (100..=200, "def"), (200..=300, "ghi")],
     );
     check_made(
-        &rt,
         made,
         &[(0..=99, "abc"), (100..=199, "def"), (200..=300, "ghi")],
     )
@@ -55,12 +54,12 @@ fn check_shorter<R: AllocGlobal + Abort>(rt: &R) -> Result<(), Fail> {
 fn a_chain_is_taken(rt: HostRuntime) -> Result<(), Fail> {
     let mut map: Map = RangeInclusiveMap::new(rt.alloc());
     map.extend((0..2u32).map(|i| (10 * i..=10 * i + 4, 'a')))?;
-    check_row(&rt, &map, &[(0..=4, 'a'), (10..=14, 'a')])?;
+    check_row(&map, &[(0..=4, 'a'), (10..=14, 'a')])?;
     let made = RangeInclusiveMap::from_iter(
         rt.alloc(),
         (0..3u32).map(|i| (10 * i..=10 * i + 9, 'b')),
     );
-    check_made(&rt, made, &[(0..=29, 'b')])
+    check_made(made, &[(0..=29, 'b')])
 }
 
 #[test]

@@ -5,30 +5,26 @@ use crate::laws::{
     check_alike, check_commute, check_insert, check_parted, check_remove, check_taken_back,
     check_twice,
 };
-use crate::rows::Call::Insert;
+use rows::Call::Insert;
 use std::test::Fail;
 
 #[test]
-fn equal_maps_are_alike(rt: HostRuntime) -> Result<(), Fail> {
-    check_alike::<Map, _>(&rt, &[Insert(0..=9, 'a'), Insert(3..=5, 'b')], 3..=4, 'a')
-}
-
-#[test]
-fn a_change_changes_its_range_alone(rt: HostRuntime) -> Result<(), Fail> {
+fn one_change_keeps_its_laws(rt: HostRuntime) -> Result<(), Fail> {
+    // Equal maps are alike, and no others.
+    check_alike::<Map, _>(&rt, &[Insert(0..=9, 'a'), Insert(3..=5, 'b')], 3..=4, 'a')?;
+    // A change changes its range alone.
     let inserted = [(0..=2, 'a'), (3..=5, 'b'), (6..=9, 'a')];
     check_insert::<Map, _>(&rt, &[Insert(0..=9, 'a')], 3..=5, 'b', &inserted)?;
     let calls = [Insert(0..=9, 'a'), Insert(3..=5, 'b')];
-    check_remove::<Map, _>(&rt, &calls, 2..=6, &[(0..=1, 'a'), (7..=9, 'a')])
-}
-
-#[test]
-fn the_same_insert_twice_equals_once(rt: HostRuntime) -> Result<(), Fail> {
+    check_remove::<Map, _>(&rt, &calls, 2..=6, &[(0..=1, 'a'), (7..=9, 'a')])?;
+    // The same insert twice equals once.
     let pairs = [(0..=2, 'a'), (3..=5, 'b'), (6..=9, 'a')];
     check_twice::<Map, _>(&rt, &[Insert(0..=9, 'a')], &(3..=5), &'b', &pairs)
 }
 
 #[test]
-fn inserts_with_no_common_key_commute(rt: HostRuntime) -> Result<(), Fail> {
+fn two_changes_and_gaps_keep_their_laws(rt: HostRuntime) -> Result<(), Fail> {
+    // Inserts with no common key commute.
     let pairs = [(0..=1, 'a'), (2..=11, 'b')];
     let (first, second) = (2..=3, 4..=11);
     check_commute::<Map, _>(
@@ -37,17 +33,11 @@ fn inserts_with_no_common_key_commute(rt: HostRuntime) -> Result<(), Fail> {
         (&first, &'b'),
         (&second, &'b'),
         &pairs,
-    )
-}
-
-#[test]
-fn a_remove_takes_back_an_insert(rt: HostRuntime) -> Result<(), Fail> {
+    )?;
+    // A remove takes back an insert.
     let pairs = [(0..=2, 'a'), (6..=9, 'a')];
-    check_taken_back::<Map, _>(&rt, &[Insert(0..=9, 'a')], &(3..=5), &'b', &pairs)
-}
-
-#[test]
-fn gaps_and_covered_keys_make_up_a_range(rt: HostRuntime) -> Result<(), Fail> {
+    check_taken_back::<Map, _>(&rt, &[Insert(0..=9, 'a')], &(3..=5), &'b', &pairs)?;
+    // Gaps and covered keys make up a range.
     let calls = [Insert(1..=2, 'a'), Insert(5..=6, 'b')];
     check_parted::<Map, _>(&rt, &calls, &(0..=7), &[0..=0, 3..=4, 7..=7])
 }

@@ -1,9 +1,9 @@
 //! Rows about queries over closed ranges.
 
 use super::Map;
-use crate::rows::Call::Insert;
-use crate::rows::tables::{Overlapped, check_free, check_queries};
 use rangemap::RangeInclusiveMap;
+use rows::Call::Insert;
+use rows::tables::{Overlapped, check_free, check_queries};
 use std::alloc::Global;
 use std::ops::RangeInclusive;
 use std::process::Abort;
@@ -22,7 +22,7 @@ fn what_a_query_overlaps_is_found(rt: HostRuntime) -> Result<(), Fail> {
             &[(0..=1, 'a'), (2..=3, 'b')],
         ),
     ];
-    check_queries::<Map, _>(&rt, rt.alloc(), &rows)
+    check_queries::<Map>(rt.alloc(), &rows)
 }
 
 #[test]
@@ -33,8 +33,7 @@ fn what_nothing_covers_is_free(rt: HostRuntime) -> Result<(), Fail> {
         Insert(250..=255, 'b'),
         Insert(10..=249, 'c'),
     ];
-    check_free::<RangeInclusiveMap<u8, char, u8, Global>, _>(
-        &rt,
+    check_free::<RangeInclusiveMap<u8, char, u8, Global>>(
         rt.alloc(),
         &[
             (&ends, 0..=255, &[10..=249]),

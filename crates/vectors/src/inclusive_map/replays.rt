@@ -1,9 +1,9 @@
 //! Rows over closed ranges made by both replays, where every call is accepted.
 
 use super::steps::SignedMap;
-use crate::rows::check_replayed;
 use rangemap::RangeInclusiveMap;
 use rangemap::inclusive_map::{Call, Change, replay, replay_with_step_fns};
+use rows::check_replayed;
 use std::alloc::Global;
 use std::test::Fail;
 
@@ -30,13 +30,7 @@ fn bytes_go_to_their_end(rt: HostRuntime) -> Result<(), Fail> {
     let calls = Vec::from_array(rt.alloc(), calls)?;
     let mut maps = Vec::new(rt.alloc());
     let answers = replay(rt.alloc(), &mut maps, calls);
-    check_replayed(
-        &rt,
-        answers,
-        &[true; 4],
-        maps.as_slice(),
-        &[&[(0..=255, false)]],
-    )
+    check_replayed(answers, &[true; 4], maps.as_slice(), &[&[(0..=255, false)]])
 }
 
 #[test]
@@ -58,7 +52,6 @@ fn ends_are_removed(rt: HostRuntime) -> Result<(), Fail> {
     let mut maps = Vec::new(rt.alloc());
     let answers = replay(rt.alloc(), &mut maps, calls);
     check_replayed(
-        &rt,
         answers,
         &[true; 4],
         maps.as_slice(),
@@ -97,13 +90,7 @@ fn changes_by_own_steps(rt: HostRuntime) -> Result<(), Fail> {
     let changes = Vec::from_array(rt.alloc(), changes)?;
     let mut maps: Vec<RangeInclusiveMap<u8, bool, u8, Global>, _> = Vec::new(rt.alloc());
     let answers = replay_with_step_fns(rt.alloc(), &mut maps, changes);
-    check_replayed(
-        &rt,
-        answers,
-        &[true; 6],
-        maps.as_slice(),
-        &[&[(1..=254, false)]],
-    )
+    check_replayed(answers, &[true; 6], maps.as_slice(), &[&[(1..=254, false)]])
 }
 
 #[test]
@@ -135,7 +122,6 @@ fn changes_by_steps_of_another_type(rt: HostRuntime) -> Result<(), Fail> {
     let mut maps: Vec<SignedMap, _> = Vec::new(rt.alloc());
     let answers = replay_with_step_fns(rt.alloc(), &mut maps, changes);
     check_replayed(
-        &rt,
         answers,
         &[true; 7],
         maps.as_slice(),

@@ -1,38 +1,9 @@
 //! A map over closed ranges whose keys get their steps by another type.
 
-use rangemap::{RangeInclusiveMap, StepFns};
+use rangemap::RangeInclusiveMap;
+use rows::SignedSteps;
 use std::alloc::Global;
 use std::test::Fail;
-
-/// Steps of signed bytes.
-pub struct SignedSteps;
-
-impl StepFns<i8> for SignedSteps {
-    ghost use Rattle.std.specs.Prelude.{◌^◌};
-    ghost use Rattle.rangemap.specs.StepLaws.{IsSigned, int_after, int_before, int_follows, int_precedes};
-
-    ghost is_key = { IsSigned (2 ^ 7) };
-
-    ghost after = { int_after (2 ^ 7) };
-
-    ghost before = { int_before (2 ^ 7) };
-
-    ghost follows = { int_follows (2 ^ 7) };
-
-    ghost precedes = { int_precedes (2 ^ 7) };
-
-    fn known(x: &i8) {
-        let _value = *x;
-    }
-
-    fn add_one(start: &i8) -> i8 {
-        *start + 1
-    }
-
-    fn sub_one(start: &i8) -> i8 {
-        *start - 1
-    }
-}
 
 /// A map over signed bytes by these steps.
 pub type SignedMap = RangeInclusiveMap<i8, bool, SignedSteps, Global>;

@@ -1,9 +1,9 @@
 //! Rows about inserts and removals, and what is found then.
 
 use super::Set;
-use crate::rows::tables::{SetChanged, check_inserts, check_removals};
-use crate::rows::{check_nothing, check_set, make_set};
 use rangemap::RangeInclusiveSet;
+use rows::tables::{SetChanged, check_inserts, check_removals};
+use rows::{check_nothing, check_set, make_set};
 use std::alloc::Global;
 use std::ops::RangeInclusive;
 use std::process::Abort;
@@ -22,7 +22,7 @@ fn ranges_with_no_key_between_are_joined(rt: HostRuntime) -> Result<(), Fail> {
             &[0..=4294967295],
         ),
     ];
-    check_inserts::<Set, _>(&rt, rt.alloc(), &rows)
+    check_inserts::<Set>(rt.alloc(), &rows)
 }
 
 #[test]
@@ -32,18 +32,14 @@ fn a_removal_cuts_what_it_meets(rt: HostRuntime) -> Result<(), Fail> {
         (&[0..=9], 3..=5, &[0..=2, 6..=9]),
         (&[0..=2, 6..=9], 4..=4, &[0..=2, 6..=9]),
     ];
-    check_removals::<Set, _>(&rt, rt.alloc(), &rows)
+    check_removals::<Set>(rt.alloc(), &rows)
 }
 
 #[test]
 fn a_byte_is_taken_out(rt: HostRuntime) -> Result<(), Fail> {
     let bytes = [0..=255u8];
     let left = [0..=127, 129..=255];
-    check_removals::<RangeInclusiveSet<u8, u8, Global>, _>(
-        &rt,
-        rt.alloc(),
-        &[(&bytes, 128..=128, &left)],
-    )
+    check_removals::<RangeInclusiveSet<u8, u8, Global>>(rt.alloc(), &[(&bytes, 128..=128, &left)])
 }
 
 #[test]
@@ -68,6 +64,6 @@ fn check_ranges<R: Abort>(rt: &R, set: &Set) -> Result<(), Fail> {
 fn an_empty_set_has_nothing(rt: HostRuntime) -> Result<(), Fail> {
     let mut set: Set = make_set(rt.alloc(), &[0..=100])?;
     set.clear();
-    check_nothing(&rt, &set, &5);
-    check_set(&rt, &set, &[])
+    check_nothing(&set, &5)?;
+    check_set(&set, &[])
 }

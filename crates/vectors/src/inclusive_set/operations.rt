@@ -1,10 +1,9 @@
 //! Rows about unions and intersections.
 
 use super::Set;
-use crate::inclusive_map::steps::SignedSteps;
-use crate::rows::{check_items, check_made_set, make_set};
 use rangemap::RangeInclusiveSet;
 use rangemap::inclusive_set::{Intersection, Iter, Union};
+use rows::{SignedSteps, check_items, check_made_set, make_set};
 use std::alloc::Global;
 use std::ops::RangeInclusive;
 use std::process::Abort;
@@ -64,8 +63,8 @@ fn check_union<R: Abort>(
     right: &Set,
     row: (Ranges<'_>, Ranges<'_>),
 ) -> Result<(), Fail> {
-    check_items::<Set, _, _>(rt, left.union(right), row.0)?;
-    check_made_set(rt, left | right, row.1)
+    check_items::<Set, _>(left.union(right), row.0)?;
+    check_made_set(left | right, row.1)
 }
 
 /// Compares the items of the intersection, and the set of `&`.
@@ -75,8 +74,8 @@ fn check_intersection<R: Abort>(
     right: &Set,
     row: Ranges<'_>,
 ) -> Result<(), Fail> {
-    check_items::<Set, _, _>(rt, left.intersection(right), row)?;
-    check_made_set(rt, left & right, row)
+    check_items::<Set, _>(left.intersection(right), row)?;
+    check_made_set(left & right, row)
 }
 
 #[test]
@@ -129,7 +128,7 @@ fn check_common<R: Abort>(
     right: &Set,
     row: Ranges<'_>,
 ) -> Result<(), Fail> {
-    check_items::<Set, _, _>(rt, Intersection::new(rest, right.iter()), row)
+    check_items::<Set, _>(Intersection::new(rest, right.iter()), row)
 }
 
 /// Compares what either the rest of a set or another set has.
@@ -139,7 +138,7 @@ fn check_either<R: Abort>(
     right: &Set,
     row: Ranges<'_>,
 ) -> Result<(), Fail> {
-    check_items::<Set, _, _>(rt, Union::new(rest, right.iter()), row)
+    check_items::<Set, _>(Union::new(rest, right.iter()), row)
 }
 
 /// A set of signed bytes by the steps of another type.
@@ -160,6 +159,6 @@ fn meet_at_the_end<R: AllocGlobal + Abort>(rt: &R, left: &SignedSet) -> Result<(
 
 /// Compares the items of the union and of the intersection.
 fn check_signed<R: Abort>(rt: &R, left: &SignedSet, right: &SignedSet) -> Result<(), Fail> {
-    check_items::<SignedSet, _, _>(rt, left.union(right), &[-128..=127])?;
-    check_items::<SignedSet, _, _>(rt, left.intersection(right), &[-1..=-1])
+    check_items::<SignedSet, _>(left.union(right), &[-128..=127])?;
+    check_items::<SignedSet, _>(left.intersection(right), &[-1..=-1])
 }

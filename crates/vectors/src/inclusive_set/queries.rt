@@ -1,11 +1,11 @@
 //! Rows about queries: which stored ranges a range overlaps, and which parts of it are free.
 
 use super::Set;
-use crate::rows::Call::Insert;
-use crate::rows::iterators::check_found_three;
-use crate::rows::make_set;
-use crate::rows::tables::{check_free, check_queries};
+use crate::iterators::check_found_three;
 use rangemap::RangeInclusiveSet;
+use rows::Call::Insert;
+use rows::make_set;
+use rows::tables::{check_free, check_queries};
 use std::alloc::Global;
 use std::process::Abort;
 use std::test::Fail;
@@ -18,8 +18,7 @@ fn what_nothing_covers_is_free(rt: HostRuntime) -> Result<(), Fail> {
         Insert(250..=255, ()),
         Insert(10..=249, ()),
     ];
-    check_free::<RangeInclusiveSet<u8, u8, Global>, _>(
-        &rt,
+    check_free::<RangeInclusiveSet<u8, u8, Global>>(
         rt.alloc(),
         &[
             (&ends, 0..=255, &[10..=249]),
@@ -52,8 +51,7 @@ fn take_gaps<R: Abort>(rt: &R, set: &Set) -> Result<(), Fail> {
 #[test]
 fn a_query_may_be_reversed(rt: HostRuntime) -> Result<(), Fail> {
     let (early, late) = ([Insert(3..=8, ())], [Insert(5..=8, ())]);
-    check_queries::<Set, _>(
-        &rt,
+    check_queries::<Set>(
         rt.alloc(),
         &[
             (&early, 6..=4, &[(3..=8, ())]),

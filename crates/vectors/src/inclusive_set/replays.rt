@@ -1,9 +1,9 @@
 //! Rows over sets of closed ranges made by both replays, where every call is accepted.
 
 use super::Set;
-use crate::rows::{check_gaps, check_replayed_sets};
 use rangemap::RangeInclusiveSet;
 use rangemap::inclusive_set::{Call, Change, replay, replay_with_step_fns};
+use rows::{check_gaps, check_replayed_sets};
 use std::alloc::Global;
 use std::test::Fail;
 
@@ -32,7 +32,6 @@ fn what_nothing_covers_is_free(rt: HostRuntime) -> Result<(), Fail> {
     let mut sets: Vec<Bytes, _> = Vec::new(rt.alloc());
     let answers = replay(rt.alloc(), &mut sets, calls);
     check_replayed_sets(
-        &rt,
         answers,
         &[true; 5],
         sets.as_slice(),
@@ -40,9 +39,9 @@ fn what_nothing_covers_is_free(rt: HostRuntime) -> Result<(), Fail> {
     )?;
     let (all, one) = (0..=255, 10..=10);
     if let [apart, joined] = sets.as_slice() {
-        check_gaps(&rt, apart, &all, &[10..=249])?;
-        check_gaps(&rt, apart, &one, &[10..=10])?;
-        check_gaps(&rt, joined, &all, &[])?;
+        check_gaps(apart, &all, &[10..=249])?;
+        check_gaps(apart, &one, &[10..=10])?;
+        check_gaps(joined, &all, &[])?;
     }
     Ok(())
 }
@@ -54,22 +53,24 @@ fn what_nothing_covers_is_free_by_own_steps(rt: HostRuntime) -> Result<(), Fail>
         Change::Insert {
             at: 0,
             range: 0..=9u8,
+            value: (),
         },
         Change::Insert {
             at: 0,
             range: 250..=255,
+            value: (),
         },
         Change::Clone { at: 0 },
         Change::Insert {
             at: 1,
             range: 10..=249,
+            value: (),
         },
     ];
     let changes = Vec::from_array(rt.alloc(), changes)?;
     let mut sets: Vec<Bytes, _> = Vec::new(rt.alloc());
     let answers = replay_with_step_fns(rt.alloc(), &mut sets, changes);
     check_replayed_sets(
-        &rt,
         answers,
         &[true; 5],
         sets.as_slice(),
@@ -77,9 +78,9 @@ fn what_nothing_covers_is_free_by_own_steps(rt: HostRuntime) -> Result<(), Fail>
     )?;
     let (all, one) = (0..=255, 10..=10);
     if let [apart, joined] = sets.as_slice() {
-        check_gaps(&rt, apart, &all, &[10..=249])?;
-        check_gaps(&rt, apart, &one, &[10..=10])?;
-        check_gaps(&rt, joined, &all, &[])?;
+        check_gaps(apart, &all, &[10..=249])?;
+        check_gaps(apart, &one, &[10..=10])?;
+        check_gaps(joined, &all, &[])?;
     }
     Ok(())
 }
@@ -109,7 +110,6 @@ fn two_sets_are_put_together(rt: HostRuntime) -> Result<(), Fail> {
     let mut sets: Vec<Set, _> = Vec::new(rt.alloc());
     let answers = replay(rt.alloc(), &mut sets, calls);
     check_replayed_sets(
-        &rt,
         answers,
         &[true; 7],
         sets.as_slice(),

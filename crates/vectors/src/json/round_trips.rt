@@ -23,7 +23,7 @@ fn maps_are_made_again(rt: HostRuntime) -> Result<(), Fail> {
             (write_number, write_number),
             (read_number, read_number),
         );
-        let Ok(again) = answer else {
+        let Ok((_, again)) = answer else {
             return Err(Fail::new("a map was not read again"));
         };
         assert!(rt; again == map);
@@ -49,7 +49,7 @@ fn closed_maps_are_made_again(rt: HostRuntime) -> Result<(), Fail> {
             (write_number, write_number),
             (read_number, read_number),
         );
-        let Ok(again) = answer else {
+        let Ok((_, again)) = answer else {
             return Err(Fail::new("a map was not read again"));
         };
         assert!(rt; again == map);

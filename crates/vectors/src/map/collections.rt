@@ -1,38 +1,27 @@
 //! Rows about maps that are made of pairs and of other maps, and that hand their pairs over.
 
-use crate::rows::iterators::check_counted_back;
-use crate::rows::{check_equal, check_made, check_row};
+use crate::iterators::check_counted_back;
 use rangemap::RangeMap;
+use rows::{check_equal, check_made, check_row};
 use std::test::Fail;
 
 #[test]
 fn equality_forgets_the_calls(rt: HostRuntime) -> Result<(), Fail> {
     let one = RangeMap::from(rt.alloc(), [(0u32..10, 'a'), (3..6, 'b'), (3..6, 'a')]);
-    check_equal(
-        &rt,
-        one,
-        RangeMap::from(rt.alloc(), [(0u32..10, 'a')]),
-        true,
-    )?;
+    check_equal(one, RangeMap::from(rt.alloc(), [(0u32..10, 'a')]), true)?;
     let shorter = RangeMap::from(rt.alloc(), [(0u32..5, 'a')]);
-    check_equal(
-        &rt,
-        shorter,
-        RangeMap::from(rt.alloc(), [(0u32..6, 'a')]),
-        false,
-    )
+    check_equal(shorter, RangeMap::from(rt.alloc(), [(0u32..6, 'a')]), false)
 }
 
 #[test]
 fn pairs_are_inserted_in_order(rt: HostRuntime) -> Result<(), Fail> {
     let map = RangeMap::from(rt.alloc(), [(0u32..10, 'a'), (3..6, 'b')])?;
-    check_row(&rt, &map, &[(0..3, 'a'), (3..6, 'b'), (6..10, 'a')])?;
+    check_row(&map, &[(0..3, 'a'), (3..6, 'b'), (6..10, 'a')])?;
     let copy = map.clone()?;
     assert!(rt; copy == map);
     let mut map = map;
     map.extend((1u32..3).map(|i| (10 * i..10 * i + 5, 'c')))?;
     check_row(
-        &rt,
         &map,
         &[
             (0..3, 'a'),
@@ -43,14 +32,14 @@ fn pairs_are_inserted_in_order(rt: HostRuntime) -> Result<(), Fail> {
         ],
     )?;
     let made = RangeMap::from_iter(rt.alloc(), (0u32..3).map(|i| (0..i + 1, 'd')));
-    check_made(&rt, made, &[(0..3, 'd')])
+    check_made(made, &[(0..3, 'd')])
 }
 
 #[test]
 fn an_array_and_a_chain_are_taken(rt: HostRuntime) -> Result<(), Fail> {
     let mut map = RangeMap::new(rt.alloc());
     map.extend([(0u32..5, 'a'), (5..9, 'b')])?;
-    check_row(&rt, &map, &[(0..5, 'a'), (5..9, 'b')])?;
+    check_row(&map, &[(0..5, 'a'), (5..9, 'b')])?;
     map.extend((1..100u32).map(|i| (10 * i..10 * i + 5, 'c')))?;
     assert_eq!(rt; map.len(), 101);
     Ok(())

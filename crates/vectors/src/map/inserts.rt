@@ -1,46 +1,43 @@
 //! Rows about `insert`, and about what the map then answers.
 ghost use Rattle.rangemap.specs.Clones.{KeysCloneFaithfully, ValuesCloneFaithfully};
 
-use super::Map;
-use crate::rows::Call::Insert;
-use crate::rows::tables::{Changed, check_changes};
-use crate::rows::{InRows, check_row, make};
-use rangemap::RangeMap;
-use std::alloc::{AllocGlobal, Global};
+use super::{Map, TreeMap};
+use rangemap::{RangeMap, tree_map};
+use rows::Call::Insert;
+use rows::tables::{Changed, check_changes};
+use rows::{InRows, check_row, make};
+use std::alloc::Global;
 use std::ops::Range;
-use std::process::Abort;
 use std::test::Fail;
 
 #[test]
 fn what_is_covered_is_replaced(rt: HostRuntime) -> Result<(), Fail> {
-    check_replaced::<RangeMap<u32, bool, Global>, _>(&rt)
+    check_replaced::<RangeMap<u32, bool, Global>>(rt.alloc())?;
+    check_replaced::<tree_map::RangeMap<u32, bool, Global>>(rt.alloc())
 }
 
 /// An insert inside a stored range, and one of its own value back.
-pub fn check_replaced<M, R: AllocGlobal + Abort>(rt: &R) -> Result<(), Fail>
+fn check_replaced<M>(alloc: Global) -> Result<(), Fail>
 where
     M: InRows<RowRange = Range<u32>, RowValue = bool, Alloc = Global>,
     requires faithful_keys { KeysCloneFaithfully M.Key.is_clone M.Key.cmp }
     requires faithful_values { ValuesCloneFaithfully M.Value.is_clone M.Value.eq }
 {
-    let mut map = M::empty(rt.alloc());
-    make(
-        &mut map,
-        rt.alloc(),
-        &[Insert(0..10, false), Insert(3..6, true)],
-    )?;
-    check_row(rt, &map, &[(0..3, false), (3..6, true), (6..10, false)])?;
-    make(&mut map, rt.alloc(), &[Insert(3..6, false)])?;
-    check_row(rt, &map, &[(0..10, false)])
+    let mut map = M::empty(alloc);
+    make(&mut map, alloc, &[Insert(0..10, false), Insert(3..6, true)])?;
+    check_row(&map, &[(0..3, false), (3..6, true), (6..10, false)])?;
+    make(&mut map, alloc, &[Insert(3..6, false)])?;
+    check_row(&map, &[(0..10, false)])
 }
 
 #[test]
 fn pieces_are_kept_and_joined(rt: HostRuntime) -> Result<(), Fail> {
-    check_joined::<Map, _>(&rt)
+    check_joined::<Map>(rt.alloc())?;
+    check_joined::<TreeMap>(rt.alloc())
 }
 
 /// Inserts that touch, fill what is free and cover what is stored.
-pub fn check_joined<M, R: AllocGlobal + Abort>(rt: &R) -> Result<(), Fail>
+fn check_joined<M>(alloc: Global) -> Result<(), Fail>
 where
     M: InRows<RowRange = Range<u32>, RowValue = char, Alloc = Global>,
     requires faithful_keys { KeysCloneFaithfully M.Key.is_clone M.Key.cmp }
@@ -74,17 +71,18 @@ where
             &[(0..10, 'a')],
         ),
     ];
-    check_changes::<M, _>(rt, rt.alloc(), &rows)
+    check_changes::<M>(alloc, &rows)
 }
 
 #[test]
 fn an_insert_covers_several(rt: HostRuntime) -> Result<(), Fail> {
-    check_covered::<Map, _>(&rt)
+    check_covered::<Map>(rt.alloc())?;
+    check_covered::<TreeMap>(rt.alloc())
 }
 
 /// An insert that covers all of three pairs and parts of two, and one that covers all of two that
 /// touch, of which it has the value of one.
-pub fn check_covered<M, R: AllocGlobal + Abort>(rt: &R) -> Result<(), Fail>
+fn check_covered<M>(alloc: Global) -> Result<(), Fail>
 where
     M: InRows<RowRange = Range<u32>, RowValue = char, Alloc = Global>,
     requires faithful_keys { KeysCloneFaithfully M.Key.is_clone M.Key.cmp }
@@ -107,7 +105,7 @@ where
             &[(2..8, 'b')],
         ),
     ];
-    check_changes::<M, _>(rt, rt.alloc(), &rows)
+    check_changes::<M>(alloc, &rows)
 }
 
 /// A number with a note. The number alone decides whether two are equal.
@@ -139,15 +137,16 @@ impl Eq for Noted {
 
 #[test]
 fn the_newest_of_equal_values_stays(rt: HostRuntime) -> Result<(), Fail> {
-    check_newest::<RangeMap<u32, Noted, Global>, _>(&rt)
+    check_newest::<RangeMap<u32, Noted, Global>>(rt.alloc())?;
+    check_newest::<tree_map::RangeMap<u32, Noted, Global>>(rt.alloc())
 }
 
 /// Two inserts that touch, whose values are equal in part.
-pub fn check_newest<M, R: AllocGlobal + Abort>(rt: &R) -> Result<(), Fail>
+fn check_newest<M>(alloc: Global) -> Result<(), Fail>
 where
     M: InRows<Key = u32, Value = Noted, RowRange = Range<u32>, RowValue = Noted, Alloc = Global>,
 {
-    let mut map = M::empty(rt.alloc());
+    let mut map = M::empty(alloc);
     let old = Noted {
         number: 1,
         note: "x",
@@ -156,13 +155,12 @@ where
         number: 1,
         note: "y",
     };
-    make(
-        &mut map,
-        rt.alloc(),
-        &[Insert(0..4, old), Insert(4..8, new)],
-    )?;
-    check_row(rt, &map, &[(0..8, new)])?;
+    make(&mut map, alloc, &[Insert(0..4, old), Insert(4..8, new)])?;
+    check_row(&map, &[(0..8, new)])?;
     let noted = map.get(&0).ok_or("0 is covered")?;
-    assert_eq!(rt; noted.note, "y");
-    Ok(())
+    if noted.note == "y" {
+        Ok(())
+    } else {
+        Err(Fail::new("the older value stayed"))
+    }
 }

@@ -1,55 +1,54 @@
 //! Rows about calls that only ask.
 ghost use Rattle.rangemap.specs.Clones.{KeysCloneFaithfully, ValuesCloneFaithfully};
 
-use super::Map;
-use crate::rows::Call::{Insert, Remove};
-use crate::rows::{InRows, check_nothing, check_row, make};
-use std::alloc::{AllocGlobal, Global};
+use super::{Map, TreeMap};
+use rows::Call::{Insert, Remove};
+use rows::{InRows, check_nothing, check_row, make};
+use std::alloc::Global;
 use std::ops::Range;
 use std::process::Abort;
 use std::test::Fail;
 
 #[test]
 fn an_empty_map_has_nothing(rt: HostRuntime) -> Result<(), Fail> {
-    check_empty::<Map, _>(&rt)
+    check_empty::<Map>(rt.alloc())?;
+    check_empty::<TreeMap>(rt.alloc())
 }
 
 /// An empty map, of which a range is taken out.
-pub fn check_empty<M, R: AllocGlobal + Abort>(rt: &R) -> Result<(), Fail>
+fn check_empty<M>(alloc: Global) -> Result<(), Fail>
 where
     M: InRows<Key = u32, RowRange = Range<u32>, RowValue = char, Alloc = Global>,
     requires faithful_values { ValuesCloneFaithfully M.Value.is_clone M.Value.eq }
 {
-    let mut map = M::empty(rt.alloc());
-    make(&mut map, rt.alloc(), &[Remove(0..3)])?;
-    check_nothing(rt, &map, &5);
-    check_row(rt, &map, &[])
+    let mut map = M::empty(alloc);
+    make(&mut map, alloc, &[Remove(0..3)])?;
+    check_nothing(&map, &5)?;
+    check_row(&map, &[])
 }
 
 #[test]
 fn the_range_that_has_a_key_is_found(rt: HostRuntime) -> Result<(), Fail> {
-    let map: Map = make_two(&rt)?;
+    let map: Map = make_two(rt.alloc())?;
+    check_two(&rt, &map)?;
+    let map: TreeMap = make_two(rt.alloc())?;
     check_two(&rt, &map)
 }
 
 /// A map of two pairs.
-pub fn make_two<M, R: AllocGlobal>(rt: &R) -> Result<M, Fail>
+fn make_two<M>(alloc: Global) -> Result<M, Fail>
 where
     M: InRows<RowRange = Range<u32>, RowValue = char, Alloc = Global>,
     requires faithful_keys { KeysCloneFaithfully M.Key.is_clone M.Key.cmp }
     requires faithful_values { ValuesCloneFaithfully M.Value.is_clone M.Value.eq }
 {
-    let mut map = M::empty(rt.alloc());
-    make(
-        &mut map,
-        rt.alloc(),
-        &[Insert(0..10, 'a'), Insert(20..30, 'b')],
-    )?;
+    let mut map = M::empty(alloc);
+    make(&mut map, alloc, &[Insert(0..10, 'a'), Insert(20..30, 'b')])?;
     Ok(map)
 }
 
 /// Looks keys up by the map's own calls.
-pub fn check_two<M, R: Abort>(rt: &R, map: &M) -> Result<(), Fail>
+fn check_two<M, R: Abort>(rt: &R, map: &M) -> Result<(), Fail>
 where
     M: InRows<Key = u32, Range = Range<u32>, Value = char>,
 {

@@ -1,25 +1,26 @@
 //! Rows about queries: which stored pairs a range overlaps, and which parts of it are free.
 ghost use Rattle.rangemap.specs.Clones.{KeysCloneFaithfully, ValuesCloneFaithfully};
 
-use super::Map;
-use crate::rows::Call::Insert;
-use crate::rows::iterators::check_found_three;
-use crate::rows::tables::{Free, Overlapped, check_free, check_queries};
-use crate::rows::{InRows, make};
+use super::{Map, TreeMap};
+use crate::iterators::check_found_three;
 use rangemap::RangeMap;
 use rangemap::laws::iterators::StaysEndedAtBack;
-use std::alloc::{AllocGlobal, Global};
+use rows::Call::Insert;
+use rows::tables::{Free, Overlapped, check_free, check_queries};
+use rows::{InRows, make};
+use std::alloc::Global;
 use std::ops::Range;
 use std::process::Abort;
 use std::test::Fail;
 
 #[test]
 fn what_a_query_overlaps_is_found(rt: HostRuntime) -> Result<(), Fail> {
-    check_overlapped::<Map, _>(&rt)
+    check_overlapped::<Map>(rt.alloc())?;
+    check_overlapped::<TreeMap>(rt.alloc())
 }
 
 /// Queries that are empty, reversed or touch.
-pub fn check_overlapped<M, R: AllocGlobal + Abort>(rt: &R) -> Result<(), Fail>
+fn check_overlapped<M>(alloc: Global) -> Result<(), Fail>
 where
     M: InRows<Range = Range<u32>, RowRange = Range<u32>, RowValue = char, Alloc = Global>,
     requires faithful_keys { KeysCloneFaithfully M.Key.is_clone M.Key.cmp }
@@ -38,28 +39,30 @@ where
             &[(0..2, 'a'), (2..4, 'b')],
         ),
     ];
-    check_queries::<M, _>(rt, rt.alloc(), &rows)
+    check_queries::<M>(alloc, &rows)
 }
 
 #[test]
 fn overlapping_pairs_come_from_both_ends(rt: HostRuntime) -> Result<(), Fail> {
-    let map: Map = make_four(&rt)?;
     let query = 1..8;
+    let map: Map = make_four(rt.alloc())?;
+    check_three(&rt, map.overlapping(&query));
+    let map: TreeMap = make_four(rt.alloc())?;
     check_three(&rt, map.overlapping(&query));
     Ok(())
 }
 
 /// A map of four pairs, of which 1 to 8 overlaps three.
-pub fn make_four<M, R: AllocGlobal>(rt: &R) -> Result<M, Fail>
+fn make_four<M>(alloc: Global) -> Result<M, Fail>
 where
     M: InRows<RowRange = Range<u32>, RowValue = char, Alloc = Global>,
     requires faithful_keys { KeysCloneFaithfully M.Key.is_clone M.Key.cmp }
     requires faithful_values { ValuesCloneFaithfully M.Value.is_clone M.Value.eq }
 {
-    let mut map = M::empty(rt.alloc());
+    let mut map = M::empty(alloc);
     make(
         &mut map,
-        rt.alloc(),
+        alloc,
         &[
             Insert(0..2, 'a'),
             Insert(2..4, 'b'),
@@ -71,7 +74,7 @@ where
 }
 
 /// Takes these three from both ends, and asks on.
-pub fn check_three<'a, I, R: Abort>(rt: &R, found: I)
+fn check_three<'a, I, R: Abort>(rt: &R, found: I)
 where
     I: StaysEndedAtBack<Item = (&'a Range<u32>, &'a char)>,
 {
@@ -81,11 +84,12 @@ where
 
 #[test]
 fn what_nothing_covers_is_free(rt: HostRuntime) -> Result<(), Fail> {
-    check_uncovered::<Map, _>(&rt)
+    check_uncovered::<Map>(rt.alloc())?;
+    check_uncovered::<TreeMap>(rt.alloc())
 }
 
 /// Gaps before, between and behind stored ranges.
-pub fn check_uncovered<M, R: AllocGlobal + Abort>(rt: &R) -> Result<(), Fail>
+fn check_uncovered<M>(alloc: Global) -> Result<(), Fail>
 where
     M: InRows<Range = Range<u32>, RowRange = Range<u32>, RowValue = char, Alloc = Global>,
     requires faithful_keys { KeysCloneFaithfully M.Key.is_clone M.Key.cmp }
@@ -103,7 +107,7 @@ where
         (&[Insert(1..3, 'a'), Insert(5..7, 'a')], 4..4, &[]),
         (&[Insert(1..3, 'a'), Insert(5..7, 'a')], 8..0, &[]),
     ];
-    check_free::<M, _>(rt, rt.alloc(), &rows)
+    check_free::<M>(alloc, &rows)
 }
 
 #[test]

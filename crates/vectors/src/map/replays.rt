@@ -1,7 +1,7 @@
 //! Rows made by `replay`, where every call is accepted, and calls that name no map.
 
-use crate::rows::check_replayed;
 use rangemap::map::{Call, Change, replay};
+use rows::check_replayed;
 use std::test::Fail;
 
 #[test]
@@ -23,7 +23,6 @@ fn insert_inside_and_back(rt: HostRuntime) -> Result<(), Fail> {
     let mut maps = Vec::new(rt.alloc());
     let answers = replay(rt.alloc(), &mut maps, calls);
     check_replayed(
-        &rt,
         answers,
         &[true; 3],
         maps.as_slice(),
@@ -36,7 +35,7 @@ fn insert_inside_and_back(rt: HostRuntime) -> Result<(), Fail> {
     })];
     let calls = Vec::from_array(rt.alloc(), calls)?;
     let answers = replay(rt.alloc(), &mut maps, calls);
-    check_replayed(&rt, answers, &[true], maps.as_slice(), &[&[(0..10, false)]])
+    check_replayed(answers, &[true], maps.as_slice(), &[&[(0..10, false)]])
 }
 
 #[test]
@@ -63,7 +62,6 @@ fn two_that_touch(rt: HostRuntime) -> Result<(), Fail> {
     let mut maps = Vec::new(rt.alloc());
     let answers = replay(rt.alloc(), &mut maps, calls);
     check_replayed(
-        &rt,
         answers,
         &[true; 4],
         maps.as_slice(),
@@ -87,7 +85,6 @@ fn remove_inside(rt: HostRuntime) -> Result<(), Fail> {
     let mut maps = Vec::new(rt.alloc());
     let answers = replay(rt.alloc(), &mut maps, calls);
     check_replayed(
-        &rt,
         answers,
         &[true; 4],
         maps.as_slice(),
@@ -120,7 +117,6 @@ fn maps_of_maps_and_of_pairs(rt: HostRuntime) -> Result<(), Fail> {
     let mut maps = Vec::new(rt.alloc());
     let answers = replay(rt.alloc(), &mut maps, calls);
     check_replayed(
-        &rt,
         answers,
         &[true, true, true, true, false, false, false],
         maps.as_slice(),

@@ -1,8 +1,8 @@
 //! A set of characters, whose ranges touch over the surrogates.
 
-use crate::rows::Call::Insert;
-use crate::rows::tables::{check_free, check_inserts, check_removals};
 use rangemap::RangeInclusiveSet;
+use rows::Call::Insert;
+use rows::tables::{check_free, check_inserts, check_removals};
 use std::alloc::Global;
 use std::test::Fail;
 
@@ -11,8 +11,7 @@ type Chars = RangeInclusiveSet<char, char, Global>;
 
 #[test]
 fn characters_touch_over_the_surrogates(rt: HostRuntime) -> Result<(), Fail> {
-    check_inserts::<Chars, _>(
-        &rt,
+    check_inserts::<Chars>(
         rt.alloc(),
         &[(
             &['\u{0}'..='\u{D7FF}'],
@@ -20,21 +19,16 @@ fn characters_touch_over_the_surrogates(rt: HostRuntime) -> Result<(), Fail> {
             &['\u{0}'..='\u{10FFFF}'],
         )],
     )?;
-    check_removals::<Chars, _>(
-        &rt,
+    check_removals::<Chars>(
         rt.alloc(),
         &[(
             &['\u{0}'..='\u{D7FF}', '\u{E000}'..='\u{10FFFF}'],
             '\u{E000}'..='\u{E000}',
             &['\u{0}'..='\u{D7FF}', '\u{E001}'..='\u{10FFFF}'],
         )],
-    )
-}
-
-#[test]
-fn a_gap_goes_over_the_surrogates(rt: HostRuntime) -> Result<(), Fail> {
-    check_free::<Chars, _>(
-        &rt,
+    )?;
+    // A gap goes over the surrogates too.
+    check_free::<Chars>(
         rt.alloc(),
         &[(
             &[

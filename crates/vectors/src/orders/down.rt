@@ -8,8 +8,11 @@ ghost use Rattle.std.specs.Ordering.{as_partial_cmp, nat_cmp, on};
 ghost use Rattle.rangemap.specs.StepLaws.{held_follows, held_precedes, nat_after, nat_before, nat_follows, nat_precedes};
 ghost use Rattle.vectors.specs.Reversed.{reversed, reversed_follows, reversed_precedes};
 
-use rangemap::StepLite;
+use rangemap::{RangeInclusiveSet, StepLite};
+use rows::tables::check_inserts;
+use std::alloc::Global;
 use std::cmp::Ordering;
+use std::test::Fail;
 
 /// A byte, in the order in which the greater comes first.
 #[derive(Clone, Copy, Debug)]
@@ -77,33 +80,23 @@ impl StepLite for Down {
     }
 }
 
-#[cfg(test)]
-mod tests {
-    use super::Down;
-    use crate::rows::tables::check_inserts;
-    use rangemap::{RangeInclusiveSet, StepLite};
-    use std::alloc::Global;
-    use std::test::Fail;
+/// The key after one that has a greater.
+fn step_up<K: StepLite>(key: &K, greater: &K) -> K
+    requires { K.cmp key.now greater.now ≡ Less }
+{
+    greater.known();
+    key.add_one()
+}
 
-    /// The key after one that has a greater.
-    fn step_up<K: StepLite>(key: &K, greater: &K) -> K
-        requires { K.cmp key.now greater.now ≡ Less }
-    {
-        greater.known();
-        key.add_one()
-    }
-
-    #[test]
-    fn a_reversed_order_goes_down(rt: HostRuntime) -> Result<(), Fail> {
-        assert_eq!(rt; step_up(&Down(5), &Down(0)), Down(4));
-        check_inserts::<RangeInclusiveSet<Down, Down, Global>, _>(
-            &rt,
-            rt.alloc(),
-            &[(
-                &[Down(255)..=Down(128)],
-                Down(127)..=Down(0),
-                &[Down(255)..=Down(0)],
-            )],
-        )
-    }
+#[test]
+fn a_reversed_order_goes_down(rt: HostRuntime) -> Result<(), Fail> {
+    assert_eq!(rt; step_up(&Down(5), &Down(0)), Down(4));
+    check_inserts::<RangeInclusiveSet<Down, Down, Global>>(
+        rt.alloc(),
+        &[(
+            &[Down(255)..=Down(128)],
+            Down(127)..=Down(0),
+            &[Down(255)..=Down(0)],
+        )],
+    )
 }

@@ -2,8 +2,8 @@
 ghost use Rattle.rangemap.specs.Clones.{KeysCloneFaithfully};
 
 use super::down::Down;
-use crate::inclusive_map::filled;
 use rangemap::{RangeInclusiveSet, StepLite};
+use rows::closed;
 use std::alloc::Global;
 use std::fmt::Debug;
 use std::ops::RangeInclusive;
@@ -44,7 +44,7 @@ fn fill<K: StepLite + Clone + Copy + Debug, R: Abort>(
 ) -> Result<(), Fail>
     requires { KeysCloneFaithfully K.is_clone K.cmp }
 {
-    let all = filled(ends.min, ends.max)?;
+    let all = closed(ends.min, ends.max)?;
     set.insert(all)?;
     let whole = ends.min..=ends.max;
     assert_whole(rt, set, &whole)?;
@@ -60,8 +60,8 @@ fn take_ends<K: StepLite + Clone + Copy + Debug, R: Abort>(
 ) -> Result<(), Fail>
     requires { KeysCloneFaithfully K.is_clone K.cmp }
 {
-    let first = filled(ends.min, ends.min)?;
-    let last = filled(ends.max, ends.max)?;
+    let first = closed(ends.min, ends.min)?;
+    let last = closed(ends.max, ends.max)?;
     set.remove(last)?;
     set.remove(first)?;
     assert_whole(rt, set, &(ends.second..=ends.last_but_one))?;
@@ -92,8 +92,8 @@ fn give_back_ends<K: StepLite + Clone + Copy + Debug, R: Abort>(
 ) -> Result<(), Fail>
     requires { KeysCloneFaithfully K.is_clone K.cmp }
 {
-    let first = filled(ends.min, ends.min)?;
-    let last = filled(ends.max, ends.max)?;
+    let first = closed(ends.min, ends.min)?;
+    let last = closed(ends.max, ends.max)?;
     set.insert(first)?;
     set.insert(last)?;
     assert_whole(rt, set, &(ends.min..=ends.max))

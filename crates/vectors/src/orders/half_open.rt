@@ -1,7 +1,7 @@
 //! Maps over half-open ranges of keys that are no integers.
 
-use crate::map::filled;
 use rangemap::RangeMap;
+use rows::filled;
 use std::alloc::{AllocError, AllocGlobal, Global};
 use std::process::Abort;
 use std::test::Fail;

@@ -2,7 +2,11 @@
 ghost use Rattle.std.specs.Prelude.{◌^◌};
 ghost use Rattle.vectors.specs.Pairs.{IsPair, pair_after, pair_before, pair_follows, pair_precedes};
 
-use rangemap::StepFns;
+use rangemap::{RangeInclusiveSet, StepFns};
+use rows::Call::Insert;
+use rows::tables::{check_free, check_inserts, check_removals};
+use std::alloc::Global;
+use std::test::Fail;
 
 /// The steps of pairs of bytes: behind `(1, 255)` comes `(2, 0)`.
 pub struct PairSteps;
@@ -40,46 +44,31 @@ impl StepFns<(u8, u8)> for PairSteps {
     }
 }
 
-#[cfg(test)]
-mod tests {
-    use super::PairSteps;
-    use crate::rows::Call::Insert;
-    use crate::rows::tables::{check_free, check_inserts, check_removals};
-    use rangemap::RangeInclusiveSet;
-    use std::alloc::Global;
-    use std::test::Fail;
+/// Pairs of bytes.
+type Pairs = RangeInclusiveSet<(u8, u8), PairSteps, Global>;
 
-    /// Pairs of bytes.
-    type Pairs = RangeInclusiveSet<(u8, u8), PairSteps, Global>;
-
-    #[test]
-    fn pairs_touch_over_their_second_byte(rt: HostRuntime) -> Result<(), Fail> {
-        check_inserts::<Pairs, _>(
-            &rt,
-            rt.alloc(),
-            &[(&[(0, 0)..=(1, 255)], (2, 0)..=(2, 0), &[(0, 0)..=(2, 0)])],
-        )
-    }
-
-    #[test]
-    fn the_last_pair_is_not_stepped_past(rt: HostRuntime) -> Result<(), Fail> {
-        check_free::<Pairs, _>(
-            &rt,
-            rt.alloc(),
-            &[(
-                &[Insert((0, 0)..=(2, 0), ()), Insert((2, 2)..=(255, 255), ())],
-                (0, 0)..=(255, 255),
-                &[(2, 1)..=(2, 1)],
-            )],
-        )?;
-        check_removals::<Pairs, _>(
-            &rt,
-            rt.alloc(),
-            &[(
-                &[(0, 0)..=(2, 0), (2, 2)..=(255, 255)],
-                (255, 255)..=(255, 255),
-                &[(0, 0)..=(2, 0), (2, 2)..=(255, 254)],
-            )],
-        )
-    }
+#[test]
+fn pairs_are_stepped_through(rt: HostRuntime) -> Result<(), Fail> {
+    // Pairs touch over their second byte.
+    check_inserts::<Pairs>(
+        rt.alloc(),
+        &[(&[(0, 0)..=(1, 255)], (2, 0)..=(2, 0), &[(0, 0)..=(2, 0)])],
+    )?;
+    // The last pair is not stepped past.
+    check_free::<Pairs>(
+        rt.alloc(),
+        &[(
+            &[Insert((0, 0)..=(2, 0), ()), Insert((2, 2)..=(255, 255), ())],
+            (0, 0)..=(255, 255),
+            &[(2, 1)..=(2, 1)],
+        )],
+    )?;
+    check_removals::<Pairs>(
+        rt.alloc(),
+        &[(
+            &[(0, 0)..=(2, 0), (2, 2)..=(255, 255)],
+            (255, 255)..=(255, 255),
+            &[(0, 0)..=(2, 0), (2, 2)..=(255, 254)],
+        )],
+    )
 }

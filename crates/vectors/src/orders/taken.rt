@@ -3,6 +3,7 @@
 use rangemap::RangeInclusiveMap;
 use std::alloc::{AllocError, Global};
 use std::ops::RangeInclusive;
+use std::test::Fail;
 
 /// Takes the first key of a range, and gives the rest of it the value.
 pub fn insert_rest(
@@ -17,19 +18,12 @@ pub fn insert_rest(
     Ok(first)
 }
 
-#[cfg(test)]
-mod tests {
-    use super::insert_rest;
-    use rangemap::RangeInclusiveMap;
-    use std::test::Fail;
-
-    #[test]
-    fn the_rest_of_a_range_is_inserted(rt: HostRuntime) -> Result<(), Fail> {
-        let mut map = RangeInclusiveMap::new(rt.alloc());
-        assert_eq!(rt; insert_rest(&mut map, 3..=7)?, Some(3));
-        assert_eq!(rt; map.first_range_value(), Some((&(4..=7), &true)));
-        assert_eq!(rt; insert_rest(&mut map, 9..=9)?, Some(9));
-        assert_eq!(rt; map.len(), 1);
-        Ok(())
-    }
+#[test]
+fn the_rest_of_a_range_is_inserted(rt: HostRuntime) -> Result<(), Fail> {
+    let mut map = RangeInclusiveMap::new(rt.alloc());
+    assert_eq!(rt; insert_rest(&mut map, 3..=7)?, Some(3));
+    assert_eq!(rt; map.first_range_value(), Some((&(4..=7), &true)));
+    assert_eq!(rt; insert_rest(&mut map, 9..=9)?, Some(9));
+    assert_eq!(rt; map.len(), 1);
+    Ok(())
 }

@@ -1,7 +1,7 @@
 //! What a map over closed ranges gives of its pairs: their count, and the newest of equal values.
 
+use crate::iterators::check_counted;
 use crate::map::inserts::Noted;
-use crate::rows::iterators::check_counted;
 use rangemap::RangeInclusiveMap;
 use std::test::Fail;
 

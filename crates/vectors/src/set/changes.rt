@@ -1,8 +1,8 @@
 //! Rows about inserts and removals, and what is found then.
 
 use super::Set;
-use crate::rows::tables::{SetChanged, check_inserts, check_removals};
-use crate::rows::{check_nothing, check_set, make_set};
+use rows::tables::{SetChanged, check_inserts, check_removals};
+use rows::{check_nothing, check_set, make_set};
 use std::ops::Range;
 use std::process::Abort;
 use std::test::Fail;
@@ -16,7 +16,7 @@ fn ranges_that_overlap_or_touch_are_joined(rt: HostRuntime) -> Result<(), Fail> 
         (&[0..3, 6..9], 3..7, &[0..9]),
         (&[0..10], 3..6, &[0..10]),
     ];
-    check_inserts::<Set, _>(&rt, rt.alloc(), &rows)
+    check_inserts::<Set>(rt.alloc(), &rows)
 }
 
 #[test]
@@ -27,7 +27,7 @@ fn a_removal_cuts_what_it_meets(rt: HostRuntime) -> Result<(), Fail> {
         (&[0..10, 20..30], 5..25, &[0..5, 25..30]),
         (&[0..3, 6..10], 4..5, &[0..3, 6..10]),
     ];
-    check_removals::<Set, _>(&rt, rt.alloc(), &rows)
+    check_removals::<Set>(rt.alloc(), &rows)
 }
 
 #[test]
@@ -52,6 +52,6 @@ fn check_ranges<R: Abort>(rt: &R, set: &Set) -> Result<(), Fail> {
 fn an_empty_set_has_nothing(rt: HostRuntime) -> Result<(), Fail> {
     let mut set: Set = make_set(rt.alloc(), &[0..100])?;
     set.clear();
-    check_nothing(&rt, &set, &5);
-    check_set(&rt, &set, &[])
+    check_nothing(&set, &5)?;
+    check_set(&set, &[])
 }

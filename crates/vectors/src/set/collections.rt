@@ -1,9 +1,9 @@
 //! Rows about sets that are made of ranges and of other sets, and that hand their ranges over.
 
 use super::Set;
-use crate::rows::iterators::{check_counted, check_counted_back};
-use crate::rows::{check_equality, check_made_set, check_set, make_set};
+use crate::iterators::{check_counted, check_counted_back};
 use rangemap::{RangeSet, range_set};
+use rows::{check_equality, check_made_set, check_set, make_set};
 use std::alloc::AllocError;
 use std::process::Abort;
 use std::test::Fail;
@@ -18,9 +18,9 @@ fn equality_forgets_the_calls(rt: HostRuntime) -> Result<(), Fail> {
 
 /// Compares a set with equal and with other ones.
 fn check_others<R: AllocGlobal + Abort>(rt: &R, set: &Set) -> Result<(), Fail> {
-    check_equality(rt, rt.alloc(), set, &[0..10], true)?;
-    check_equality(rt, rt.alloc(), set, &[0..9], false)?;
-    check_equality(rt, rt.alloc(), set, &[0..10, 11..12], false)
+    check_equality(rt.alloc(), set, &[0..10], true)?;
+    check_equality(rt.alloc(), set, &[0..9], false)?;
+    check_equality(rt.alloc(), set, &[0..10, 11..12], false)
 }
 
 #[test]
@@ -31,26 +31,26 @@ fn ranges_are_inserted_in_order(rt: HostRuntime) -> Result<(), Fail> {
 
 /// Extends a set, which leaves a copy of it as it was.
 fn extend_beside_a_copy<R: Abort>(rt: &R, set: &mut Set) -> Result<(), Fail> {
-    check_set(rt, set, &[0..9])?;
+    check_set(set, &[0..9])?;
     let copy = set.clone()?;
     assert!(rt; copy == *set);
     set.extend((1u32..3).map(|i| 10 * i..10 * i + 5))?;
-    check_set(rt, set, &[0..9, 10..15, 20..25])?;
-    check_set(rt, &copy, &[0..9])
+    check_set(set, &[0..9, 10..15, 20..25])?;
+    check_set(&copy, &[0..9])
 }
 
 #[test]
 fn a_set_is_made_of_an_iterator(rt: HostRuntime) -> Result<(), Fail> {
     let made = RangeSet::from_iter(rt.alloc(), (0u32..3).map(|i| 10 * i..10 * i + 5));
-    check_made_set(&rt, made, &[0..5, 10..15, 20..25])
+    check_made_set(made, &[0..5, 10..15, 20..25])
 }
 
 #[test]
 fn a_list_makes_a_set(rt: HostRuntime) -> Result<(), Fail> {
     let made = range_set![in rt.alloc(); 0u32..100, 200..300, 400..500];
-    check_made_set(&rt, made, &[0..100, 200..300, 400..500])?;
+    check_made_set(made, &[0..100, 200..300, 400..500])?;
     let none: Result<Set, AllocError> = range_set![in rt.alloc();];
-    check_made_set(&rt, none, &[])
+    check_made_set(none, &[])
 }
 
 #[test]

@@ -1,12 +1,12 @@
 //! The laws of iterators, run on those of maps and sets: each ends and stays ended.
 
 use super::Set;
-use crate::rows::make_set;
 use rangemap::RangeMap;
 use rangemap::laws::iterators::{
-    StaysEnded, StaysEndedAtBack, StaysEndedByTries, next_back_ends_both_ends, next_ends_both_ends,
+    StaysEndedAtBack, StaysEndedByTries, next_back_ends_both_ends, next_ends_both_ends,
     next_ends_tries, next_stays_ended, try_next_ends_tries,
 };
+use rows::make_set;
 use std::process::Abort;
 use std::test::Fail;
 
@@ -30,9 +30,10 @@ where
     requires items { I.can_next items }
     requires ranges { I.can_next ranges }
 {
-    let (item, tried) = next_ends_tries(&mut items);
+    let (item, tried, last) = next_ends_tries(&mut items);
     assert!(rt; item.is_some());
     assert!(rt; matches!(&tried, Ok(None)));
+    assert!(rt; last.is_none());
     let (range, again, item) = try_next_ends_tries(&mut ranges);
     assert!(rt; matches!(&range, Ok(Some(_))));
     assert!(rt; matches!(&again, Ok(None)));

@@ -1,8 +1,8 @@
 //! Rows about unions and intersections.
 
 use super::Set;
-use crate::rows::{check_items, check_made_set, make_set};
 use rangemap::set::{Intersection, Iter, Union};
+use rows::{check_items, check_made_set, make_set};
 use std::ops::Range;
 use std::process::Abort;
 use std::test::Fail;
@@ -61,8 +61,8 @@ fn check_union<R: Abort>(
     right: &Set,
     row: (Ranges<'_>, Ranges<'_>),
 ) -> Result<(), Fail> {
-    check_items::<Set, _, _>(rt, left.union(right), row.0)?;
-    check_made_set(rt, left | right, row.1)
+    check_items::<Set, _>(left.union(right), row.0)?;
+    check_made_set(left | right, row.1)
 }
 
 /// Compares the items of the intersection, and the set of `&`.
@@ -72,8 +72,8 @@ fn check_intersection<R: Abort>(
     right: &Set,
     row: Ranges<'_>,
 ) -> Result<(), Fail> {
-    check_items::<Set, _, _>(rt, left.intersection(right), row)?;
-    check_made_set(rt, left & right, row)
+    check_items::<Set, _>(left.intersection(right), row)?;
+    check_made_set(left & right, row)
 }
 
 #[test]
@@ -138,7 +138,7 @@ fn check_common<R: Abort>(
     right: &Set,
     row: Ranges<'_>,
 ) -> Result<(), Fail> {
-    check_items::<Set, _, _>(rt, Intersection::new(rest, right.iter()), row)
+    check_items::<Set, _>(Intersection::new(rest, right.iter()), row)
 }
 
 /// Compares what either the rest of a set or another set has.
@@ -148,7 +148,7 @@ fn check_either<R: Abort>(
     right: &Set,
     row: Ranges<'_>,
 ) -> Result<(), Fail> {
-    check_items::<Set, _, _>(rt, Union::new(rest, right.iter()), row)
+    check_items::<Set, _>(Union::new(rest, right.iter()), row)
 }
 
 #[test]
@@ -177,7 +177,7 @@ fn check_common_of_either<R: Abort>(
     third: &Set,
 ) -> Result<(), Fail> {
     let either = (first | second)?;
-    check_made_set(rt, &either & third, &[3..7])
+    check_made_set(&either & third, &[3..7])
 }
 
 /// Compares what each of two sets has in common with a third, put together.
@@ -189,5 +189,5 @@ fn check_either_of_common<R: Abort>(
 ) -> Result<(), Fail> {
     let left = (first & third)?;
     let right = (second & third)?;
-    check_made_set(rt, &left | &right, &[3..7])
+    check_made_set(&left | &right, &[3..7])
 }

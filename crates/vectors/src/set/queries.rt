@@ -1,10 +1,10 @@
 //! Rows about queries: which stored ranges a range overlaps, and which parts of it are free.
 
 use super::Set;
-use crate::rows::Call::Insert;
-use crate::rows::iterators::check_found_three;
-use crate::rows::make_set;
-use crate::rows::tables::{check_free, check_queries};
+use crate::iterators::check_found_three;
+use rows::Call::Insert;
+use rows::make_set;
+use rows::tables::{check_free, check_queries};
 use std::process::Abort;
 use std::test::Fail;
 
@@ -16,8 +16,7 @@ fn what_nothing_covers_is_free(rt: HostRuntime) -> Result<(), Fail> {
         Insert(200..300, ()),
         Insert(400..500, ()),
     ];
-    check_free::<Set, _>(
-        &rt,
+    check_free::<Set>(
         rt.alloc(),
         &[
             (&two, 0..8, &[0..1, 3..5, 7..8]),
@@ -49,8 +48,7 @@ fn take_gaps<R: Abort>(rt: &R, set: &Set) -> Result<(), Fail> {
 fn a_query_may_be_empty_or_reversed(rt: HostRuntime) -> Result<(), Fail> {
     let (early, late) = ([Insert(3..8, ())], [Insert(5..8, ())]);
     let stored = [(3..8, ())];
-    check_queries::<Set, _>(
-        &rt,
+    check_queries::<Set>(
         rt.alloc(),
         &[
             (&early, 5..5, &stored),

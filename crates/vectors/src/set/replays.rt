@@ -1,8 +1,8 @@
 //! Rows over sets made by `replay`, where every call is accepted, and calls that name no set.
 
 use super::Set;
-use crate::rows::{check_gaps, check_replayed_sets};
 use rangemap::set::{Call, replay};
+use rows::{check_gaps, check_replayed_sets};
 use std::test::Fail;
 
 #[test]
@@ -18,12 +18,12 @@ fn what_nothing_covers_is_free(rt: HostRuntime) -> Result<(), Fail> {
     let calls = Vec::from_array(rt.alloc(), calls)?;
     let mut sets: Vec<Set, _> = Vec::new(rt.alloc());
     let answers = replay(rt.alloc(), &mut sets, calls);
-    check_replayed_sets(&rt, answers, &[true; 3], sets.as_slice(), &[&[1..3, 5..7]])?;
+    check_replayed_sets(answers, &[true; 3], sets.as_slice(), &[&[1..3, 5..7]])?;
     let (all, empty, reversed) = (0..8, 4..4, 8..0);
     for set in &sets {
-        check_gaps(&rt, set, &all, &[0..1, 3..5, 7..8])?;
-        check_gaps(&rt, set, &empty, &[])?;
-        check_gaps(&rt, set, &reversed, &[])?;
+        check_gaps(set, &all, &[0..1, 3..5, 7..8])?;
+        check_gaps(set, &empty, &[])?;
+        check_gaps(set, &reversed, &[])?;
     }
     Ok(())
 }
@@ -50,7 +50,6 @@ fn two_sets_are_put_together(rt: HostRuntime) -> Result<(), Fail> {
     let mut sets: Vec<Set, _> = Vec::new(rt.alloc());
     let answers = replay(rt.alloc(), &mut sets, calls);
     check_replayed_sets(
-        &rt,
         answers,
         &[true; 7],
         sets.as_slice(),
@@ -77,7 +76,6 @@ fn what_two_sets_have_in_common(rt: HostRuntime) -> Result<(), Fail> {
     let mut sets: Vec<Set, _> = Vec::new(rt.alloc());
     let answers = replay(rt.alloc(), &mut sets, calls);
     check_replayed_sets(
-        &rt,
         answers,
         &[true; 5],
         sets.as_slice(),
@@ -119,7 +117,6 @@ fn calls_that_name_no_set(rt: HostRuntime) -> Result<(), Fail> {
     let mut sets: Vec<Set, _> = Vec::new(rt.alloc());
     let answers = replay(rt.alloc(), &mut sets, calls);
     check_replayed_sets(
-        &rt,
         answers,
         &[
             true, true, true, true, true, false, false, false, false, false, false, false, false,

@@ -1,51 +1,40 @@
 //! Rows about maps in a tree that are made of pairs and of other maps, that hand their pairs over,
 //! and that are compared, hashed and written.
 
-use super::Map;
 use crate::hash::folded_made;
+use crate::iterators::check_counted_back;
+use crate::map::TreeMap as Map;
 use crate::order::assert_less_than;
-use crate::rows::Call::{Clear, Insert};
-use crate::rows::iterators::check_counted_back;
-use crate::rows::tables::{Changed, check_changes};
-use crate::rows::{check_made, check_row};
-use crate::text::assert_long_text;
+use crate::text::{assert_long_text, assert_text};
 use rangemap::tree_map::RangeMap;
+use rows::Call::{Clear, Insert};
+use rows::tables::{Changed, check_changes};
+use rows::{check_equal, check_made, check_row, make};
 use std::ops::Range;
 use std::process::Abort;
 use std::test::Fail;
 
 #[test]
-fn pairs_are_inserted_in_order(rt: HostRuntime) -> Result<(), Fail> {
+fn a_map_is_made_of_pairs_and_of_a_map(rt: HostRuntime) -> Result<(), Fail> {
     let made = RangeMap::from(rt.alloc(), [(0u32..10, 'a'), (3..6, 'b')]);
-    check_made(&rt, made, &[(0..3, 'a'), (3..6, 'b'), (6..10, 'a')])
+    check_made(made, &[(0..3, 'a'), (3..6, 'b'), (6..10, 'a')])?;
+    let made = RangeMap::from_iter(rt.alloc(), (0u32..3).map(|i| (0..i + 1, 'd')));
+    check_made(made, &[(0..3, 'd')])?;
+    let map: Map = RangeMap::from(rt.alloc(), [(0..2, 'a'), (4..6, 'b')])?;
+    check_made(map.clone(), &[(0..2, 'a'), (4..6, 'b')])?;
+    // One that was cleared takes pairs again.
+    let rows: [Changed<'_, Range<u32>, char>; 1] = [(
+        &[Insert(0..10, 'a'), Clear, Insert(1..2, 'b')],
+        &[(1..2, 'b')],
+    )];
+    check_changes::<Map>(rt.alloc(), &rows)
 }
 
 #[test]
 fn an_extend_keeps_what_was_there(rt: HostRuntime) -> Result<(), Fail> {
     let mut map: Map = RangeMap::from(rt.alloc(), [(0..10, 'a')])?;
     map.extend((1u32..3).map(|i| (10 * i..10 * i + 5, 'c')))?;
-    check_row(&rt, &map, &[(0..10, 'a'), (10..15, 'c'), (20..25, 'c')])
-}
-
-#[test]
-fn an_iterator_is_collected(rt: HostRuntime) -> Result<(), Fail> {
-    let made = RangeMap::from_iter(rt.alloc(), (0u32..3).map(|i| (0..i + 1, 'd')));
-    check_made(&rt, made, &[(0..3, 'd')])
-}
-
-#[test]
-fn a_clone_has_the_same_pairs(rt: HostRuntime) -> Result<(), Fail> {
-    let map: Map = RangeMap::from(rt.alloc(), [(0..2, 'a'), (4..6, 'b')])?;
-    check_made(&rt, map.clone(), &[(0..2, 'a'), (4..6, 'b')])
-}
-
-#[test]
-fn a_map_that_was_cleared_takes_pairs_again(rt: HostRuntime) -> Result<(), Fail> {
-    let rows: [Changed<'_, Range<u32>, char>; 1] = [(
-        &[Insert(0..10, 'a'), Clear, Insert(1..2, 'b')],
-        &[(1..2, 'b')],
-    )];
-    check_changes::<Map, _>(&rt, rt.alloc(), &rows)
+    check_row(&map, &[(0..10, 'a'), (10..15, 'c'), (20..25, 'c')])
 }
 
 #[test]
@@ -95,4 +84,26 @@ fn the_long_form_gives_each_pair_a_line(rt: HostRuntime) -> Result<(), Fail> {
         RangeMap::from(rt.alloc(), [(0u32..100, 'a'), (200..300, 'g')]),
         "{\n    0..100: 'a',\n    200..300: 'g',\n}",
     )
+}
+
+#[test]
+fn equality_forgets_the_calls(rt: HostRuntime) -> Result<(), Fail> {
+    let one = RangeMap::from(rt.alloc(), [(0u32..10, 'a'), (3..6, 'b'), (3..6, 'a')]);
+    check_equal(one, RangeMap::from(rt.alloc(), [(0u32..10, 'a')]), true)?;
+    let shorter = RangeMap::from(rt.alloc(), [(0u32..5, 'a')]);
+    check_equal(shorter, RangeMap::from(rt.alloc(), [(0u32..6, 'a')]), false)
+}
+
+#[test]
+fn maps_are_written_in_braces(rt: HostRuntime) -> Result<(), Fail> {
+    let mut map: Map = RangeMap::new(rt.alloc());
+    assert_text(&rt, &map, "{}")?;
+    make(
+        &mut map,
+        rt.alloc(),
+        &[Insert(0..100, 'a'), Insert(200..300, 'g')],
+    )?;
+    assert_text(&rt, &map, "{0..100: 'a', 200..300: 'g'}")?;
+    let signed = RangeMap::from(rt.alloc(), [(-3..0i8, 7u16)])?;
+    assert_text(&rt, &signed, "{-3..0: 7}")
 }

@@ -6,8 +6,7 @@ ghost use Rattle.std.specs.Ordering.{nat_cmp};
 ghost use Rattle.rangemap.specs.Ranges.{half_open};
 ghost use Rattle.rangemap.specs.Runs.{IsAllowed};
 
-use super::Map;
-use crate::map;
+use crate::map::{Map, TreeMap};
 use rangemap::RangeMap;
 use rangemap::tree_map::{self, Answer, Command, Outcome, run};
 use std::alloc::{AllocError, AllocGlobal, Allocator, Global};
@@ -75,14 +74,14 @@ fn check_answers<R: AllocGlobal + Abort>(
 
 #[test]
 fn commands_are_answered_by_a_vector(rt: HostRuntime) -> Result<(), Fail> {
-    let mut map: map::Map = RangeMap::new(rt.alloc());
+    let mut map: Map = RangeMap::new(rt.alloc());
     let answers = run(rt.alloc(), &mut map, commands(rt.alloc())?)?;
     check_answers(&rt, answers.as_slice(), ANSWERS)
 }
 
 #[test]
 fn commands_are_answered_by_a_tree(rt: HostRuntime) -> Result<(), Fail> {
-    let mut map: Map = tree_map::RangeMap::new(rt.alloc());
+    let mut map: TreeMap = tree_map::RangeMap::new(rt.alloc());
     let answers = run(rt.alloc(), &mut map, commands(rt.alloc())?)?;
     check_answers(&rt, answers.as_slice(), ANSWERS)
 }

@@ -24,4 +24,4 @@ returns-clause-ok g c =
     ∙ ap (without_all cmp starts) c.in_ok-put_piece.ensures.ok
     ∙ taken_within o within (tied_in_range o (Included s) (Excluded t)) old (with_piece cmp c.args.piece old) starts c.requires.starts (within_piece o t c.args.piece old c.requires.piece (Included s))
     ∙ erased o s t c.requires.non_empty c.args.piece old c.requires.piece c.requires.in_order in
-    recut_is o s c.args.cut old c.take_all.new.self c.recut_if.new.self (piece_list c.args.piece ++ from cmp t old) c.requires.cut mid c.recut_if.ensures
+    recut_is o s c.args.cut old c.take_all.new.self c.recut.new.self (piece_list c.args.piece ++ from cmp t old) c.requires.cut mid c.recut.ensures

@@ -25,4 +25,4 @@ returns-clause-ok g c =
     ∙ ap (without_all cmp starts) (c.in_ok-put_both.ensures.ok ∙ (λ i. before_tied o c.args.key s c.requires.key with_it i ++ m ∷ past_tied o c.args.key s c.requires.key with_it i))
     ∙ taken_within o within (tied_in_range o (Excluded s) (Excluded t)) old (before cmp s with_it ++ m ∷ past cmp s with_it) starts c.requires.starts (within_both o t c.args.piece old c.requires.piece s m (tied_itself o s))
     ∙ replaced o s t c.requires.non_empty c.args.piece old c.requires.piece m (tied_itself o s) in
-    recut_is o s c.args.cut old c.take_all.new.self c.recut_if.new.self (m ∷ (piece_list c.args.piece ++ from cmp t old)) c.requires.cut mid c.recut_if.ensures
+    recut_is o s c.args.cut old c.take_all.new.self c.recut.new.self (m ∷ (piece_list c.args.piece ++ from cmp t old)) c.requires.cut mid c.recut.ensures

@@ -2,8 +2,8 @@ use Rattle.std.proofs.Common.{Ok, codes, refl}
 use Rattle.std.specs.Fmt.{◌++?◌}
 use Rattle.std.specs.declared.ops.Range.{Range}
 use Rattle.rangemap_core.specs.Ranges.{half_open}
-use Rattle.rangemap_forms.specs.Texts.{others_text, pair_text}
-use Rattle.rangemap_forms.proofs.DisplayLemmas.{displays_from, shows_from, shows_then}
+use Rattle.rangemap_formats.specs.Texts.{others_text, pair_text}
+use Rattle.rangemap_formats.proofs.DisplayLemmas.{displays_from, shows_from, shows_then}
 use Rattle.rangemap_tree.proofs.tree_map.text.write_items.Goals as goal
 
 pub returns : goal.returns

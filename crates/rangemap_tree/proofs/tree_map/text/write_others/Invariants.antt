@@ -1,8 +1,8 @@
 use Rattle.std.proofs.Common.{codes, length}
 use Rattle.std.specs.Fmt.{IsPlainFormatter}
 use Rattle.rangemap_core.specs.Ranges.{half_open}
-use Rattle.rangemap_forms.specs.Texts.{others_text, pair_text}
-use Rattle.rangemap_forms.proofs.DisplayLemmas.{Shows}
+use Rattle.rangemap_formats.specs.Texts.{others_text, pair_text}
+use Rattle.rangemap_formats.proofs.DisplayLemmas.{Shows}
 use Rattle.rangemap_tree.proofs.tree_map.text.write_others.Given as goal
 
 -- whatever shows what is left from here on shows the whole from the start

@@ -1,0 +1,123 @@
+//! What the crate `uses` stands for: each use once, at an example.
+
+use rangemap::range_inclusive_set;
+use std::ops::Range;
+use std::test::Fail;
+use uses::byte_cache::ByteCache;
+use uses::char_class::{CharClass, complement_twice, de_morgan};
+use uses::extents::Extents;
+use uses::planner::Planner;
+use uses::received::Received;
+use uses::rota::Rota;
+
+#[test]
+fn only_what_is_missing_is_fetched(rt: HostRuntime) -> Result<(), Fail> {
+    let mut cache = ByteCache::new(rt.alloc());
+    cache.fetched(0..512)?;
+    cache.fetched(1024..2048)?;
+    let parts = cache.missing(rt.alloc(), &(256..4096))?;
+    let wanted: [Range<u64>; 2] = [512..1024, 2048..4096];
+    assert_eq!(rt; parts.as_slice(), wanted.as_slice());
+    cache.fetched(256..4096)?;
+    assert!(rt; cache.missing(rt.alloc(), &(0..4096))?.is_empty());
+    Ok(())
+}
+
+#[test]
+fn words_and_what_is_none(rt: HostRuntime) -> Result<(), Fail> {
+    let word = CharClass::word(rt.alloc())?;
+    let other = word.complement(rt.alloc())?;
+    assert!(rt; word.contains('_') && word.contains('M') && !word.contains('-'));
+    assert!(rt; !other.contains('_') && other.contains('-') && other.contains('\u{10FFFF}'));
+    assert!(rt; word.union(&other)?.contains('-'));
+    assert!(rt; !word.intersection(&other)?.contains('z'));
+    let (neither, not_both) = de_morgan(rt.alloc(), &word, &other)?;
+    assert!(rt; neither.members == not_both.members && neither.members.is_empty());
+    assert!(rt; complement_twice(rt.alloc(), &word)?.members == word.members);
+    Ok(())
+}
+
+#[test]
+fn digits_by_the_macro(rt: HostRuntime) -> Result<(), Fail> {
+    let digits = range_inclusive_set![in rt.alloc(); '0'..='4', '5'..='9']?;
+    assert_eq!(rt; digits.len(), 1);
+    assert!(rt; digits.contains(&'7') && !digits.contains(&'a'));
+    Ok(())
+}
+
+#[test]
+fn ranges_that_overlap_become_one(rt: HostRuntime) -> Result<(), Fail> {
+    let class = CharClass::from_ranges(rt.alloc(), ['d'..='k', 'a'..='f', 'x'..='z'])?;
+    let wanted = range_inclusive_set![in rt.alloc(); 'a'..='k', 'x'..='z']?;
+    assert!(rt; class.members == wanted);
+    assert!(rt; class.contains('k') && !class.contains('l'));
+    Ok(())
+}
+
+#[test]
+fn blocks_are_mapped_once(rt: HostRuntime) -> Result<(), Fail> {
+    let mut extents = Extents::new(rt.alloc());
+    assert!(rt; extents.map(0, 1000, 8)?);
+    assert!(rt; !extents.map(20, 1007, 2)?);
+    assert!(rt; extents.map(20, 4, 2)?);
+    assert_eq!(rt; extents.physical(7), Some(1007));
+    assert_eq!(rt; extents.physical(21), Some(5));
+    extents.punch(2, 5)?;
+    assert_eq!(rt; extents.physical(5), None);
+    assert_eq!(rt; extents.physical(6), Some(1006));
+    assert!(rt; extents.map(30, 1002, 4)?);
+    Ok(())
+}
+
+/// The numbers of the addresses 10.0.0.0 and 10.0.0.15.
+const FIRST: u32 = 167772160;
+
+const LAST: u32 = 167772175;
+
+#[test]
+fn blocks_are_reserved_and_released(rt: HostRuntime) -> Result<(), Fail> {
+    let mut planner = Planner::new(rt.alloc());
+    assert_eq!(rt; planner.reserve(FIRST, LAST, 7)?, true);
+    assert_eq!(rt; planner.reserve(LAST, LAST + 1, 8)?, false);
+    assert_eq!(rt; planner.owner(LAST), Some(7));
+    assert_eq!(rt; planner.first_free(FIRST)?, Some(0));
+    assert_eq!(rt; planner.first_free(FIRST + 1)?, Some(LAST + 1));
+    assert_eq!(rt; planner.first_free(u32::MAX)?, None);
+    planner.release(FIRST, LAST)?;
+    assert_eq!(rt; planner.first_free(u32::MAX)?, Some(0));
+    Ok(())
+}
+
+#[test]
+fn numbers_come_out_of_order(rt: HostRuntime) -> Result<(), Fail> {
+    let mut received = Received::new(rt.alloc());
+    assert_eq!(rt; received.acknowledged(), None);
+    assert_eq!(rt; received.receive(0)?, true);
+    assert_eq!(rt; received.receive(2)?, true);
+    assert_eq!(rt; received.receive(2)?, false);
+    assert_eq!(rt; received.acknowledged(), Some(0));
+    assert_eq!(rt; received.lowest_missing(2), Some(3));
+    assert_eq!(rt; received.receive(1)?, true);
+    assert_eq!(rt; received.acknowledged(), Some(2));
+    assert_eq!(rt; received.receive(u64::MAX)?, true);
+    assert_eq!(rt; received.lowest_missing(u64::MAX), None);
+    Ok(())
+}
+
+#[test]
+fn two_shifts_are_swapped(rt: HostRuntime) -> Result<(), Fail> {
+    let mut rota = Rota::new(rt.alloc());
+    rota.assign(8..16, 1)?;
+    rota.assign(16..20, 2)?;
+    assert_eq!(rt; rota.on_at(15), Some(1));
+    assert_eq!(rt; rota.swap(9, 20)?, false);
+    assert_eq!(rt; rota.swap(9, 19)?, true);
+    assert_eq!(rt; rota.on_at(15), Some(2));
+    assert_eq!(rt; rota.on_at(16), Some(1));
+    let day = 0..24;
+    let mut free = rota.uncovered(&day);
+    assert_eq!(rt; free.try_next()?, Some(0..8));
+    assert_eq!(rt; free.try_next()?, Some(20..24));
+    assert_eq!(rt; free.try_next()?, None);
+    Ok(())
+}

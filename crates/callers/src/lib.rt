@@ -1,0 +1,7 @@
+//! Tests of what stands on the library: an example of each use, and of each workload of the bench.
+#![tactic(auto)]
+
+#[cfg(test)]
+mod applications;
+#[cfg(test)]
+mod workloads;

@@ -1,0 +1,83 @@
+-- A map's answers, as those of the set that shows its ranges.
+use Rattle.std.proofs.Common.{◌≡◌, Bool, List, [], ◌∷◌, ℕ, zero, suc, ◌-◌, Option, option_map, slice_get, length, is_some, refl, sym, ap, subst, ◌∙◌, nat_lt}
+use Rattle.std.specs.Bool.{⊤}
+use Rattle.std.specs.Hash.{HashWrites}
+use Rattle.std.specs.declared.cmp.Ordering.TheVariants.{Equal}
+use Rattle.rangemap_core.specs.Ranges.{RangeKind, IsCanonOf, IsCanonical, IsCanonOfPoints, covering, covers, erase, overlapped, override, same_pairs, same_ranges, unit_eq, value_at, with_unit}
+use Rattle.rangemap_core.specs.Appends.{Appends, AppendsGaps}
+use Rattle.rangemap_core.specs.Hashes.{pairs_fed, ranges_fed}
+use Rattle.rangemap_core.specs.ListOrder.{pairs_cmp, ranges_cmp}
+use Rattle.rangemap_core.proofs.UnitLemmas.{units_cmp, units_fed, units_same}
+use Rattle.rangemap_operations.specs.Sets.{Adds, IsCanonicalSet, TakesOut, met, range_at, ranges}
+use Rattle.rangemap_operations.proofs.UnitValueLemmas.{added, canonical_ranges, covering_covers, covering_range, points_of, ranges_met, taken_out, value_covers, with_ranges}
+
+module _ {K X : Type 0} (k : RangeKind K X) (ps : List (X × ⊤)) (list : List X) (is : ranges ps ≡ list) where
+  pub overlapping : (q : X) (given : List (X × ⊤)) (result : List X) → given ≡ overlapped k ps q → result ≡ ranges given → result ≡ met k list q
+  overlapping q given result found shown = shown ∙ ap ranges found ∙ ranges_met k ps q ∙ ap (λ rs. met k rs q) is
+
+  length_ranges : (qs : List (X × ⊤)) → length (ranges qs) ≡ length qs
+  length_ranges [] = refl
+  length_ranges (q ∷ qs) = ap (λ n. suc n) (length_ranges qs)
+
+  pub overlaps : (q : X) (result : Bool) → result ≡ nat_lt 0 (length (overlapped k ps q)) → result ≡ nat_lt 0 (length (met k list q))
+  overlaps q result found = found ∙ ap (λ n. nat_lt 0 n) (sym (length_ranges (overlapped k ps q)) ∙ ap length (ranges_met k ps q ∙ ap (λ rs. met k rs q) is))
+
+  pub got : (x : K) (o : Option (X × ⊤)) → o ≡ covering k ps x → option_map (λ p. p.0) o ≡ range_at k list x
+  got x o found = ap (option_map (λ (p : X × ⊤). p.0)) found ∙ covering_range k ps x ∙ ap (λ rs. range_at k rs x) is
+
+  pub contained : (x : K) (result : Bool) → result ≡ is_some (covering k ps x) → result ≡ covers k list x
+  contained x result found = found ∙ covering_covers k ps x ∙ ap (λ rs. covers k rs x) is
+
+  pub inserted : (new : List (X × ⊤)) (r : X) → IsCanonOf k (unit_eq k) (override k (value_at k ps) r tt) new → Adds k list (r ∷ []) (ranges new)
+  inserted new r h = subst (λ rs. Adds k rs (r ∷ []) (ranges new)) is (added k ps new r h)
+
+  pub removed : (new : List (X × ⊤)) (r : X) → IsCanonOf k (unit_eq k) (erase k (value_at k ps) r) new → TakesOut k list r (ranges new)
+  removed new r h = subst (λ rs. TakesOut k rs r (ranges new)) is (taken_out k ps new r h)
+
+  no_pairs : (qs : List (X × ⊤)) → ranges qs ≡ [] → qs ≡ []
+  no_pairs [] h = refl
+  no_pairs (q ∷ qs) h = absurd (let no = h in cc)
+
+  pub meets_none : (q : X) → met k list q ≡ [] → overlapped k ps q ≡ []
+  meets_none q h = no_pairs (overlapped k ps q) (ranges_met k ps q ∙ ap (λ rs. met k rs q) is ∙ h)
+
+  pub same : (qs : List (X × ⊤)) (other : List X) → ranges qs ≡ other → same_pairs k (unit_eq k) ps qs ≡ same_ranges k list other
+  same qs other it = units_same k ps qs ∙ ap (λ rs. same_ranges k rs (ranges qs)) is ∙ ap (same_ranges k list) it
+
+  pub compared : (qs : List (X × ⊤)) (other : List X) → ranges qs ≡ other → pairs_cmp k (λ _ _. Equal) ps qs ≡ ranges_cmp k list other
+  compared qs other it = units_cmp k ps qs ∙ ap (λ rs. ranges_cmp k rs (ranges qs)) is ∙ ap (ranges_cmp k list) it
+
+  pub fed : (key_fed : K → HashWrites) → pairs_fed k key_fed (λ _. []) ps ≡ ranges_fed k key_fed list
+  fed key_fed = units_fed k key_fed ps ∙ ap (ranges_fed k key_fed) is
+
+  pub copied : (new : List (X × ⊤)) → IsCanonOf k (unit_eq k) (value_at k ps) new → IsCanonOfPoints k (covers k list) (ranges new)
+  copied new h = points_of k (value_at k ps) (covers k list) new (λ x key. value_covers k ps x ∙ ap (λ rs. covers k rs x) is) h
+
+  pub canonical : IsCanonical k (unit_eq k) ps → IsCanonicalSet k list
+  canonical h = subst (IsCanonicalSet k) is (canonical_ranges k ps h)
+
+  -- the map's pairs are the set's ranges, with the value that says nothing
+  pub pairs_are : ps ≡ with_unit k list
+  pairs_are = sym (with_ranges k ps) ∙ ap (with_unit k) is
+
+  -- what a place has
+  at_place : (qs : List (X × ⊤)) (n : ℕ) → option_map (λ (p : X × ⊤). p.0) (slice_get qs n) ≡ slice_get (ranges qs) n
+  at_place [] n = refl
+  at_place (q ∷ qs) zero = refl
+  at_place (q ∷ qs) (suc n) = at_place qs n
+
+  pub shown : (n : ℕ) (o : Option (X × ⊤)) → o ≡ slice_get ps n → option_map (λ (p : X × ⊤). p.0) o ≡ slice_get list n
+  shown n o found = ap (option_map (λ (p : X × ⊤). p.0)) found ∙ at_place ps n ∙ ap (λ rs. slice_get rs n) is
+
+  pub shown_last : (o : Option (X × ⊤)) → o ≡ slice_get ps (length ps - 1) → option_map (λ (p : X × ⊤). p.0) o ≡ slice_get list (length list - 1)
+  shown_last o found = shown (length ps - 1) o found ∙ ap (λ n. slice_get list (n - 1)) (sym (length_ranges ps) ∙ ap length is)
+
+  -- so are those that are put behind others
+  pub all_with_unit : (old new : List (X × ⊤)) → Appends k (unit_eq k) ps old new → Appends k (unit_eq k) (with_unit k list) old new
+  all_with_unit old new = subst (λ qs. Appends k (unit_eq k) qs old new) pairs_are
+
+  pub overlapped_with_unit : (q : X) (old new : List (X × ⊤)) → Appends k (unit_eq k) (overlapped k ps q) old new → Appends k (unit_eq k) (overlapped k (with_unit k list) q) old new
+  overlapped_with_unit q old new = subst (λ qs. Appends k (unit_eq k) (overlapped k qs q) old new) pairs_are
+
+  pub gaps_with_unit : (q : X) (old new : List X) → AppendsGaps k (ranges ps) q old new → AppendsGaps k (ranges (with_unit k list)) q old new
+  gaps_with_unit q old new = subst (λ qs. AppendsGaps k (ranges qs) q old new) pairs_are

@@ -1,0 +1,121 @@
+-- A set's keys after a change, as one equation of truth values over plain numbers, and the first gap of a range without a loop.
+use Rattle.std.proofs.Common.{◌≡◌, ◌<◌, ◌≤◌, ◌+◌, ◌&&◌, ◌||◌, ◌⊎◌, inl, inr, ℕ, List, [], ◌∷◌, ◌++◌, Bool, true, false, Option, Some, None, Result, Ok, All, IsOkAnd, map, cond, is_some, nat_le, nat_lt, not, arith, ap, ◌∙◌, sym, refl, subst}
+use Rattle.std.proofs.lemmas.Bool.Decides.{nat_tests}
+use Rattle.std.proofs.lemmas.List.Elements.{All-nil}
+use Rattle.std.specs.List.{find}
+use Rattle.std.specs.Ordering.{nat_cmp}
+use Rattle.std.specs.Range.{range_inclusive_end, range_inclusive_start}
+use Rattle.std.specs.declared.alloc.AllocError.{AllocError}
+use Rattle.std.specs.declared.ops.Range.{Range}
+use Rattle.std.specs.declared.ops.RangeInclusive.{RangeInclusive}
+use Rattle.rangemap.specs.Ranges.{AreGaps, RangeKind, closed, covers, half_open, value_at}
+use Rattle.rangemap.specs.Items.{GivesRange}
+use Rattle.rangemap.specs.Sets.{Adds, TakesOut}
+use Rattle.rangemap.proofs.NumberKinds.{closed_unsigned, half_open_unsigned}
+use Rattle.rangemap.proofs.NumberLemmas.{IsFreeBetween, last_gap, next_gap, not_before, not_behind}
+
+-- ---- the numbers of a range, as a test
+
+-- where a number lies to two others
+place : (from to x : ℕ) → ((x < from) × ((nat_le from x && nat_lt x to) ≡ false)) ⊎ (((to ≤ x) × ((nat_le from x && nat_lt x to) ≡ false)) ⊎ ((from ≤ x) × (x < to) × ((nat_le from x && nat_lt x to) ≡ true)))
+place from to x = grind (arith, nat_tests)
+
+-- a number is one of `a..b` where this test says so
+pub half_open_test : (r : Range ℕ) (x : ℕ) → (half_open nat_cmp).holds r x ≡ (nat_le r.start x && nat_lt x r.end)
+half_open_test r x =
+    elim (place r.start r.end x) [
+      | inl w ↦ not_before half_open_unsigned r x w.0 ∙ sym w.1
+      | inr v ↦ elim v [ inl w ↦ not_behind half_open_unsigned r x w.0 ∙ sym w.1 | inr w ↦ half_open_unsigned.holds r x w.0 w.1 ∙ sym w.2 ]
+    ]
+
+up_to : (from last x : ℕ) → (nat_le from x && nat_lt x (last + 1)) ≡ (nat_le from x && nat_le x last)
+up_to from last x = grind (arith, nat_tests)
+
+-- a number is one of `a..=b` where this test says so
+pub closed_test : (bound : ℕ) (r : RangeInclusive ℕ) (x : ℕ) → (closed (λ x. x < bound) nat_cmp).holds r x ≡ (nat_le (range_inclusive_start r) x && nat_le x (range_inclusive_end r))
+closed_test bound r x =
+    elim (place (range_inclusive_start r) (range_inclusive_end r + 1) x) [
+      | inl w ↦ not_before (closed_unsigned bound) r x w.0 ∙ sym w.1
+      | inr v ↦ elim v [ inl w ↦ not_behind (closed_unsigned bound) r x w.0 ∙ sym w.1 | inr w ↦ (closed_unsigned bound).holds r x w.0 w.1 ∙ sym w.2 ]
+    ]
+    ∙ up_to (range_inclusive_start r) (range_inclusive_end r) x
+
+-- ---- a set's keys after a change, as one equation
+
+module _ {K X : Type 0} (k : RangeKind K X) where
+  joined : (r : X) (b c : Bool) → (is_some (cond b (Some r) None) || c) ≡ (c || b)
+  joined r true true = refl
+  joined r true false = refl
+  joined r false true = refl
+  joined r false false = refl
+
+  -- what a set covers after an insert of one range
+  pub added : (old new : List X) (r : X) (x : K) → k.is_key x → Adds k old (r ∷ []) new → covers k new x ≡ (covers k old x || k.holds r x)
+  added old new r x key adds = adds.points x key ∙ joined r (k.holds r x) (covers k old x)
+
+  cut : (b c : Bool) → (not b && c) ≡ (c && not b)
+  cut true true = refl
+  cut true false = refl
+  cut false true = refl
+  cut false false = refl
+
+  -- what a set covers after a removal of one range
+  pub taken : (old new : List X) (r : X) (x : K) → k.is_key x → TakesOut k old r new → covers k new x ≡ (covers k old x && not (k.holds r x))
+  taken old new r x key takes = takes.points x key ∙ cut (k.holds r x) (covers k old x)
+
+  one_of : (x : X) (b : Bool) (o p : Option X) (c : Bool) → is_some p ≡ (is_some o || c) → is_some (cond b (Some x) p) ≡ (is_some (cond b (Some x) o) || c)
+  one_of x true o p c h = refl
+  one_of x false o p c h = h
+
+  -- what two lists cover, one after the other
+  pub covers_append : (rs ss : List X) (x : K) → covers k (rs ++ ss) x ≡ (covers k rs x || covers k ss x)
+  covers_append [] ss x = refl
+  covers_append (r ∷ rs) ss x = one_of r (k.holds r x) (find (λ s. k.holds s x) rs) (find (λ s. k.holds s x) (rs ++ ss)) (covers k ss x) (covers_append rs ss x)
+
+-- what a set of numbers covers after an insert of `a..b`
+pub added_between : (old new : List (Range ℕ)) (r : Range ℕ) (x : ℕ) → Adds (half_open nat_cmp) old (r ∷ []) new → covers (half_open nat_cmp) new x ≡ (covers (half_open nat_cmp) old x || (nat_le r.start x && nat_lt x r.end))
+added_between old new r x adds = added (half_open nat_cmp) old new r x tt adds ∙ ap (λ b. covers (half_open nat_cmp) old x || b) (half_open_test r x)
+
+-- what a set of numbers covers after a removal of `a..b`
+pub taken_between : (old new : List (Range ℕ)) (r : Range ℕ) (x : ℕ) → TakesOut (half_open nat_cmp) old r new → covers (half_open nat_cmp) new x ≡ (covers (half_open nat_cmp) old x && not (nat_le r.start x && nat_lt x r.end))
+taken_between old new r x takes = taken (half_open nat_cmp) old new r x tt takes ∙ ap (λ b. covers (half_open nat_cmp) old x && not b) (half_open_test r x)
+
+-- what a set of numbers covers after an insert of `a..=b`
+pub added_closed : (bound : ℕ) (old new : List (RangeInclusive ℕ)) (r : RangeInclusive ℕ) {first last : ℕ} (x : ℕ) → x < bound → Adds (closed (λ y. y < bound) nat_cmp) old (r ∷ []) new → range_inclusive_start r ≡ first → range_inclusive_end r ≡ last → covers (closed (λ y. y < bound) nat_cmp) new x ≡ (covers (closed (λ y. y < bound) nat_cmp) old x || (nat_le first x && nat_le x last))
+added_closed bound old new r {first = first} {last = last} x key adds starts ends =
+    added (closed (λ y. y < bound) nat_cmp) old new r x key adds
+    ∙ ap (λ b. covers (closed (λ y. y < bound) nat_cmp) old x || b) (closed_test bound r x ∙ ap (λ a. nat_le a x && nat_le x (range_inclusive_end r)) starts ∙ ap (λ a. nat_le first x && nat_le x a) ends)
+
+-- ---- the first gap of a range whose first number is free
+
+alone : {V : Type 0} (list : List (Range ℕ × V)) (at : ℕ) → value_at (half_open nat_cmp) list at ≡ None → IsFreeBetween half_open_unsigned list at (at + 1)
+alone {V} list at bare x from to = let same : at ≡ x = omega arith in let P : ℕ → Type 0 = λ y. value_at (half_open nat_cmp) list y ≡ None in subst P same bare
+
+-- the gap begins there, and reaches up to a number that has a value, or up to the range's end
+pub record IsFirstGap {V : Type 0} (list : List (Range ℕ × V)) (from to : ℕ) (gap : Range ℕ) : Type 0 where
+  pub starts : gap.start ≤ from
+  pub forward : from < gap.end
+  pub within : gap.end ≤ to
+  pub free : (x : ℕ) → from ≤ x → x < gap.end → value_at (half_open nat_cmp) list x ≡ None
+
+not_above : (a b : ℕ) → (a < b → ⊥) → b ≤ a
+not_above a b h = grind arith
+
+module _ {V : Type 0} (list : List (Range ℕ × V)) (from to : ℕ) {all : List (Range ℕ)} (left new : List (Range ℕ)) {result : Option (Result (Range ℕ) AllocError)} (are : AreGaps (half_open nat_cmp) (map (λ pair. pair.0) list) (record { start = from; end = to }) all) (is : left ≡ all) (step : GivesRange (half_open nat_cmp) left result new) (forward : from < to) (bare : value_at (half_open nat_cmp) list from ≡ None) where
+  -- the first gap of a range whose first number has no value
+  pub first_gap : {item : Result (Range ℕ) AllocError} {gap : Range ℕ} → result ≡ Some item → item ≡ Ok gap → IsFirstGap list from to gap
+  first_gap {item} {gap} some ok =
+      let next = next_gap half_open_unsigned list (record { start = from; end = to }) {P = λ gap. ⊥} are is some ok left new step [] (All-nil (λ item. IsOkAnd item (λ gap. ⊥))) refl in
+      let above : from < gap.start → ⊥ = λ below. (next.earlier from (from + 1) (record { forward = omega arith; first_is_key = tt; last_is_key = tt }) (omega arith) (omega arith) (alone list from bare) below).kept in
+      let at : gap.start ≤ from = not_above from gap.start above in
+      record {
+        starts = at;
+        forward = omega (arith, next.from, next.forward);
+        within = next.to;
+        free = λ x low high. next.free x (omega (arith, at, low)) high;
+      }
+
+  -- a range whose first number has no value has a gap
+  pub some_gap : result ≡ None → ⊥
+  some_gap none =
+      (last_gap half_open_unsigned list (record { start = from; end = to }) {P = λ gap. ⊥} are is none left new step [] (All-nil (λ item. IsOkAnd item (λ gap. ⊥))) refl from (from + 1) (record { forward = omega arith; first_is_key = tt; last_is_key = tt }) (omega arith) (omega arith) (alone list from bare)).kept

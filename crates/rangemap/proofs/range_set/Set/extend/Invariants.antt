@@ -1,0 +1,6 @@
+use Rattle.rangemap.specs.Sets.{Adds}
+use Rattle.rangemap.proofs.range_set.Set.extend.Given as goal
+
+-- what came so far was added
+abbrev pub invariant-loop-range : goal.invariant-loop-range
+invariant-loop-range g l = Adds g.Q.Interval.kind l.fn.self l.yielded l.self

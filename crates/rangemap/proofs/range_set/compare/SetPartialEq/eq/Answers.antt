@@ -1,0 +1,6 @@
+use Rattle.std.proofs.Common.{◌∙◌}
+use Rattle.rangemap.proofs.MapLemmas.{same}
+use Rattle.rangemap.proofs.range_set.compare.SetPartialEq.eq.Goals as goal
+
+pub returns : goal.returns
+returns g c = c.eq.ensures ∙ same g.Q.Interval.kind _ _ c.self.view_is _ _ c.other.view_is

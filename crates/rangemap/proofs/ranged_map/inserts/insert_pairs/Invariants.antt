@@ -1,5 +1,0 @@
-use Rattle.rangemap_core.specs.Ranges.{Overrides}
-use Rattle.rangemap.proofs.ranged_map.inserts.insert_pairs.Given as goal
-
-abbrev pub invariant-loop-range : goal.invariant-loop-range
-invariant-loop-range g l = Overrides g.M.Kind.Interval.kind g.M.Value.PartialEq.eq (g.M.RangedMap.pairs l.fn.map) l.yielded (g.M.RangedMap.pairs l.map)

@@ -1,9 +1,0 @@
-use Rattle.rangemap_core.specs.Ranges.{half_open}
-use Rattle.rangemap.proofs.SetLemmas.{value_found}
-use Rattle.rangemap.proofs.set.ranged.RangeSetRangedMap.get.Goals as goal
-
-pub returns-in-Some : goal.returns-in-Some
-returns-in-Some g c = value_found (half_open g.T.Ord.cmp) c.args.self.now c.args.key.now _ c.in-Some.ensures.found
-
-pub returns-in-None : goal.returns-in-None
-returns-in-None g c = value_found (half_open g.T.Ord.cmp) c.args.self.now c.args.key.now _ c.in-None.ensures.found

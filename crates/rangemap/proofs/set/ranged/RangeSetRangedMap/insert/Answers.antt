@@ -1,7 +1,0 @@
-use Rattle.std.proofs.lemmas.Result.{on_ok_weaker}
-use Rattle.rangemap_core.specs.Ranges.{half_open}
-use Rattle.rangemap.proofs.SetLemmas.{inserted}
-use Rattle.rangemap.proofs.set.ranged.RangeSetRangedMap.insert.Goals as goal
-
-pub returns-clause-ok : goal.returns-clause-ok
-returns-clause-ok g c = on_ok_weaker c.insert.result (inserted (half_open g.T.Ord.cmp) c.args.self.now c.insert.new.self c.args.range _) c.insert.ensures.ok

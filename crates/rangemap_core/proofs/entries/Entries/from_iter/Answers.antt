@@ -1,8 +1,0 @@
-use Rattle.std.proofs.Common.{List, subst}
-use Rattle.rangemap_core.specs.Ranges.{IsCanonOf, override_all, value_at}
-use Rattle.rangemap_core.proofs.entries.Entries.from_iter.Goals as goal
-
-pub returns : goal.returns
-returns g c =
-    let ran = c.in_ok-extend.ensures in
-    (ran.0, ran.1, ran.2, ran.4, subst (λ (xs : List (g.row.R.Denot × g.row.V.Denot)). IsCanonOf g.Q.Interval.kind g.V.PartialEq.eq (override_all g.Q.Interval.kind (value_at g.Q.Interval.kind xs) ran.1) c.extend.new.self) c.new-all.ensures ran.3)

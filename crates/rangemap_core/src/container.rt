@@ -1,0 +1,223 @@
+//! What every container of the library does, for code that is written once for all of them.
+//!
+//! A container says what it is (its keys, its ranges, their kind, its values, its allocator) and
+//! makes its own public calls. Contracts see it as the list of its pairs, in the words of
+//! `specs/Ranges.antt`; of a set the values are `()`. The JSON form, the laws, the replays, the
+//! program and the tests ask for no more.
+//!
+//! A call that every container has is added here, and in the file `container.rt` of the map, of the
+//! map in a tree and of the set.
+ghost use Rattle.std.specs.Prelude.{◌≡◌, ◌-◌, List, [], IfOk, IsOk, OnErr, OnOk, is_some, length, map, nat_eq, nat_lt, slice_get, true};
+ghost use Rattle.std.specs.Iterator.{Drains, ExtendsWithItems, IsFiniteIterable};
+ghost use Rattle.std.specs.Option.{option_copied, option_map};
+ghost use Rattle.rangemap_core.specs.Appends.{Appends, AppendsGaps};
+ghost use Rattle.rangemap_core.specs.Clones.{KeysCloneFaithfully, ValuesCloneFaithfully};
+ghost use Rattle.rangemap_core.specs.Incoming.{GivesNonEmpty};
+ghost use Rattle.rangemap_core.specs.Ranges.{AreGaps, IsCanonOf, IsCanonical, Overrides, covering, erase, nothing, overlapped, override, override_all, same_pairs, value_at};
+
+use crate::kind::Kind;
+use std::alloc::{AllocError, Allocator};
+use std::iter::IntoIterator;
+
+mod appends;
+mod inserts;
+
+pub use appends::{append_clones, append_gaps};
+pub use inserts::insert_pairs;
+
+/// A map of disjoint ranges to values, two of which are equal where their pairs are.
+///
+/// Each method is the map's own public call, at its cost. Code that is generic over maps, as the
+/// replay and the laws, is so proved of the calls that users make.
+pub trait Container: PartialEq + Drop {
+    /// What the ranges are over.
+    type Key: Ord + Clone;
+
+    /// A stored range.
+    type Range: Drop;
+
+    /// What a range is mapped to.
+    type Value: Eq + Clone;
+
+    /// What the memory comes from.
+    type Alloc: Allocator;
+
+    /// The kind of the ranges.
+    type Kind: Kind<Self::Key, Self::Range>;
+
+    /// The stored pairs, in order.
+    ghost pairs: { Self → List (Self.Range × Self.Value) };
+
+    /// Does nothing, and tells that the list of a map at hand is canonical.
+    fn known(&self)
+        ensures { IsCanonical Self.Kind.kind Self.Value.eq (pairs self.now) };
+
+    /// Makes an empty map, whose memory will come from `alloc`: by `new`, or by `new_with_step_fns`
+    /// where there is one.
+    fn empty(alloc: Self::Alloc) -> Self
+        ensures { pairs result ≡ [] };
+
+    /// Gives every key of `range`, which is not empty, the `value`, whatever it had before. The
+    /// caller sees to it that a clone of a key or value equals its original. `Err` says that memory
+    /// or a clone was refused: then the map is as it was.
+    fn insert(&mut self, range: Self::Range, value: Self::Value) -> Result<(), AllocError>
+        requires non_empty { Self.Kind.kind.IsNonEmpty range }
+        requires faithful_keys { KeysCloneFaithfully Self.Key.is_clone Self.Key.cmp }
+        requires faithful_values { ValuesCloneFaithfully Self.Value.is_clone Self.Value.eq }
+        ensures ok { OnOk result (IsCanonOf Self.Kind.kind Self.Value.eq (override Self.Kind.kind (value_at Self.Kind.kind (pairs self.old)) range value) (pairs self.new)) }
+        ensures err { OnErr result (pairs self.new ≡ pairs self.old) };
+
+    /// Takes every key of `range` out. The conditions, and what `Err` says, are those of `insert`.
+    /// Where nothing stored overlaps the range, nothing is refused and nothing changes.
+    fn remove(&mut self, range: Self::Range) -> Result<(), AllocError>
+        requires non_empty { Self.Kind.kind.IsNonEmpty range }
+        requires faithful_keys { KeysCloneFaithfully Self.Key.is_clone Self.Key.cmp }
+        requires faithful_values { ValuesCloneFaithfully Self.Value.is_clone Self.Value.eq }
+        ensures ok { OnOk result (IsCanonOf Self.Kind.kind Self.Value.eq (erase Self.Kind.kind (value_at Self.Kind.kind (pairs self.old)) range) (pairs self.new)) }
+        ensures err { OnErr result (pairs self.new ≡ pairs self.old) }
+        ensures meets_nothing { overlapped Self.Kind.kind (pairs self.old) range ≡ [] → IsOk result × (pairs self.new ≡ pairs self.old) };
+
+    /// Takes every key out. It takes no memory.
+    fn clear(&mut self)
+        ensures { pairs self.new ≡ [] };
+
+    /// Returns the number of stored ranges.
+    fn len(&self) -> usize
+        ensures { result ≡ length (pairs self.now) };
+
+    /// Whether no range is stored.
+    fn is_empty(&self) -> bool
+        ensures { result ≡ nat_eq (length (pairs self.now)) 0 };
+
+    /// Returns the value of the stored range that has the key.
+    fn get(&self, key: &Self::Key) -> Option<&Self::Value>
+        ensures { option_copied result ≡ value_at Self.Kind.kind (pairs self.now) key.now };
+
+    /// Returns the stored range that has the key, and its value.
+    fn get_key_value(&self, key: &Self::Key) -> Option<(&Self::Range, &Self::Value)>
+        ensures { option_map (λ pair. (pair.0.now, pair.1.now)) result ≡ covering Self.Kind.kind (pairs self.now) key.now };
+
+    /// Whether a stored range has the key.
+    fn contains_key(&self, key: &Self::Key) -> bool
+        ensures { result ≡ is_some (covering Self.Kind.kind (pairs self.now) key.now) };
+
+    /// Returns the first stored range and its value.
+    fn first_range_value(&self) -> Option<(&Self::Range, &Self::Value)>
+        ensures { option_map (λ pair. (pair.0.now, pair.1.now)) result ≡ slice_get (pairs self.now) 0 };
+
+    /// Returns the last stored range and its value.
+    fn last_range_value(&self) -> Option<(&Self::Range, &Self::Value)>
+        ensures { option_map (λ pair. (pair.0.now, pair.1.now)) result ≡ slice_get (pairs self.now) (length (pairs self.now) - 1) };
+
+    /// Whether a stored range overlaps `range`, of which nothing is asked.
+    fn overlaps(&self, range: &Self::Range) -> bool
+        ensures { result ≡ nat_lt 0 (length (overlapped Self.Kind.kind (pairs self.now) range.now)) };
+
+    /// Appends clones of all pairs, in order, so that they outlive the container. The caller sees to
+    /// it that a clone of a key or value equals its original. `Err` says that a clone, or the growth
+    /// of `out`, was refused: then `out` is as it was.
+    fn append_all<B: Allocator>(
+        &self,
+        out: &mut Vec<(Self::Range, Self::Value), B>,
+    ) -> Result<(), AllocError>
+        requires faithful_keys { KeysCloneFaithfully Self.Key.is_clone Self.Key.cmp }
+        requires faithful_values { ValuesCloneFaithfully Self.Value.is_clone Self.Value.eq }
+        ensures ok { OnOk result (Appends Self.Kind.kind Self.Value.eq (pairs self.now) out.old.items out.new.items) }
+        ensures err { OnErr result (out.new.items ≡ out.old.items) };
+
+    /// Appends clones of the pairs that overlap `range`, in order. Nothing is asked of `range`; the
+    /// other conditions, and what `Err` says, are those of `append_all`.
+    fn append_overlapping<B: Allocator>(
+        &self,
+        range: &Self::Range,
+        out: &mut Vec<(Self::Range, Self::Value), B>,
+    ) -> Result<(), AllocError>
+        requires faithful_keys { KeysCloneFaithfully Self.Key.is_clone Self.Key.cmp }
+        requires faithful_values { ValuesCloneFaithfully Self.Value.is_clone Self.Value.eq }
+        ensures ok { OnOk result (Appends Self.Kind.kind Self.Value.eq (overlapped Self.Kind.kind (pairs self.now) range.now) out.old.items out.new.items) }
+        ensures err { OnErr result (out.new.items ≡ out.old.items) };
+
+    /// Appends the parts of `outer_range` that no stored range covers, in order. Nothing is asked of
+    /// `outer_range`; the caller sees to it that a clone of a key equals its original, and `Err`
+    /// says what it says of `append_all`.
+    fn append_gaps<B: Allocator>(
+        &self,
+        outer_range: &Self::Range,
+        out: &mut Vec<Self::Range, B>,
+    ) -> Result<(), AllocError>
+        requires faithful_keys { KeysCloneFaithfully Self.Key.is_clone Self.Key.cmp }
+        ensures ok { OnOk result (AppendsGaps Self.Kind.kind (map (λ pair. pair.0) (pairs self.now)) outer_range.now out.old.items out.new.items) }
+        ensures err { OnErr result (out.new.items ≡ out.old.items) };
+
+    /// Maps are equal where their pairs are.
+    ghost equal: { (left right : Self) → Self.eq left right ≡ same_pairs Self.Kind.kind Self.Value.eq (pairs left) (pairs right) };
+}
+
+/// A map that can be cloned. It is a trait of its own since a map may ask for an allocator with
+/// clones in its type.
+pub trait TryClone: Container {
+    /// Makes an equal map out of clones, in memory of a clone of this one's allocator. The
+    /// conditions are those of `insert`.
+    ///
+    /// # Errors
+    ///
+    /// `Err` says that memory or a clone was refused.
+    fn clone(&self) -> Result<Self, AllocError>
+        requires faithful_keys { KeysCloneFaithfully Self.Key.is_clone Self.Key.cmp }
+        requires faithful_values { ValuesCloneFaithfully Self.Value.is_clone Self.Value.eq }
+        ensures same { IfOk result (λ copy. same_pairs Self.Kind.kind Self.Value.eq (Self.pairs self.now) (Self.pairs copy) ≡ true) }
+        ensures canon { IfOk result (λ copy. IsCanonOf Self.Kind.kind Self.Value.eq (value_at Self.Kind.kind (Self.pairs self.now)) (Self.pairs copy)) };
+}
+
+/// A map that also takes the pairs of an iterator, one after another.
+pub trait Collect: Container {
+    /// Makes an empty map by `new`. It takes no memory yet.
+    fn new(alloc: Self::Alloc) -> Self
+        ensures { Self.pairs result ≡ [] };
+
+    /// Inserts the items of `iter`, in the order in which they come. The caller sees to it that it
+    /// ends and gives no empty range, and that clones are faithful. `Err` says that an insert was
+    /// refused; the items before that one stay.
+    fn extend<I: IntoIterator<Item = (Self::Range, Self::Value)>>(
+        &mut self,
+        iter: I,
+    ) -> Result<(), AllocError>
+        requires ends { IsFiniteIterable I.into_iter_gives I.IntoIter.can_next I.IntoIter.remaining iter }
+        requires non_empty { (it : I.IntoIter) → I.into_iter_gives iter it → GivesNonEmpty Self.Kind.kind I.IntoIter.next_gives it }
+        requires faithful_keys { KeysCloneFaithfully Self.Key.is_clone Self.Key.cmp }
+        requires faithful_values { ValuesCloneFaithfully Self.Value.is_clone Self.Value.eq }
+        ensures { ExtendsWithItems I.into_iter_gives I.IntoIter.next_gives (λ old items new. Overrides Self.Kind.kind Self.Value.eq (Self.pairs old) items (Self.pairs new)) iter self.old self.new result };
+
+    /// The map of the items of `iter`, inserted in the order in which they come, in memory of
+    /// `alloc`. The conditions are those of `extend`. `Err` says that an insert was refused;
+    /// nothing is made then.
+    fn from_iter<I: IntoIterator<Item = (Self::Range, Self::Value)>>(
+        alloc: Self::Alloc,
+        iter: I,
+    ) -> Result<Self, AllocError>
+        requires ends { IsFiniteIterable I.into_iter_gives I.IntoIter.can_next I.IntoIter.remaining iter }
+        requires non_empty { (it : I.IntoIter) → I.into_iter_gives iter it → GivesNonEmpty Self.Kind.kind I.IntoIter.next_gives it }
+        requires faithful_keys { KeysCloneFaithfully Self.Key.is_clone Self.Key.cmp }
+        requires faithful_values { ValuesCloneFaithfully Self.Value.is_clone Self.Value.eq }
+        ensures { IfOk result (λ all. (it : I.IntoIter) × (items : List _) × I.into_iter_gives iter it × Drains I.IntoIter.next_gives it items × IsCanonOf Self.Kind.kind Self.Value.eq (override_all Self.Kind.kind nothing items) (Self.pairs all)) };
+}
+
+/// Collects the gaps of `outer_range` into a vector, with memory of `alloc`: the parts of it that no
+/// stored range covers, in order. It takes *O*(log *n* + *k*), with *k* stored ranges that
+/// `outer_range` overlaps.
+///
+/// # Errors
+///
+/// `Err` says that the memory of the vector, or a clone of a key, was refused.
+pub fn collect_gaps<M: Container, B: Allocator>(
+    alloc: B,
+    stored: &M,
+    outer_range: &M::Range,
+) -> Result<Vec<M::Range, B>, AllocError>
+    requires { KeysCloneFaithfully M.Key.is_clone M.Key.cmp }
+    ensures { IfOk result (λ gaps. AreGaps M.Kind.kind (map (λ pair. pair.0) (M.pairs stored.now)) outer_range.now gaps.items) }
+{
+    let mut gaps = Vec::new(alloc);
+    stored.append_gaps(outer_range, &mut gaps)?;
+    Ok(gaps)
+}

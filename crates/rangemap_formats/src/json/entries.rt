@@ -1,0 +1,167 @@
+//! How an entry of a map is laid out and how one of a set is, each with the functions of a caller.
+ghost use Rattle.std.specs.Prelude.{◌≡◌, IfOk, MatchOption, Some as SomeWord, ◌∷◌, []};
+ghost use Rattle.serde_json.specs.declared.value.Value.{Value as Json};
+ghost use Rattle.rangemap_formats.specs.Json.{list_of, map_entry};
+
+use super::reading::{ReadsParts, items};
+use super::writing::WritesParts;
+use serde_json::Value;
+use std::alloc::{AllocError, Global};
+
+/// Reads the entries of a map, `[[start, end], value]`.
+#[derive(Drop)]
+pub struct MapReader<RK, RV> {
+    pub read_key: RK,
+    pub read_value: RV,
+}
+
+impl<K, V, E, RK: Fn(&Value) -> Result<K, E>, RV: Fn(&Value) -> Result<V, E>> ReadsParts<K, V, E>
+    for MapReader<RK, RV> {
+    ghost use Rattle.std.specs.Fn.{FnReturnsAt};
+    ghost use Rattle.rangemap_formats.specs.Json.{map_reader};
+    ghost use Rattle.rangemap_formats.specs.laws.Entries.{map_unambiguous};
+
+    ghost reader = { λ it. map_reader (FnReturnsAt RK.Fn it.read_key) (FnReturnsAt RV.Fn it.read_value) };
+
+    ghost is_ready = { λ it. RK.IsAlwaysCallable it.read_key × RV.IsAlwaysCallable it.read_value };
+
+    ghost unambiguous = { λ it. map_unambiguous (FnReturnsAt RK.Fn it.read_key) (FnReturnsAt RV.Fn it.read_value) };
+
+    fn parts<'a>(&self, entry: &'a Value) -> Option<(&'a Value, &'a Value, &'a Value)> {
+        map_parts(entry)
+    }
+
+    fn key(&self, part: &Value) -> Result<K, E> {
+        (self.read_key)(part)
+    }
+
+    fn value(&self, part: &Value) -> Result<V, E> {
+        (self.read_value)(part)
+    }
+}
+
+/// Writes the entries of a map.
+#[derive(Drop)]
+pub struct MapWriter<WK, WV> {
+    pub write_key: WK,
+    pub write_value: WV,
+}
+
+impl<K, V, E, WK: Fn(&K) -> Result<Value, E>, WV: Fn(&V) -> Result<Value, E>> WritesParts<K, V, E>
+    for MapWriter<WK, WV> {
+    ghost use Rattle.std.specs.Fn.{FnReturnsAt};
+    ghost use Rattle.rangemap_formats.specs.Json.{map_writer};
+
+    ghost writer = { λ it. map_writer (FnReturnsAt WK.Fn it.write_key) (FnReturnsAt WV.Fn it.write_value) };
+
+    ghost is_ready = { λ it. WK.IsAlwaysCallable it.write_key × WV.IsAlwaysCallable it.write_value };
+
+    fn key(&self, key: &K) -> Result<Value, E> {
+        (self.write_key)(key)
+    }
+
+    fn value(&self, value: &V) -> Result<Value, E> {
+        (self.write_value)(value)
+    }
+
+    fn entry(
+        &self,
+        alloc: Global,
+        start: Value,
+        end: Value,
+        value: Value,
+    ) -> Result<Value, AllocError> {
+        let range = list_of_two(alloc, start, end)?;
+        list_of_two(alloc, range, value)
+    }
+}
+
+/// Reads the entries of a set, `[start, end]`, as those of a map to the unit.
+#[derive(Drop)]
+pub struct SetReader<RK> {
+    pub read_key: RK,
+}
+
+impl<K, E, RK: Fn(&Value) -> Result<K, E>> ReadsParts<K, (), E> for SetReader<RK> {
+    ghost use Rattle.std.specs.Fn.{FnReturnsAt};
+    ghost use Rattle.rangemap_formats.specs.Json.{set_reader};
+    ghost use Rattle.rangemap_formats.specs.laws.Entries.{set_unambiguous};
+
+    ghost reader = { λ it. set_reader (FnReturnsAt RK.Fn it.read_key) };
+
+    ghost is_ready = { λ it. RK.IsAlwaysCallable it.read_key };
+
+    ghost unambiguous = { λ it. set_unambiguous (FnReturnsAt RK.Fn it.read_key) };
+
+    fn parts<'a>(&self, entry: &'a Value) -> Option<(&'a Value, &'a Value, &'a Value)> {
+        let (start, end) = two_of(entry)?;
+        Some((start, end, entry))
+    }
+
+    fn key(&self, part: &Value) -> Result<K, E> {
+        (self.read_key)(part)
+    }
+
+    fn value(&self, _part: &Value) -> Result<(), E> {
+        Ok(())
+    }
+}
+
+/// Writes the entries of a set.
+#[derive(Drop)]
+pub struct SetWriter<WK> {
+    pub write_key: WK,
+}
+
+impl<K, E, WK: Fn(&K) -> Result<Value, E>> WritesParts<K, (), E> for SetWriter<WK> {
+    ghost use Rattle.std.specs.Fn.{FnReturnsAt};
+    ghost use Rattle.rangemap_formats.specs.Json.{set_writer};
+
+    ghost writer = { λ it. set_writer (FnReturnsAt WK.Fn it.write_key) };
+
+    ghost is_ready = { λ it. WK.IsAlwaysCallable it.write_key };
+
+    fn key(&self, key: &K) -> Result<Value, E> {
+        (self.write_key)(key)
+    }
+
+    fn value(&self, _value: &()) -> Result<Value, E> {
+        Ok(Value::Null)
+    }
+
+    fn entry(
+        &self,
+        alloc: Global,
+        start: Value,
+        end: Value,
+        _value: Value,
+    ) -> Result<Value, AllocError> {
+        list_of_two(alloc, start, end)
+    }
+}
+
+// The parts of `[[start, end], value]`.
+fn map_parts<'a>(entry: &'a Value) -> Option<(&'a Value, &'a Value, &'a Value)>
+    ensures { MatchOption result ((start end value : Json) → map_entry entry.now start end value → ⊥) (λ parts. map_entry entry.now parts.0.now parts.1.now parts.2.now) }
+{
+    let (range, value) = two_of(entry)?;
+    let (start, end) = two_of(range)?;
+    Some((start, end, value))
+}
+
+// The items of a list of exactly two.
+fn two_of<'a>(value: &'a Value) -> Option<(&'a Value, &'a Value)>
+    ensures { MatchOption result ((first second : Json) → list_of value.now ≡ SomeWord (first ∷ second ∷ []) → ⊥) (λ parts. list_of value.now ≡ SomeWord (parts.0.now ∷ parts.1.now ∷ [])) }
+{
+    match items(value)? {
+        [first, second] => Some((first, second)),
+        _ => None,
+    }
+}
+
+// The list of two.
+fn list_of_two(alloc: Global, first: Value, second: Value) -> Result<Value, AllocError>
+    ensures { IfOk result (λ list. list_of list ≡ SomeWord (first ∷ second ∷ [])) }
+{
+    Ok(Value::Array(vec![in alloc; first, second]?))
+}

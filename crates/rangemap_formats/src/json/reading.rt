@@ -1,0 +1,141 @@
+//! Reading a container from the value of its JSON form.
+ghost use Rattle.std.specs.Prelude.{◌≡◌, IfErr, IfOk, MatchOption, OnOk, option_map};
+ghost use Rattle.serde_json.specs.declared.value.Value.{Value as Json};
+ghost use Rattle.rangemap_core.specs.Clones.{KeysCloneFaithfully, ValuesCloneFaithfully};
+ghost use Rattle.rangemap_formats.specs.Json.{Breaks, EndsWith, Follows, IsEmptyEntry, IsEntryFault, IsRead, IsReading, IsRefusedForMemoryAlone, IsUnambiguous, Reader, RefusesToRead, list_of};
+ghost use Rattle.rangemap_core.specs.Ranges.{IsStorable};
+ghost use Rattle.rangemap_formats.specs.declared.json.Form.TheVariants.{Canonical as CanonicalWord};
+
+use super::{Form, Part, ReadError};
+use rangemap_core::container::Container;
+use rangemap_core::kind::{Interval, Kind};
+use rangemap_core::std_ext::Touch;
+use serde_json::Value;
+
+/// What reads the parts of an entry, with keys of type `K`, values of type `V` and faults of type
+/// `E`.
+pub trait ReadsParts<K, V, E> {
+    /// What it may answer.
+    ghost reader: { Self → Reader K V E };
+
+    /// What the caller sees to.
+    ghost is_ready: { Self → Type 0 };
+
+    /// An entry is read in one way at most.
+    ghost unambiguous: { (it : Self) → IsUnambiguous (reader it) };
+
+    /// Returns the start, the end and the value of an entry, if it is laid out so.
+    fn parts<'a>(&self, entry: &'a Value) -> Option<(&'a Value, &'a Value, &'a Value)>
+        ensures { MatchOption result ((start end value : Json) → (reader self.now).shape entry.now start end value → ⊥) (λ parts. (reader self.now).shape entry.now parts.0.now parts.1.now parts.2.now) };
+
+    /// Reads a key.
+    fn key(&self, part: &Value) -> Result<K, E>
+        requires { is_ready self.now }
+        ensures { (reader self.now).key part.now result };
+
+    /// Reads a value.
+    fn value(&self, part: &Value) -> Result<V, E>
+        requires { is_ready self.now }
+        ensures { (reader self.now).value part.now result };
+}
+
+/// Reads a container: inserts the pairs of the entries, in order. Every `from_value` is this call.
+pub fn read<M: Container, E, R: ReadsParts<M::Key, M::Value, E>>(
+    alloc: M::Alloc,
+    form: Form,
+    value: &Value,
+    reader: &R,
+) -> Result<M, ReadError<E>>
+    requires ready { R.is_ready reader.now }
+    requires faithful_keys { KeysCloneFaithfully M.Key.is_clone M.Key.cmp }
+    requires faithful_values { ValuesCloneFaithfully M.Value.is_clone M.Value.eq }
+    ensures ok { IfOk result (λ all. IsReading M.Kind.kind (R.reader reader.now) M.Value.eq form value.now (M.pairs all)) }
+    ensures err { IfErr result (RefusesToRead M.Kind.kind (R.reader reader.now) M.Value.eq form value.now) }
+    ensures exact { IfErr result (IsRefusedForMemoryAlone M.Kind.kind (R.reader reader.now) M.Value.eq form value.now) }
+{
+    let Some(entries) = items(value) else {
+        return Err(ReadError::NotAList);
+    };
+    let mut all = M::empty(alloc);
+    for (at, entry) in entries.iter().enumerate() {
+        let found = read_entry::<M, E, R>(at, entry, reader)?;
+        let Some((range, value)) = found else {
+            return Err(ReadError::EmptyRange { at });
+        };
+        check_form(&all, form, at, &range, &value)?;
+        all.insert(range, value)?;
+    }
+    Ok(all)
+}
+
+// The pair of the entry at the place, unless its range is empty.
+fn read_entry<M: Container, E, R: ReadsParts<M::Key, M::Value, E>>(
+    at: usize,
+    entry: &Value,
+    reader: &R,
+) -> Result<Option<(M::Range, M::Value)>, ReadError<E>>
+    requires { R.is_ready reader.now }
+    ensures ok { IfOk result (λ found. MatchOption found (IsEmptyEntry M.Kind.kind (R.reader reader.now) entry.now) (λ pair. IsStorable M.Kind.kind pair.0 × IsRead M.Kind.kind (R.reader reader.now) pair entry.now)) }
+    ensures err { IfErr result (IsEntryFault M.Kind.kind (R.reader reader.now) at entry.now) }
+{
+    let Some((start, end, value)) = reader.parts(entry) else {
+        return Err(ReadError::BadEntry { at });
+    };
+    let start = match reader.key(start) {
+        Ok(key) => key,
+        Err(fault) => {
+            let part = Part::Start;
+            return Err(ReadError::BadKey { at, part, fault });
+        }
+    };
+    let end = match reader.key(end) {
+        Ok(key) => key,
+        Err(fault) => {
+            let part = Part::End;
+            return Err(ReadError::BadKey { at, part, fault });
+        }
+    };
+    let value = match reader.value(value) {
+        Ok(value) => value,
+        Err(fault) => return Err(ReadError::BadValue { at, fault }),
+    };
+    match M::Kind::between(start, end) {
+        Some(range) => Ok(Some((range, value))),
+        None => Ok(None),
+    }
+}
+
+// Whether the form lets the pair stand behind the last that is stored.
+fn check_form<M: Container, E>(
+    all: &M,
+    form: Form,
+    at: usize,
+    range: &M::Range,
+    value: &M::Value,
+) -> Result<(), ReadError<E>>
+    ensures ok { OnOk result (form ≡ CanonicalWord → (last : _) → EndsWith (M.pairs all.now) last → Follows M.Kind.kind M.Value.eq last (range.now, value.now)) }
+    ensures err { IfErr result (λ error. (form ≡ CanonicalWord) × ((last : _) × EndsWith (M.pairs all.now) last × Breaks M.Kind.kind M.Value.eq at last (range.now, value.now) error)) }
+{
+    let Form::Canonical = form else {
+        return Ok(());
+    };
+    let Some((last_range, last_value)) = all.last_range_value() else {
+        return Ok(());
+    };
+    match M::Kind::touch_test(last_range, range) {
+        Touch::Apart => Ok(()),
+        Touch::Touching if *last_value != *value => Ok(()),
+        Touch::Touching => Err(ReadError::Uncoalesced { at }),
+        Touch::NotBefore => Err(ReadError::OutOfOrder { at }),
+    }
+}
+
+/// Returns the items of a value that is a list.
+pub(crate) fn items(value: &Value) -> Option<&[Value]>
+    ensures { option_map (λ items. items.now) result ≡ list_of value.now }
+{
+    match value {
+        Value::Array(items) => Some(items.as_slice()),
+        _ => None,
+    }
+}

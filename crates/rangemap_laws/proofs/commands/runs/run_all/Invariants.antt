@@ -1,0 +1,10 @@
+use Rattle.std.proofs.Common.{◌≡◌, ◌≤◌, length, vec_capacity, vec_len}
+use Rattle.rangemap_laws.specs.Runs.{CommandStep, Ran}
+use Rattle.rangemap_laws.proofs.commands.runs.run_all.Given as goal
+
+abbrev pub invariant-loop-command : goal.invariant-loop-command
+invariant-loop-command g l = record {
+  ran : Ran (CommandStep g.M.Kind.Interval.kind g.M.Value.PartialEq.eq) (g.M.Container.pairs l.fn.map) l.yielded l.answers.items (g.M.Container.pairs l.map);
+  answered : vec_len l.answers ≡ length l.yielded;
+  room : vec_len l.fn.commands ≤ vec_capacity l.answers;
+}

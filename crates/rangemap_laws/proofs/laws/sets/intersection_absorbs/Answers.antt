@@ -1,0 +1,18 @@
+use Rattle.rangemap_core.specs.Ranges.{value_at}
+use Rattle.rangemap_operations.specs.Operators.{either}
+use Rattle.rangemap_operations.proofs.OperatorLemmas.{common_absorbs, common_of, own, same_of}
+use Rattle.rangemap_laws.proofs.laws.sets.intersection_absorbs.Goals as goal
+
+pub returns-clause-made : goal.returns-clause-made
+returns-clause-made g c =
+    let k = g.M.Kind.Interval.kind in
+    let e = g.met.M.Value.Eq.laws in
+    common_of k e (value_at g.M.Kind.Interval.kind (g.M.Container.pairs c.args.first.now)) (either (value_at g.M.Kind.Interval.kind (g.M.Container.pairs c.args.first.now)) (value_at g.M.Kind.Interval.kind (g.M.Container.pairs c.args.second.now))) _ _ _ (own k e (g.M.Container.pairs c.args.first.now) c.known.ensures) c.in_ok-inner.ensures c.in_ok-made.ensures
+
+pub returns-clause-equal : goal.returns-clause-equal
+returns-clause-equal g c =
+    let k = g.M.Kind.Interval.kind in
+    let e = g.met.M.Value.Eq.laws in
+    let p = g.met.M.Kind.Kind.placed in
+    let u = g.met.M.Combine.all_equal in
+    same_of k e p u _ _ _ _ (returns-clause-made g c) (own k e (g.M.Container.pairs c.args.first.now) c.known.ensures) (λ x. common_absorbs (value_at g.M.Kind.Interval.kind (g.M.Container.pairs c.args.first.now)) (value_at g.M.Kind.Interval.kind (g.M.Container.pairs c.args.second.now)) (value_at g.M.Kind.Interval.kind (g.M.Container.pairs c.args.first.now)) x)

@@ -1,0 +1,7 @@
+pub mod Histories
+pub mod Held
+pub mod Parted
+pub mod Rows
+pub mod SetHistories
+pub mod Ended
+pub mod Runs

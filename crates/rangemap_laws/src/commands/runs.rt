@@ -1,0 +1,73 @@
+//! The run of a list of commands on a map, whatever it is made of.
+ghost use Rattle.std.specs.Prelude.{◌≡◌, ◌≤◌, [], IfOk, OnErr, vec_len, vec_capacity};
+ghost use Rattle.std.specs.List.{AllByRecursion};
+ghost use Rattle.rangemap_core.specs.Clones.{KeysCloneFaithfully, ValuesCloneFaithfully};
+ghost use Rattle.rangemap_laws.specs.Runs.{CommandStep, IsAllowed, Ran};
+
+use super::answers::answer;
+use super::command::{Answer, Command};
+use rangemap_core::container::Container;
+use std::alloc::{AllocError, Allocator};
+
+/// What came of a command: its answer, or that it was refused.
+pub type Outcome<R, V, A> = Result<Answer<R, V, A>, AllocError>;
+
+/// Runs the commands on a map, in order, and answers each.
+///
+/// The contract, in `Ran`, says of each command what it answers, up to equality, and what it makes
+/// of the map's pairs, in words of the map's point function. A command that is refused changes
+/// nothing, and those after it are run; `Clear` and `Len` are never refused, nor is a `Remove` that
+/// meets nothing, or a `Get` or `GetKeyValue` of a key that no range has. What two maps answer that are equal, `laws::runs` says: it can't be seen what
+/// they are made of.
+///
+/// # Requires
+///
+/// No range that is inserted or removed is empty, what is asked about is a key, which holds of each
+/// key of half-open ranges, and clones are faithful, as for `insert`.
+///
+/// # Errors
+///
+/// The memory for the answers, or a clone of `alloc`, was refused. Then no command was run.
+///
+/// # Examples
+///
+/// ```text
+/// let commands = [Command::Insert(0..10, 'a'), Command::Remove(3..6), Command::Get(7)];
+/// let answers = run(alloc, &mut map, Vec::from_array(alloc, commands)?)?;
+/// // Ok(Done), Ok(Done), Ok(Value(Some('a')))
+/// ```
+pub fn run<M: Container, A: Allocator + Clone>(
+    alloc: A,
+    map: &mut M,
+    commands: Vec<Command<M::Key, M::Range, M::Value>, A>,
+) -> Result<Vec<Outcome<M::Range, M::Value, A>, A>, AllocError>
+    requires allowed { AllByRecursion (IsAllowed M.Kind.kind) commands.items }
+    requires faithful_keys { KeysCloneFaithfully M.Key.is_clone M.Key.cmp }
+    requires faithful_values { ValuesCloneFaithfully M.Value.is_clone M.Value.eq }
+    ensures ok { IfOk result (λ answers. Ran (CommandStep M.Kind.kind M.Value.eq) (M.pairs map.old) commands.items answers.items (M.pairs map.new)) }
+    ensures err { OnErr result (M.pairs map.new ≡ M.pairs map.old) }
+{
+    let mut answers = Vec::with_capacity(alloc.clone()?, commands.len())?;
+    run_all(&alloc, map, commands, &mut answers);
+    Ok(answers)
+}
+
+// Runs the commands, for whose answers there is room.
+fn run_all<M: Container, A: Allocator + Clone>(
+    alloc: &A,
+    map: &mut M,
+    commands: Vec<Command<M::Key, M::Range, M::Value>, A>,
+    answers: &mut Vec<Outcome<M::Range, M::Value, A>, A>,
+)
+    requires room { vec_len commands ≤ vec_capacity answers.old }
+    requires no_answers { answers.old.items ≡ [] }
+    requires allowed { AllByRecursion (IsAllowed M.Kind.kind) commands.items }
+    requires faithful_keys { KeysCloneFaithfully M.Key.is_clone M.Key.cmp }
+    requires faithful_values { ValuesCloneFaithfully M.Value.is_clone M.Value.eq }
+    ensures { Ran (CommandStep M.Kind.kind M.Value.eq) (M.pairs map.old) commands.items answers.new.items (M.pairs map.new) }
+{
+    for command in commands {
+        let given = answer(alloc, map, command);
+        answers.push_reserved(given);
+    }
+}

@@ -1,0 +1,185 @@
+//! What holds of every map, as contracts that the check has proved.
+//!
+//! A function here that takes maps makes the calls that its law speaks of, and its contract says
+//! what they leave; one that takes nothing states a fact about lists of ranges. It serves every map
+//! of the library: what a map is to it is said by `Container`.
+//!
+//! A law holds where all of its calls are accepted. `Err(AllocError)` says that one was refused. A
+//! law of one call says that nothing changed then. A law of more leaves open what the maps hold: the
+//! calls before the refused one were made, and each left what its own contract says.
+//!
+//! A contract speaks of what is held, not of how often it was written. So a law can't tell one
+//! insert from two equal ones; that the calls are made once is read in the bodies.
+ghost use Rattle.std.specs.Prelude.{◌≡◌, ◌↔◌, ◌&&◌, true, false, is_some, map, IsTrue, IfOk, List, Some as SomeWord, None as NoneWord, OnErr, OnOk};
+ghost use Rattle.std.specs.Option.{option_eq};
+ghost use Rattle.std.specs.declared.ops.Range.{Range as RangeOf};
+ghost use Rattle.std.specs.declared.ops.RangeInclusive.{RangeInclusive as RangeInclusiveOf};
+ghost use Rattle.rangemap_core.specs.Clones.{KeysCloneFaithfully, ValuesCloneFaithfully};
+ghost use Rattle.rangemap_laws.specs.Parted.{IsParted};
+ghost use Rattle.rangemap_core.specs.Ranges.{Alike, AreGaps, IsCanonOf, IsCanonical, closed, covering, erase, half_open, override, same_pairs, value_at};
+
+mod clones;
+pub mod comparisons;
+pub mod definitions;
+pub mod iterators;
+pub mod overlaps;
+pub mod round_trips;
+pub mod runs;
+pub mod sets;
+pub mod texts;
+
+use clones::{insert_clone, remove_clone};
+use rangemap_core::container::{Container, collect_gaps};
+use rangemap_core::std_ext::StepFns;
+use std::alloc::{AllocError, Allocator};
+
+/// Canonical lists of half-open ranges, over any order, are equal pair by pair exactly when their
+/// point functions are alike. So a point function has at most one canonical list, and which calls
+/// led to it can't be seen.
+pub fn half_open_lists_are_unique<K: Ord, V: Eq>()
+    ensures { (left right : List (RangeOf K × V))
+        → IsCanonical (half_open K.cmp) V.eq left
+        → IsCanonical (half_open K.cmp) V.eq right
+        → (IsTrue (same_pairs (half_open K.cmp) V.eq left right)
+        ↔ Alike (half_open K.cmp) V.eq (value_at (half_open K.cmp) left) (value_at (half_open K.cmp) right)) }
+{}
+
+/// The same of closed ranges, over any order whose keys have neighbours, which is what the steps
+/// tell.
+pub fn closed_lists_are_unique<K: Ord, V: Eq, StepFnsT: StepFns<K>>()
+    ensures { (left right : List (RangeInclusiveOf K × V))
+        → IsCanonical (closed StepFnsT.is_key K.cmp) V.eq left
+        → IsCanonical (closed StepFnsT.is_key K.cmp) V.eq right
+        → (IsTrue (same_pairs (closed StepFnsT.is_key K.cmp) V.eq left right)
+        ↔ Alike (closed StepFnsT.is_key K.cmp) V.eq (value_at (closed StepFnsT.is_key K.cmp) left) (value_at (closed StepFnsT.is_key K.cmp) right)) }
+{}
+
+/// Two maps are equal exactly when they give alike answers at every key. The answer is that of
+/// `==`.
+pub fn equal_exactly_when_alike<M: Container>(left: &M, right: &M) -> bool
+    ensures equal { result ≡ same_pairs M.Kind.kind M.Value.eq (M.pairs left.now) (M.pairs right.now) }
+    ensures alike { IsTrue result ↔ Alike M.Kind.kind M.Value.eq (value_at M.Kind.kind (M.pairs left.now)) (value_at M.Kind.kind (M.pairs right.now)) }
+{
+    left.known();
+    right.known();
+    left == right
+}
+
+/// After an insert each key of the range has the value, and any other key is covered exactly as
+/// before, with an equal value.
+pub fn insert_changes_its_range_alone<M: Container>(
+    map: &mut M,
+    range: M::Range,
+    value: M::Value,
+) -> Result<(), AllocError>
+    requires non_empty { M.Kind.kind.IsNonEmpty range }
+    requires faithful_keys { KeysCloneFaithfully M.Key.is_clone M.Key.cmp }
+    requires faithful_values { ValuesCloneFaithfully M.Value.is_clone M.Value.eq }
+    ensures canonical { OnOk result (IsCanonical M.Kind.kind M.Value.eq (M.pairs map.new)) }
+    ensures within { OnOk result ((x : M.Key) → M.Kind.kind.is_key x → M.Kind.kind.holds range x ≡ true → option_eq M.Value.eq (value_at M.Kind.kind (M.pairs map.new) x) (SomeWord value) ≡ true) }
+    ensures elsewhere { OnOk result ((x : M.Key) → M.Kind.kind.is_key x → M.Kind.kind.holds range x ≡ false → option_eq M.Value.eq (value_at M.Kind.kind (M.pairs map.new) x) (value_at M.Kind.kind (M.pairs map.old) x) ≡ true) }
+    ensures err { OnErr result (M.pairs map.new ≡ M.pairs map.old) }
+{
+    map.insert(range, value)
+}
+
+/// After a remove no key of the range is covered, and any other key is covered exactly as before,
+/// with an equal value.
+pub fn remove_changes_its_range_alone<M: Container>(
+    map: &mut M,
+    range: M::Range,
+) -> Result<(), AllocError>
+    requires non_empty { M.Kind.kind.IsNonEmpty range }
+    requires faithful_keys { KeysCloneFaithfully M.Key.is_clone M.Key.cmp }
+    requires faithful_values { ValuesCloneFaithfully M.Value.is_clone M.Value.eq }
+    ensures canonical { OnOk result (IsCanonical M.Kind.kind M.Value.eq (M.pairs map.new)) }
+    ensures within { OnOk result ((x : M.Key) → M.Kind.kind.is_key x → M.Kind.kind.holds range x ≡ true → value_at M.Kind.kind (M.pairs map.new) x ≡ NoneWord) }
+    ensures elsewhere { OnOk result ((x : M.Key) → M.Kind.kind.is_key x → M.Kind.kind.holds range x ≡ false → option_eq M.Value.eq (value_at M.Kind.kind (M.pairs map.new) x) (value_at M.Kind.kind (M.pairs map.old) x) ≡ true) }
+    ensures err { OnErr result (M.pairs map.new ≡ M.pairs map.old) }
+{
+    map.remove(range)
+}
+
+/// The same insert twice leaves what it leaves once: given two equal maps, it inserts into `once` a
+/// single time and into `twice` two times, and they are equal again.
+pub fn insert_twice_equals_once<M: Container>(
+    once: &mut M,
+    twice: &mut M,
+    range: &M::Range,
+    value: &M::Value,
+) -> Result<(), AllocError>
+    requires equal { IsTrue (same_pairs M.Kind.kind M.Value.eq (M.pairs once.old) (M.pairs twice.old)) }
+    requires non_empty { M.Kind.kind.IsNonEmpty range.now }
+    requires faithful_keys { KeysCloneFaithfully M.Key.is_clone M.Key.cmp }
+    requires faithful_values { ValuesCloneFaithfully M.Value.is_clone M.Value.eq }
+    ensures once { OnOk result (IsCanonOf M.Kind.kind M.Value.eq (override M.Kind.kind (value_at M.Kind.kind (M.pairs once.old)) range.now value.now) (M.pairs once.new)) }
+    ensures twice { OnOk result (IsCanonOf M.Kind.kind M.Value.eq (override M.Kind.kind (override M.Kind.kind (value_at M.Kind.kind (M.pairs twice.old)) range.now value.now) range.now value.now) (M.pairs twice.new)) }
+    ensures equal { OnOk result (IsTrue (same_pairs M.Kind.kind M.Value.eq (M.pairs once.new) (M.pairs twice.new))) }
+{
+    insert_clone(once, range, value)?;
+    insert_clone(twice, range, value)?;
+    insert_clone(twice, range, value)
+}
+
+/// Inserts on ranges with no common point commute: given two equal maps, it makes both inserts into
+/// each, in the one order and in the other, and the maps are equal again.
+pub fn inserts_commute<M: Container>(
+    forth: &mut M,
+    back: &mut M,
+    first: (&M::Range, &M::Value),
+    second: (&M::Range, &M::Value),
+) -> Result<(), AllocError>
+    requires equal { IsTrue (same_pairs M.Kind.kind M.Value.eq (M.pairs forth.old) (M.pairs back.old)) }
+    requires first_non_empty { M.Kind.kind.IsNonEmpty first.0.now }
+    requires second_non_empty { M.Kind.kind.IsNonEmpty second.0.now }
+    requires no_common_point { (x : M.Key) → M.Kind.kind.is_key x → (M.Kind.kind.holds first.0.now x && M.Kind.kind.holds second.0.now x) ≡ false }
+    requires faithful_keys { KeysCloneFaithfully M.Key.is_clone M.Key.cmp }
+    requires faithful_values { ValuesCloneFaithfully M.Value.is_clone M.Value.eq }
+    ensures forth { OnOk result (IsCanonOf M.Kind.kind M.Value.eq (override M.Kind.kind (override M.Kind.kind (value_at M.Kind.kind (M.pairs forth.old)) first.entry.0.now first.entry.1.now) second.entry.0.now second.entry.1.now) (M.pairs forth.new)) }
+    ensures back { OnOk result (IsCanonOf M.Kind.kind M.Value.eq (override M.Kind.kind (override M.Kind.kind (value_at M.Kind.kind (M.pairs back.old)) second.entry.0.now second.entry.1.now) first.entry.0.now first.entry.1.now) (M.pairs back.new)) }
+    ensures equal { OnOk result (IsTrue (same_pairs M.Kind.kind M.Value.eq (M.pairs forth.new) (M.pairs back.new))) }
+{
+    insert_clone(forth, first.0, first.1)?;
+    insert_clone(forth, second.0, second.1)?;
+    insert_clone(back, second.0, second.1)?;
+    insert_clone(back, first.0, first.1)
+}
+
+/// A remove takes back the insert before it: given two equal maps, it inserts into `changed` and
+/// removes the range again, removes it from `removed` alone, and the maps are equal again.
+pub fn remove_after_insert_equals_remove<M: Container>(
+    changed: &mut M,
+    removed: &mut M,
+    range: &M::Range,
+    value: &M::Value,
+) -> Result<(), AllocError>
+    requires equal { IsTrue (same_pairs M.Kind.kind M.Value.eq (M.pairs changed.old) (M.pairs removed.old)) }
+    requires non_empty { M.Kind.kind.IsNonEmpty range.now }
+    requires faithful_keys { KeysCloneFaithfully M.Key.is_clone M.Key.cmp }
+    requires faithful_values { ValuesCloneFaithfully M.Value.is_clone M.Value.eq }
+    ensures changed { OnOk result (IsCanonOf M.Kind.kind M.Value.eq (erase M.Kind.kind (override M.Kind.kind (value_at M.Kind.kind (M.pairs changed.old)) range.now value.now) range.now) (M.pairs changed.new)) }
+    ensures removed { OnOk result (IsCanonOf M.Kind.kind M.Value.eq (erase M.Kind.kind (value_at M.Kind.kind (M.pairs removed.old)) range.now) (M.pairs removed.new)) }
+    ensures equal { OnOk result (IsTrue (same_pairs M.Kind.kind M.Value.eq (M.pairs changed.new) (M.pairs removed.new))) }
+{
+    insert_clone(changed, range, value)?;
+    remove_clone(changed, range)?;
+    remove_clone(removed, range)
+}
+
+/// Gaps and covered keys make up a range: the gaps of `outer_range` and what `stored` covers of it
+/// share no key, and together they have all its keys. No gap is empty, and no two touch.
+///
+/// Answers the gaps, in a vector with the allocator. It errs where there is no memory for them. It
+/// costs time in the logarithm of the ranges stored, and in the number of those that overlap the
+/// range.
+pub fn gaps_and_covered_keys_make_up_a_range<M: Container, B: Allocator>(
+    alloc: B,
+    stored: &M,
+    outer_range: &M::Range,
+) -> Result<Vec<M::Range, B>, AllocError>
+    requires { KeysCloneFaithfully M.Key.is_clone M.Key.cmp }
+    ensures gaps { IfOk result (λ gaps. AreGaps M.Kind.kind (map (λ pair. pair.0) (M.pairs stored.now)) outer_range.now gaps.items) }
+    ensures parted { IfOk result (λ gaps. IsParted M.Kind.kind outer_range.now gaps.items (λ key. is_some (covering M.Kind.kind (M.pairs stored.now) key))) }
+{
+    collect_gaps(alloc, stored, outer_range)
+}

@@ -1,4 +1,0 @@
-use Rattle.rangemap_maps.proofs.inclusive_map.RangeInclusiveMap.gaps.Goals as goal
-
-pub returns : goal.returns
-returns g c = rw (← c.self.view_is) c.gaps.ensures

@@ -1,0 +1,11 @@
+use Rattle.std.specs.Option.{option_eq}
+use Rattle.rangemap_core.specs.Ranges.{Alike, value_at}
+use Rattle.rangemap_core.specs.Segments.{segments_of}
+use Rattle.rangemap_core.proofs.SegmentLemmas.{clipped}
+use Rattle.rangemap_maps.proofs.segments.segments.Given as goal
+
+-- what is left of the pairs makes of what was made so far the whole
+abbrev pub invariant-pairs : goal.invariant-pairs
+invariant-pairs g l =
+    let k = g.Q.Interval.kind in
+    Alike k (option_eq g.V.PartialEq.eq) (clipped k l.query l.found (value_at k l.all)) (segments_of k (value_at k l.map) l.query)

@@ -1,0 +1,97 @@
+//! The JSON form of a map.
+ghost use Rattle.std.specs.Prelude.{IfErr, IfOk};
+ghost use Rattle.std.specs.Fn.{FnReturnsAt};
+ghost use Rattle.rangemap_core.specs.Clones.{KeysCloneFaithfully, ValuesCloneFaithfully};
+ghost use Rattle.rangemap_formats.specs.Json.{IsForm, IsReading, IsRefusedForMemoryAlone, RefusesToRead, RefusesToWrite, map_reader, map_writer};
+
+use super::Map;
+use crate::kinds::OwnSteps;
+use rangemap_formats::json::entries::{MapReader, MapWriter};
+use rangemap_formats::json::{Form, ReadError, WriteError, reading, writing};
+use serde_json::Value;
+use std::alloc::{Allocator, Global};
+
+impl<Q: OwnSteps<K, R>, K: Ord + Clone, R: Drop, V: Eq + Clone, A: Allocator> Map<Q, K, R, V, A> {
+    /// Returns the JSON form of the map: the list of `[[start, end], value]` of its pairs, in
+    /// order, each part as the caller's functions write it, in memory of `alloc`.
+    ///
+    /// The parts are written in the order start, end, value, pair by pair.
+    ///
+    /// # Errors
+    ///
+    /// `Caller` has what a function answered that refused a part, the first one refused.
+    /// `OutOfMemory` says that memory for the value was refused.
+    ///
+    /// # Examples
+    ///
+    /// ```text
+    /// let map = RangeMap::from(alloc, [(0..100u32, 7u32), (200..300, 8)])?;
+    /// let write = |number: &u32| Ok(Value::from(*number));
+    /// let value = map.to_value(alloc, write, write)?; // [[[0,100],7],[[200,300],8]]
+    /// ```
+    pub fn to_value<E, WK: Fn(&K) -> Result<Value, E>, WV: Fn(&V) -> Result<Value, E>>(
+        &self,
+        alloc: Global,
+        write_key: WK,
+        write_value: WV,
+    ) -> Result<Value, WriteError<E>>
+        requires keys { WK.IsAlwaysCallable write_key }
+        requires values { WV.IsAlwaysCallable write_value }
+        ensures ok { IfOk result (IsForm Q.kind (map_writer (FnReturnsAt WK.Fn write_key) (FnReturnsAt WV.Fn write_value)) self.now) }
+        ensures err { IfErr result (RefusesToWrite Q.kind (map_writer (FnReturnsAt WK.Fn write_key) (FnReturnsAt WV.Fn write_value)) self.now) }
+    {
+        let writer = MapWriter {
+            write_key,
+            write_value,
+        };
+        writing::write::<Q, K, R, V, E, MapWriter<WK, WV>>(alloc, &self.pairs, &writer)
+    }
+
+    /// Returns the map that a value of the JSON form stands for: the pairs that the caller's
+    /// functions read of its entries, inserted in order, in memory of `alloc`.
+    ///
+    /// With `Form::Any` entries may overlap and stand in any order. With `Form::Canonical` a value
+    /// is read, memory aside, exactly if the pairs read are a canonical list, which the map then
+    /// holds.
+    ///
+    /// # Requires
+    ///
+    /// Clones are faithful, as for `insert`.
+    ///
+    /// # Errors
+    ///
+    /// Entries are read in order. In an entry the order is shape, start, end, value, emptiness, and
+    /// with `Form::Canonical` then the order and the touch with the pair before. The first fault is
+    /// the answer, and nothing is made then.
+    ///
+    /// # Examples
+    ///
+    /// ```text
+    /// // of [[[0,10],"a"],[[3,6],"b"]]
+    /// RangeMap::from_value(alloc, Form::Any, &value, read_number, read_text)
+    /// // Ok: (0..3, "a"), (3..6, "b"), (6..10, "a")
+    /// RangeMap::from_value(alloc, Form::Canonical, &value, read_number, read_text)
+    /// // Err(ReadError::OutOfOrder { at: 1 })
+    /// ```
+    pub fn from_value<E, RK: Fn(&Value) -> Result<K, E>, RV: Fn(&Value) -> Result<V, E>>(
+        alloc: A,
+        form: Form,
+        value: &Value,
+        read_key: RK,
+        read_value: RV,
+    ) -> Result<Self, ReadError<E>>
+        requires keys { RK.IsAlwaysCallable read_key }
+        requires values { RV.IsAlwaysCallable read_value }
+        requires faithful_keys { KeysCloneFaithfully K.is_clone K.cmp }
+        requires faithful_values { ValuesCloneFaithfully V.is_clone V.eq }
+        ensures ok { IfOk result (IsReading Q.kind (map_reader (FnReturnsAt RK.Fn read_key) (FnReturnsAt RV.Fn read_value)) V.eq form value.now) }
+        ensures err { IfErr result (RefusesToRead Q.kind (map_reader (FnReturnsAt RK.Fn read_key) (FnReturnsAt RV.Fn read_value)) V.eq form value.now) }
+        ensures exact { IfErr result (IsRefusedForMemoryAlone Q.kind (map_reader (FnReturnsAt RK.Fn read_key) (FnReturnsAt RV.Fn read_value)) V.eq form value.now) }
+    {
+        let reader = MapReader {
+            read_key,
+            read_value,
+        };
+        reading::read(alloc, form, value, &reader)
+    }
+}

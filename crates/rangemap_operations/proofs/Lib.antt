@@ -1,0 +1,10 @@
+pub mod CanonicalSetLemmas
+pub mod IncomingLemmas
+pub mod InsertLemmas
+pub mod IntersectionLemmas
+pub mod ItemLemmas
+pub mod PlaceLemmas
+pub mod UnionLemmas
+pub mod UnitValueLemmas
+pub mod SetLemmas
+pub mod OperatorLemmas

@@ -1,9 +1,0 @@
-pub mod CanonicalSetLemmas
-pub mod IncomingLemmas
-pub mod InsertLemmas
-pub mod IntersectionLemmas
-pub mod ItemLemmas
-pub mod MapLemmas
-pub mod PlaceLemmas
-pub mod UnionLemmas
-pub mod UnitValueLemmas

@@ -1,0 +1,25 @@
+//! What the program `rangerun` does: the commands of its lines, carried out over a map, a set or a
+//! calendar of ranges.
+//!
+//! `run` goes over any reader and writer, so that tests see all of it; `serve` hands it what the
+//! system gives. `calendar` is a proved layer above the library.
+#![tactic(auto)]
+
+mod answer;
+mod booking;
+pub mod calendar;
+mod command;
+mod container;
+mod desk;
+mod fault;
+mod lines;
+mod listing;
+mod program;
+mod range;
+mod session;
+mod value;
+mod words;
+
+pub use fault::Fault;
+pub use program::{end, serve, unread};
+pub use session::{run, run_in};

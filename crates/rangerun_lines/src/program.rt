@@ -1,0 +1,42 @@
+//! The program from what the system hands it to its exit status.
+
+use crate::fault::{Cause, Fault};
+use crate::session::run;
+use std::io::{self, ErrorKind, Write};
+use std::{env, process};
+
+/// Runs the program over standard input and output, tells of a fault on standard error, and returns
+/// the exit status.
+pub fn serve(rt: &HostRuntime) -> process::ExitCode {
+    let ended = match arguments(rt) {
+        Ok(args) => run(rt.alloc(), &args, rt.reader(), io::writer(rt)),
+        Err(error) => Err(unread(&error)),
+    };
+    process::ExitCode::from(end(ended, rt.stderr()))
+}
+
+/// The words after the program's name.
+fn arguments(rt: &HostRuntime) -> io::Result<Vec<String>> {
+    Ok(env::args(rt)?.skip(1).collect(rt.alloc())?)
+}
+
+/// Returns the fault where the words after the program's name were not read.
+pub fn unread(error: &io::Error) -> Fault {
+    match error.kind() {
+        ErrorKind::OutOfMemory => Cause::Memory.at(0),
+        _ => Cause::Arguments.at(0),
+    }
+}
+
+/// Tells of the fault that ended a run, if one did, by a line on `errors`, and returns the exit
+/// status.
+pub fn end<W: Write + Drop>(ended: Result<(), Fault>, mut errors: W) -> u8 {
+    match ended {
+        Ok(()) => 0,
+        Err(fault) => {
+            // Where `errors` can't be written either, the status alone tells of the fault.
+            let _ = writeln!(errors, "{fault}");
+            fault.status()
+        }
+    }
+}

@@ -1,0 +1,138 @@
+//! What each call of a calendar answers, and what it answers where memory is refused. What bookings
+//! leave is asked of the program, in `cal.rt`.
+
+use rangerun_lines::calendar::{BookError, Calendar, Call, replay};
+use refusing::Refusing;
+use std::alloc::{AllocError, Allocator};
+use std::process::Abort;
+use std::test::Fail;
+
+/// A number of requests for memory that no call here makes.
+const MANY: u64 = 1000;
+
+/// The stretches of days that guests hold are these.
+fn assert_held<A: Allocator, R: AllocGlobal + Abort>(
+    rt: &R,
+    calendar: &Calendar<A>,
+    held: &[(u32, u32, u32)],
+) -> Result<(), AllocError> {
+    let mut found = Vec::new(rt.alloc());
+    for (days, guest) in calendar.iter() {
+        found.push((*days.start(), *days.end(), *guest))?;
+    }
+    assert_eq!(rt; found.as_slice(), held);
+    Ok(())
+}
+
+#[test]
+fn a_day_has_a_holder_or_is_free(rt: HostRuntime) -> Result<(), Fail> {
+    let mut calendar = Calendar::new(rt.alloc());
+    assert_eq!(rt; calendar.holder(0), None);
+    assert_eq!(rt; calendar.free(&(3..=5)).try_next()?, Some(3..=5));
+    assert_eq!(rt; calendar.book(4294967295, 4294967295, 3), Ok(()));
+    assert_eq!(rt; calendar.holder(4294967295), Some(3));
+    assert_eq!(rt; calendar.holder(4294967294), None);
+    assert_held(&rt, &calendar, &[(4294967295, 4294967295, 3)])?;
+    Ok(())
+}
+
+#[test]
+fn calls_are_replayed(rt: HostRuntime) -> Result<(), Fail> {
+    let mut calendar = Calendar::new(rt.alloc());
+    let calls = [
+        book(10, 14, 1),
+        book(15, 20, 1),
+        book(21, 21, 2),
+        book(12, 12, 2),
+        cancel(12, 13),
+        book(13, 12, 2),
+        book(12, 13, 2),
+        cancel(21, 30),
+    ];
+    let answers = replay(rt.alloc(), &mut calendar, calls.to_vec(rt.alloc())?)?;
+    let expected = [
+        Ok(()),
+        Ok(()),
+        Ok(()),
+        Err(BookError::Taken),
+        Ok(()),
+        Err(BookError::Empty),
+        Ok(()),
+        Ok(()),
+    ];
+    assert_eq!(rt; answers.as_slice(), expected.as_slice());
+    assert_held(&rt, &calendar, &[(10, 11, 1), (12, 13, 2), (14, 20, 1)])?;
+    Ok(())
+}
+
+/// A call that books days.
+fn book(first: u32, last: u32, guest: u32) -> Call {
+    Call::Book { first, last, guest }
+}
+
+/// A call that frees days.
+fn cancel(first: u32, last: u32) -> Call {
+    Call::Cancel { first, last }
+}
+
+#[test]
+fn a_booking_may_be_refused_memory(rt: HostRuntime) -> Result<(), Fail> {
+    let heap = Refusing::new(rt.alloc(), 0);
+    let mut calendar = Calendar::new(&heap);
+    assert_eq!(rt; calendar.book(10, 14, 1), Err(BookError::OutOfMemory));
+    assert_held(&rt, &calendar, &[])?;
+    heap.refuse_after(0);
+    assert_eq!(rt; calendar.book(14, 10, 1), Err(BookError::Empty));
+    assert_eq!(rt; calendar.cancel(10, 14), Ok(()));
+    heap.refuse_after(MANY);
+    assert_eq!(rt; calendar.book(10, 14, 1), Ok(()));
+    assert_held(&rt, &calendar, &[(10, 14, 1)])?;
+    Ok(())
+}
+
+/// Whether a cancellation in the middle of the last of `count` stretches is refused memory. What is
+/// refused changes nothing.
+fn is_cancel_refused<R: AllocGlobal + Abort>(rt: &R, count: u32) -> Result<bool, AllocError> {
+    let heap = Refusing::new(rt.alloc(), MANY);
+    let mut calendar = Calendar::new(&heap);
+    let mut held = Vec::new(rt.alloc());
+    for i in 0..count {
+        let first = i.saturating_mul(10);
+        let last = first.saturating_add(4);
+        assert_eq!(rt; calendar.book(first, last, i), Ok(()));
+        held.push((first, last, i))?;
+    }
+    let day = count.saturating_sub(1).saturating_mul(10).saturating_add(2);
+    heap.refuse_after(0);
+    let answer = calendar.cancel(day, day);
+    if answer.is_ok() {
+        assert_eq!(rt; calendar.holder(day), None);
+        return Ok(false);
+    }
+    assert_eq!(rt; answer, Err(BookError::OutOfMemory));
+    assert_held(rt, &calendar, held.as_slice())?;
+    Ok(true)
+}
+
+#[test]
+fn a_cancellation_may_be_refused_memory(rt: HostRuntime) -> Result<(), AllocError> {
+    let mut refused = 0u32;
+    for count in 1..40 {
+        if is_cancel_refused(&rt, count)? {
+            refused = refused.saturating_add(1);
+        }
+    }
+    assert!(rt; 0 < refused && refused < 39);
+    Ok(())
+}
+
+#[test]
+fn a_replay_may_be_refused_memory(rt: HostRuntime) -> Result<(), Fail> {
+    let heap = Refusing::new(rt.alloc(), MANY);
+    let mut calendar = Calendar::new(&heap);
+    let calls = [book(1, 2, 3)].to_vec(&heap)?;
+    heap.refuse_after(0);
+    assert!(rt; replay(&heap, &mut calendar, calls).is_err());
+    assert_held(&rt, &calendar, &[])?;
+    Ok(())
+}

@@ -1,0 +1,102 @@
+//! The containers of the library, each of which tells what its iterators give.
+
+use crate::{LeaveGaps, ReadsGaps, ReadsPairs, Told, tell_gaps, tell_pairs, tell_ranges};
+use rangemap::range_set::Set;
+use rangemap::tree_map;
+use rangemap_core::gaps::Gaps;
+use rangemap_maps::kinds::Stored;
+use rangemap_maps::range_map::Map;
+use rangemap_operations::set_range::{SetKind, SetRange};
+use std::alloc::{AllocError, Allocator};
+use std::ops::Range;
+
+impl<Q: Stored<K, R>, K: Ord + Clone, R: Drop, V: Eq + Clone, A: Allocator + Clone> Told
+    for Map<Q, K, R, V, A> {
+    #[inline(always)]
+    fn read_all<U: ReadsPairs<R, V>>(&self, reader: &mut U) -> Result<(), AllocError> {
+        tell_pairs(self.iter(), reader)
+    }
+
+    #[inline(always)]
+    fn read_overlapping<U: ReadsPairs<R, V>>(
+        &self,
+        range: &R,
+        reader: &mut U,
+    ) -> Result<(), AllocError> {
+        tell_pairs(self.overlapping(range), reader)
+    }
+
+    #[inline(always)]
+    fn read_gaps<U: ReadsGaps<R>>(
+        &self,
+        outer_range: &R,
+        reader: &mut U,
+    ) -> Result<(), AllocError> {
+        tell_gaps(self.gaps(outer_range), reader)
+    }
+}
+
+impl<K: Ord + Clone, V: Eq + Clone, A: Allocator + Clone> Told for tree_map::RangeMap<K, V, A> {
+    #[inline(always)]
+    fn read_all<U: ReadsPairs<Range<K>, V>>(&self, reader: &mut U) -> Result<(), AllocError> {
+        tell_pairs(self.iter(), reader)
+    }
+
+    #[inline(always)]
+    fn read_overlapping<U: ReadsPairs<Range<K>, V>>(
+        &self,
+        range: &Range<K>,
+        reader: &mut U,
+    ) -> Result<(), AllocError> {
+        tell_pairs(self.overlapping(range), reader)
+    }
+
+    #[inline(always)]
+    fn read_gaps<U: ReadsGaps<Range<K>>>(
+        &self,
+        outer_range: &Range<K>,
+        reader: &mut U,
+    ) -> Result<(), AllocError> {
+        tell_gaps(self.gaps(outer_range), reader)
+    }
+}
+
+impl<Q: SetKind<T, R>, T: Ord + Clone, R: SetRange<Key = T>, A: Allocator + Clone> Told
+    for Set<Q, T, R, A> {
+    #[inline(always)]
+    fn read_all<U: ReadsPairs<R, ()>>(&self, reader: &mut U) -> Result<(), AllocError> {
+        tell_ranges(self.iter(), reader)
+    }
+
+    #[inline(always)]
+    fn read_overlapping<U: ReadsPairs<R, ()>>(
+        &self,
+        range: &R,
+        reader: &mut U,
+    ) -> Result<(), AllocError> {
+        tell_ranges(self.overlapping(range), reader)
+    }
+
+    #[inline(always)]
+    fn read_gaps<U: ReadsGaps<R>>(
+        &self,
+        outer_range: &R,
+        reader: &mut U,
+    ) -> Result<(), AllocError> {
+        tell_gaps(self.gaps(outer_range), reader)
+    }
+}
+
+impl<Q: Stored<K, R>, K: Ord + Clone, R: Drop, V: Eq + Clone, A: Allocator> LeaveGaps
+    for Map<Q, K, R, V, A> {
+    fn gaps<'a>(&'a self, outer_range: &'a R) -> Gaps<'a, Q, K, R, V> {
+        self.gaps(outer_range)
+    }
+}
+
+impl<Q: SetKind<T, R>, T: Ord + Clone, R: SetRange<Key = T>, A: Allocator> LeaveGaps
+    for Set<Q, T, R, A> {
+    fn gaps<'a>(&'a self, outer_range: &'a R) -> Gaps<'a, Q, T, R, ()> {
+        self.gaps(outer_range)
+    }
+}

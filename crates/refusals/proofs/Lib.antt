@@ -1,0 +1,3 @@
+-- Lemmas of the rows.
+pub mod PairLists
+pub mod Texts

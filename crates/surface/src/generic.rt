@@ -1,0 +1,54 @@
+//! Own modules: laws, replay, the run over both representations.
+
+use rangemap::tree_map::{Answer, Command, Container, run};
+use rangemap::{inclusive_map, inclusive_set, laws, map, set, tree_map};
+use std::alloc::{AllocError, Allocator, Global};
+use std::ops::Range;
+
+pub fn map_replay(alloc: Global) -> Result<usize, AllocError> {
+    let mut maps: Vec<map::RangeMap<u32, char, Global>, Global> = Vec::new(alloc);
+    let answers = map::replay(alloc, &mut maps, Vec::new(alloc))?;
+    Ok(answers.len())
+}
+
+pub fn tree_replay(alloc: Global) -> Result<usize, AllocError> {
+    let mut maps: Vec<tree_map::RangeMap<u32, char, Global>, Global> = Vec::new(alloc);
+    let answers = tree_map::replay(alloc, &mut maps, Vec::new(alloc))?;
+    Ok(answers.len())
+}
+
+pub fn closed_replay(alloc: Global) -> Result<usize, AllocError> {
+    let mut maps: Vec<inclusive_map::RangeInclusiveMap<u32, char, u32, Global>, Global> = Vec::new(
+        alloc,
+    );
+    let answers = inclusive_map::replay(alloc, &mut maps, Vec::new(alloc))?;
+    let more = inclusive_map::replay_with_step_fns(alloc, &mut maps, Vec::new(alloc))?;
+    Ok(answers.len().min(more.len()))
+}
+
+pub fn set_replay(alloc: Global) -> Result<usize, AllocError> {
+    let mut sets: Vec<set::RangeSet<u32, Global>, Global> = Vec::new(alloc);
+    let answers = set::replay(alloc, &mut sets, Vec::new(alloc))?;
+    Ok(answers.len())
+}
+
+pub fn iset_replay(alloc: Global) -> Result<usize, AllocError> {
+    let mut sets: Vec<inclusive_set::RangeInclusiveSet<u32, u32, Global>, Global> = Vec::new(alloc);
+    let answers = inclusive_set::replay(alloc, &mut sets, Vec::new(alloc))?;
+    let more = inclusive_set::replay_with_step_fns(alloc, &mut sets, Vec::new(alloc))?;
+    Ok(answers.len().min(more.len()))
+}
+
+pub fn represented<M: Container<Key = u32, Range = Range<u32>, Value = char>>(
+    map: &M,
+    out: &mut Vec<(Range<u32>, char), Global>,
+) -> Result<(), AllocError> {
+    map.append_all(out)
+}
+
+pub fn laws_alike(
+    left: &map::RangeMap<u32, char, Global>,
+    right: &map::RangeMap<u32, char, Global>,
+) -> bool {
+    laws::equal_exactly_when_alike(left, right)
+}

@@ -1,0 +1,185 @@
+//! The calls of `inclusive_map::RangeInclusiveMap`, by their signatures.
+ghost use Rattle.std.specs.Prelude.{◌≡◌, IsTrue, false};
+ghost use Rattle.std.specs.Iterator.{IsFiniteIterable};
+ghost use Rattle.std.specs.Ordering.{is_le};
+ghost use Rattle.std.specs.Range.{range_inclusive_start, range_inclusive_end, range_inclusive_exhausted};
+ghost use Rattle.rangemap.specs.Clones.{KeysCloneFaithfully, ValuesCloneFaithfully};
+ghost use Rattle.rangemap.specs.Incoming.{GivesNonEmpty};
+ghost use Rattle.rangemap.specs.Ranges.{AreNonEmpty, closed};
+
+use rangemap::inclusive_map::{Gaps, IntoIter, Iter, Overlapping, RangeInclusiveMap};
+use rangemap::{Form, ReadError, StepFns, StepLite, WriteError};
+use serde_json::Value;
+use std::alloc::{AllocError, Allocator, Global};
+use std::cmp::Ordering;
+use std::fmt::Debug;
+use std::hash::{Hash, Hasher};
+use std::iter::IntoIterator;
+use std::ops::RangeInclusive;
+
+pub fn ask<'a, K: Ord + Clone, V: Eq + Clone, S: StepFns<K>, A: Allocator>(
+    map: &'a RangeInclusiveMap<K, V, S, A>,
+    key: &K,
+    range: &'a RangeInclusive<K>,
+) {
+    let _: Option<&'a V> = map.get(key);
+    let _: Option<(&'a RangeInclusive<K>, &'a V)> = map.get_key_value(key);
+    let _: bool = map.contains_key(key);
+    let _: Option<(&'a RangeInclusive<K>, &'a V)> = map.first_range_value();
+    let _: Option<(&'a RangeInclusive<K>, &'a V)> = map.last_range_value();
+    let _: usize = map.len();
+    let _: bool = map.is_empty();
+    let _: bool = map.overlaps(range);
+    let _: Iter<'a, K, V> = map.iter();
+    let _: Overlapping<'a, K, V> = map.overlapping(range);
+    let _: Gaps<'a, K, V, S> = map.gaps(range);
+}
+
+pub fn change<K: Ord + Clone, V: Eq + Clone, S: StepFns<K>, A: Allocator>(
+    map: &mut RangeInclusiveMap<K, V, S, A>,
+    given: RangeInclusive<K>,
+    value: V,
+    taken: RangeInclusive<K>,
+) -> Result<(), AllocError>
+    requires given_non_empty { IsTrue (is_le (K.cmp (range_inclusive_start given) (range_inclusive_end given))) }
+    requires given_not_exhausted { range_inclusive_exhausted given ≡ false }
+    requires taken_non_empty { IsTrue (is_le (K.cmp (range_inclusive_start taken) (range_inclusive_end taken))) }
+    requires taken_not_exhausted { range_inclusive_exhausted taken ≡ false }
+    requires faithful_keys { KeysCloneFaithfully K.is_clone K.cmp }
+    requires faithful_values { ValuesCloneFaithfully V.is_clone V.eq }
+{
+    map.insert(given, value)?;
+    map.remove(taken)?;
+    map.clear();
+    Ok(())
+}
+
+pub fn copy<K: Ord + Clone, V: Eq + Clone, S: StepFns<K>, A: Allocator + Clone>(
+    map: &RangeInclusiveMap<K, V, S, A>,
+) -> Result<RangeInclusiveMap<K, V, S, A>, AllocError>
+    requires faithful_keys { KeysCloneFaithfully K.is_clone K.cmp }
+    requires faithful_values { ValuesCloneFaithfully V.is_clone V.eq }
+{
+    map.clone()
+}
+
+pub fn from<K: StepLite + Clone, V: Eq + Clone, A: Allocator + Clone, const N: usize>(
+    alloc: A,
+    value: [(RangeInclusive<K>, V); N],
+) -> Result<RangeInclusiveMap<K, V, K, A>, AllocError>
+    requires non_empty { AreNonEmpty (closed K.StepLite.is_key K.cmp) value }
+    requires faithful_keys { KeysCloneFaithfully K.is_clone K.cmp }
+    requires faithful_values { ValuesCloneFaithfully V.is_clone V.eq }
+{
+    RangeInclusiveMap::from(alloc, value)
+}
+
+pub fn collect<
+    K: StepLite + Clone,
+    V: Eq + Clone,
+    A: Allocator,
+    I: IntoIterator<Item = (RangeInclusive<K>, V)>,
+>(alloc: A, iter: I) -> Result<RangeInclusiveMap<K, V, K, A>, AllocError>
+    requires ends { IsFiniteIterable I.into_iter_gives I.IntoIter.can_next I.IntoIter.remaining iter }
+    requires non_empty { (it : I.IntoIter) → I.into_iter_gives iter it → GivesNonEmpty (closed K.StepLite.is_key K.cmp) I.IntoIter.next_gives it }
+    requires faithful_keys { KeysCloneFaithfully K.is_clone K.cmp }
+    requires faithful_values { ValuesCloneFaithfully V.is_clone V.eq }
+{
+    RangeInclusiveMap::from_iter(alloc, iter)
+}
+
+pub fn extend<
+    K: StepLite + Clone,
+    V: Eq + Clone,
+    A: Allocator,
+    I: IntoIterator<Item = (RangeInclusive<K>, V)>,
+>(alloc: A, iter: I) -> Result<RangeInclusiveMap<K, V, K, A>, AllocError>
+    requires ends { IsFiniteIterable I.into_iter_gives I.IntoIter.can_next I.IntoIter.remaining iter }
+    requires non_empty { (it : I.IntoIter) → I.into_iter_gives iter it → GivesNonEmpty (closed K.StepLite.is_key K.cmp) I.IntoIter.next_gives it }
+    requires faithful_keys { KeysCloneFaithfully K.is_clone K.cmp }
+    requires faithful_values { ValuesCloneFaithfully V.is_clone V.eq }
+{
+    let mut map: RangeInclusiveMap<K, V, K, A> = RangeInclusiveMap::new(alloc);
+    map.extend(iter)?;
+    Ok(map)
+}
+
+pub fn hand_over<K: StepLite + Clone, V: Eq + Clone, A: Allocator>(
+    map: RangeInclusiveMap<K, V, K, A>,
+) -> IntoIter<K, V, A> {
+    map.into_iter()
+}
+
+fn is_eq<M: Eq>(_map: &M) {}
+
+pub fn compare<
+    K: Ord + Clone + Hash,
+    V: Ord + Clone + Hash,
+    S: StepFns<K>,
+    A: Allocator,
+    H: Hasher,
+>(
+    left: &RangeInclusiveMap<K, V, S, A>,
+    right: &RangeInclusiveMap<K, V, S, A>,
+    state: &mut H,
+) -> bool {
+    let _: Ordering = left.cmp(right);
+    let _: Option<Ordering> = left.partial_cmp(right);
+    left.hash(state);
+    is_eq(left);
+    left == right || left < right
+}
+
+pub fn text<K: StepLite + Clone + Debug, V: Eq + Clone + Debug, A: Allocator>(
+    alloc: Global,
+    map: &RangeInclusiveMap<K, V, K, A>,
+) -> Result<String, AllocError> {
+    format!(in alloc; "{map:?}")
+}
+
+pub fn new_with_step_fns<K: Ord + Clone, V: Eq + Clone, S: StepFns<K>, A: Allocator>(
+    alloc: A,
+) -> RangeInclusiveMap<K, V, S, A> {
+    RangeInclusiveMap::new_with_step_fns(alloc)
+}
+
+pub fn write<
+    K: StepLite + Clone,
+    V: Eq + Clone,
+    A: Allocator,
+    E,
+    WK: Fn(&K) -> Result<Value, E>,
+    WV: Fn(&V) -> Result<Value, E>,
+>(
+    map: &RangeInclusiveMap<K, V, K, A>,
+    alloc: Global,
+    write_key: WK,
+    write_value: WV,
+) -> Result<Value, WriteError<E>>
+    requires keys { WK.IsAlwaysCallable write_key }
+    requires values { WV.IsAlwaysCallable write_value }
+{
+    map.to_value(alloc, write_key, write_value)
+}
+
+pub fn read<
+    K: StepLite + Clone,
+    V: Eq + Clone,
+    A: Allocator,
+    E,
+    RK: Fn(&Value) -> Result<K, E>,
+    RV: Fn(&Value) -> Result<V, E>,
+>(
+    alloc: A,
+    form: Form,
+    value: &Value,
+    read_key: RK,
+    read_value: RV,
+) -> Result<RangeInclusiveMap<K, V, K, A>, ReadError<E>>
+    requires keys { RK.IsAlwaysCallable read_key }
+    requires values { RV.IsAlwaysCallable read_value }
+    requires faithful_keys { KeysCloneFaithfully K.is_clone K.cmp }
+    requires faithful_values { ValuesCloneFaithfully V.is_clone V.eq }
+{
+    RangeInclusiveMap::from_value(alloc, form, value, read_key, read_value)
+}

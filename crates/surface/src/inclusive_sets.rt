@@ -1,0 +1,172 @@
+//! The calls of `inclusive_set::RangeInclusiveSet`, by their signatures.
+ghost use Rattle.std.specs.Prelude.{◌≡◌, IsTrue, false};
+ghost use Rattle.std.specs.Iterator.{IsFiniteIterable};
+ghost use Rattle.std.specs.Ordering.{is_le};
+ghost use Rattle.std.specs.Range.{range_inclusive_start, range_inclusive_end, range_inclusive_exhausted};
+ghost use Rattle.rangemap.specs.Clones.{KeysCloneFaithfully};
+ghost use Rattle.rangemap.specs.Ranges.{closed};
+ghost use Rattle.rangemap.specs.Sets.{AreNonEmptyRanges, GivesNonEmptyRanges};
+
+use rangemap::inclusive_set::{
+    Gaps, Intersection, IntoIter, Iter, Overlapping, RangeInclusiveSet, Union,
+};
+use rangemap::{Form, ReadError, StepFns, StepLite, WriteError};
+use serde_json::Value;
+use std::alloc::{AllocError, Allocator, Global};
+use std::cmp::Ordering;
+use std::fmt::Debug;
+use std::hash::{Hash, Hasher};
+use std::iter::IntoIterator;
+use std::ops::RangeInclusive;
+
+pub fn ask<'a, T: Ord + Clone, S: StepFns<T>, A: Allocator>(
+    set: &'a RangeInclusiveSet<T, S, A>,
+    value: &T,
+    range: &'a RangeInclusive<T>,
+) {
+    let _: Option<&'a RangeInclusive<T>> = set.get(value);
+    let _: bool = set.contains(value);
+    let _: Option<&'a RangeInclusive<T>> = set.first();
+    let _: Option<&'a RangeInclusive<T>> = set.last();
+    let _: usize = set.len();
+    let _: bool = set.is_empty();
+    let _: bool = set.overlaps(range);
+    let _: Iter<'a, T> = set.iter();
+    let _: Overlapping<'a, T> = set.overlapping(range);
+    let _: Gaps<'a, T, S> = set.gaps(range);
+}
+
+pub fn combine<'a, T: Ord + Clone, S: StepFns<T>, A: Allocator>(
+    left: &'a RangeInclusiveSet<T, S, A>,
+    right: &'a RangeInclusiveSet<T, S, A>,
+) {
+    let _: Union<'a, T> = left.union(right);
+    let _: Intersection<'a, T> = left.intersection(right);
+    let _: Union<'a, T> = Union::new(left.iter(), right.iter());
+    let _: Intersection<'a, T> = Intersection::new(left.iter(), right.iter());
+}
+
+pub fn either_and_both<T: StepLite + Clone, A: Allocator + Clone>(
+    left: &RangeInclusiveSet<T, T, A>,
+    right: &RangeInclusiveSet<T, T, A>,
+) -> Result<(RangeInclusiveSet<T, T, A>, RangeInclusiveSet<T, T, A>), AllocError>
+    requires faithful_keys { KeysCloneFaithfully T.is_clone T.cmp }
+{
+    let either = (left | right)?;
+    let both = (left & right)?;
+    Ok((either, both))
+}
+
+pub fn change<T: Ord + Clone, S: StepFns<T>, A: Allocator>(
+    set: &mut RangeInclusiveSet<T, S, A>,
+    given: RangeInclusive<T>,
+    taken: RangeInclusive<T>,
+) -> Result<(), AllocError>
+    requires given_non_empty { IsTrue (is_le (T.cmp (range_inclusive_start given) (range_inclusive_end given))) }
+    requires given_not_exhausted { range_inclusive_exhausted given ≡ false }
+    requires taken_non_empty { IsTrue (is_le (T.cmp (range_inclusive_start taken) (range_inclusive_end taken))) }
+    requires taken_not_exhausted { range_inclusive_exhausted taken ≡ false }
+    requires faithful_keys { KeysCloneFaithfully T.is_clone T.cmp }
+{
+    set.insert(given)?;
+    set.remove(taken)?;
+    set.clear();
+    Ok(())
+}
+
+pub fn copy<T: Ord + Clone, S: StepFns<T>, A: Allocator + Clone>(
+    set: &RangeInclusiveSet<T, S, A>,
+) -> Result<RangeInclusiveSet<T, S, A>, AllocError>
+    requires faithful_keys { KeysCloneFaithfully T.is_clone T.cmp }
+{
+    set.clone()
+}
+
+pub fn from<T: StepLite + Clone, A: Allocator + Clone, const N: usize>(
+    alloc: A,
+    value: [RangeInclusive<T>; N],
+) -> Result<RangeInclusiveSet<T, T, A>, AllocError>
+    requires non_empty { AreNonEmptyRanges (closed T.StepLite.is_key T.cmp) value }
+    requires faithful_keys { KeysCloneFaithfully T.is_clone T.cmp }
+{
+    RangeInclusiveSet::from(alloc, value)
+}
+
+pub fn collect<T: StepLite + Clone, A: Allocator, I: IntoIterator<Item = RangeInclusive<T>>>(
+    alloc: A,
+    iter: I,
+) -> Result<RangeInclusiveSet<T, T, A>, AllocError>
+    requires ends { IsFiniteIterable I.into_iter_gives I.IntoIter.can_next I.IntoIter.remaining iter }
+    requires non_empty { (it : I.IntoIter) → I.into_iter_gives iter it → GivesNonEmptyRanges (closed T.StepLite.is_key T.cmp) I.IntoIter.next_gives it }
+    requires faithful_keys { KeysCloneFaithfully T.is_clone T.cmp }
+{
+    RangeInclusiveSet::from_iter(alloc, iter)
+}
+
+pub fn extend<T: StepLite + Clone, A: Allocator, I: IntoIterator<Item = RangeInclusive<T>>>(
+    alloc: A,
+    iter: I,
+) -> Result<RangeInclusiveSet<T, T, A>, AllocError>
+    requires ends { IsFiniteIterable I.into_iter_gives I.IntoIter.can_next I.IntoIter.remaining iter }
+    requires non_empty { (it : I.IntoIter) → I.into_iter_gives iter it → GivesNonEmptyRanges (closed T.StepLite.is_key T.cmp) I.IntoIter.next_gives it }
+    requires faithful_keys { KeysCloneFaithfully T.is_clone T.cmp }
+{
+    let mut set: RangeInclusiveSet<T, T, A> = RangeInclusiveSet::new(alloc);
+    set.extend(iter)?;
+    Ok(set)
+}
+
+pub fn hand_over<T: StepLite + Clone, A: Allocator>(
+    set: RangeInclusiveSet<T, T, A>,
+) -> IntoIter<T, A> {
+    set.into_iter()
+}
+
+fn is_eq<S: Eq>(_set: &S) {}
+
+pub fn compare<T: Ord + Clone + Hash, S: StepFns<T>, A: Allocator, H: Hasher>(
+    left: &RangeInclusiveSet<T, S, A>,
+    right: &RangeInclusiveSet<T, S, A>,
+    state: &mut H,
+) -> bool {
+    let _: Ordering = left.cmp(right);
+    let _: Option<Ordering> = left.partial_cmp(right);
+    left.hash(state);
+    is_eq(left);
+    left == right || left < right
+}
+
+pub fn text<T: StepLite + Clone + Debug, A: Allocator>(
+    alloc: Global,
+    set: &RangeInclusiveSet<T, T, A>,
+) -> Result<String, AllocError> {
+    format!(in alloc; "{set:?}")
+}
+
+pub fn new_with_step_fns<T: Ord + Clone, S: StepFns<T>, A: Allocator>(
+    alloc: A,
+) -> RangeInclusiveSet<T, S, A> {
+    RangeInclusiveSet::new_with_step_fns(alloc)
+}
+
+pub fn write<T: StepLite + Clone, A: Allocator, E, WK: Fn(&T) -> Result<Value, E>>(
+    set: &RangeInclusiveSet<T, T, A>,
+    alloc: Global,
+    write_key: WK,
+) -> Result<Value, WriteError<E>>
+    requires keys { WK.IsAlwaysCallable write_key }
+{
+    set.to_value(alloc, write_key)
+}
+
+pub fn read<T: StepLite + Clone, A: Allocator, E, RK: Fn(&Value) -> Result<T, E>>(
+    alloc: A,
+    form: Form,
+    value: &Value,
+    read_key: RK,
+) -> Result<RangeInclusiveSet<T, T, A>, ReadError<E>>
+    requires keys { RK.IsAlwaysCallable read_key }
+    requires faithful_keys { KeysCloneFaithfully T.is_clone T.cmp }
+{
+    RangeInclusiveSet::from_value(alloc, form, value, read_key)
+}

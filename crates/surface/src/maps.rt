@@ -1,0 +1,164 @@
+//! The calls of `map::RangeMap`, by their signatures.
+ghost use Rattle.std.specs.Iterator.{IsFiniteIterable};
+ghost use Rattle.rangemap.specs.Clones.{KeysCloneFaithfully, ValuesCloneFaithfully};
+ghost use Rattle.rangemap.specs.Incoming.{GivesNonEmpty};
+ghost use Rattle.rangemap.specs.Ranges.{AreNonEmpty, half_open};
+
+use rangemap::map::{Gaps, IntoIter, Iter, Overlapping, RangeMap};
+use rangemap::{Form, ReadError, WriteError};
+use serde_json::Value;
+use std::alloc::{AllocError, Allocator, Global};
+use std::cmp::Ordering;
+use std::fmt::Debug;
+use std::hash::{Hash, Hasher};
+use std::iter::IntoIterator;
+use std::ops::Range;
+
+pub fn ask<'a, K: Ord + Clone, V: Eq + Clone, A: Allocator>(
+    map: &'a RangeMap<K, V, A>,
+    key: &K,
+    range: &'a Range<K>,
+) {
+    let _: Option<&'a V> = map.get(key);
+    let _: Option<(&'a Range<K>, &'a V)> = map.get_key_value(key);
+    let _: bool = map.contains_key(key);
+    let _: Option<(&'a Range<K>, &'a V)> = map.first_range_value();
+    let _: Option<(&'a Range<K>, &'a V)> = map.last_range_value();
+    let _: usize = map.len();
+    let _: bool = map.is_empty();
+    let _: bool = map.overlaps(range);
+    let _: Iter<'a, K, V> = map.iter();
+    let _: Overlapping<'a, K, V> = map.overlapping(range);
+    let _: Gaps<'a, K, V> = map.gaps(range);
+}
+
+pub fn change<K: Ord + Clone, V: Eq + Clone, A: Allocator>(
+    map: &mut RangeMap<K, V, A>,
+    given: Range<K>,
+    value: V,
+    taken: Range<K>,
+) -> Result<(), AllocError>
+    requires given_non_empty { (half_open K.cmp).IsNonEmpty given }
+    requires taken_non_empty { (half_open K.cmp).IsNonEmpty taken }
+    requires faithful_keys { KeysCloneFaithfully K.is_clone K.cmp }
+    requires faithful_values { ValuesCloneFaithfully V.is_clone V.eq }
+{
+    map.insert(given, value)?;
+    map.remove(taken)?;
+    map.clear();
+    Ok(())
+}
+
+pub fn copy<K: Ord + Clone, V: Eq + Clone, A: Allocator + Clone>(
+    map: &RangeMap<K, V, A>,
+) -> Result<RangeMap<K, V, A>, AllocError>
+    requires faithful_keys { KeysCloneFaithfully K.is_clone K.cmp }
+    requires faithful_values { ValuesCloneFaithfully V.is_clone V.eq }
+{
+    map.clone()
+}
+
+pub fn from<K: Ord + Clone, V: Eq + Clone, A: Allocator + Clone, const N: usize>(
+    alloc: A,
+    value: [(Range<K>, V); N],
+) -> Result<RangeMap<K, V, A>, AllocError>
+    requires non_empty { AreNonEmpty (half_open K.cmp) value }
+    requires faithful_keys { KeysCloneFaithfully K.is_clone K.cmp }
+    requires faithful_values { ValuesCloneFaithfully V.is_clone V.eq }
+{
+    RangeMap::from(alloc, value)
+}
+
+pub fn collect<K: Ord + Clone, V: Eq + Clone, A: Allocator, I: IntoIterator<Item = (Range<K>, V)>>(
+    alloc: A,
+    iter: I,
+) -> Result<RangeMap<K, V, A>, AllocError>
+    requires ends { IsFiniteIterable I.into_iter_gives I.IntoIter.can_next I.IntoIter.remaining iter }
+    requires non_empty { (it : I.IntoIter) → I.into_iter_gives iter it → GivesNonEmpty (half_open K.cmp) I.IntoIter.next_gives it }
+    requires faithful_keys { KeysCloneFaithfully K.is_clone K.cmp }
+    requires faithful_values { ValuesCloneFaithfully V.is_clone V.eq }
+{
+    RangeMap::from_iter(alloc, iter)
+}
+
+pub fn extend<K: Ord + Clone, V: Eq + Clone, A: Allocator, I: IntoIterator<Item = (Range<K>, V)>>(
+    alloc: A,
+    iter: I,
+) -> Result<RangeMap<K, V, A>, AllocError>
+    requires ends { IsFiniteIterable I.into_iter_gives I.IntoIter.can_next I.IntoIter.remaining iter }
+    requires non_empty { (it : I.IntoIter) → I.into_iter_gives iter it → GivesNonEmpty (half_open K.cmp) I.IntoIter.next_gives it }
+    requires faithful_keys { KeysCloneFaithfully K.is_clone K.cmp }
+    requires faithful_values { ValuesCloneFaithfully V.is_clone V.eq }
+{
+    let mut map: RangeMap<K, V, A> = RangeMap::new(alloc);
+    map.extend(iter)?;
+    Ok(map)
+}
+
+pub fn hand_over<K: Ord + Clone, V: Eq + Clone, A: Allocator>(
+    map: RangeMap<K, V, A>,
+) -> IntoIter<K, V, A> {
+    map.into_iter()
+}
+
+fn is_eq<M: Eq>(_map: &M) {}
+
+pub fn compare<K: Ord + Clone + Hash, V: Ord + Clone + Hash, A: Allocator, H: Hasher>(
+    left: &RangeMap<K, V, A>,
+    right: &RangeMap<K, V, A>,
+    state: &mut H,
+) -> bool {
+    let _: Ordering = left.cmp(right);
+    let _: Option<Ordering> = left.partial_cmp(right);
+    left.hash(state);
+    is_eq(left);
+    left == right || left < right
+}
+
+pub fn text<K: Ord + Clone + Debug, V: Eq + Clone + Debug, A: Allocator>(
+    alloc: Global,
+    map: &RangeMap<K, V, A>,
+) -> Result<String, AllocError> {
+    format!(in alloc; "{map:?}")
+}
+
+pub fn write<
+    K: Ord + Clone,
+    V: Eq + Clone,
+    A: Allocator,
+    E,
+    WK: Fn(&K) -> Result<Value, E>,
+    WV: Fn(&V) -> Result<Value, E>,
+>(
+    map: &RangeMap<K, V, A>,
+    alloc: Global,
+    write_key: WK,
+    write_value: WV,
+) -> Result<Value, WriteError<E>>
+    requires keys { WK.IsAlwaysCallable write_key }
+    requires values { WV.IsAlwaysCallable write_value }
+{
+    map.to_value(alloc, write_key, write_value)
+}
+
+pub fn read<
+    K: Ord + Clone,
+    V: Eq + Clone,
+    A: Allocator,
+    E,
+    RK: Fn(&Value) -> Result<K, E>,
+    RV: Fn(&Value) -> Result<V, E>,
+>(
+    alloc: A,
+    form: Form,
+    value: &Value,
+    read_key: RK,
+    read_value: RV,
+) -> Result<RangeMap<K, V, A>, ReadError<E>>
+    requires keys { RK.IsAlwaysCallable read_key }
+    requires values { RV.IsAlwaysCallable read_value }
+    requires faithful_keys { KeysCloneFaithfully K.is_clone K.cmp }
+    requires faithful_values { ValuesCloneFaithfully V.is_clone V.eq }
+{
+    RangeMap::from_value(alloc, form, value, read_key, read_value)
+}

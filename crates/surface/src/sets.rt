@@ -1,0 +1,157 @@
+//! The calls of `set::RangeSet`, by their signatures.
+ghost use Rattle.std.specs.Iterator.{IsFiniteIterable};
+ghost use Rattle.rangemap.specs.Clones.{KeysCloneFaithfully};
+ghost use Rattle.rangemap.specs.Ranges.{half_open};
+ghost use Rattle.rangemap.specs.Sets.{AreNonEmptyRanges, GivesNonEmptyRanges};
+
+use rangemap::set::{Gaps, Intersection, IntoIter, Iter, Overlapping, RangeSet, Union};
+use rangemap::{Form, ReadError, WriteError};
+use serde_json::Value;
+use std::alloc::{AllocError, Allocator, Global};
+use std::cmp::Ordering;
+use std::fmt::Debug;
+use std::hash::{Hash, Hasher};
+use std::iter::IntoIterator;
+use std::ops::Range;
+
+pub fn ask<'a, T: Ord + Clone, A: Allocator>(
+    set: &'a RangeSet<T, A>,
+    value: &T,
+    range: &'a Range<T>,
+) {
+    let _: Option<&'a Range<T>> = set.get(value);
+    let _: bool = set.contains(value);
+    let _: Option<&'a Range<T>> = set.first();
+    let _: Option<&'a Range<T>> = set.last();
+    let _: usize = set.len();
+    let _: bool = set.is_empty();
+    let _: bool = set.overlaps(range);
+    let _: Iter<'a, T> = set.iter();
+    let _: Overlapping<'a, T> = set.overlapping(range);
+    let _: Gaps<'a, T> = set.gaps(range);
+}
+
+pub fn combine<'a, T: Ord + Clone, A: Allocator>(
+    left: &'a RangeSet<T, A>,
+    right: &'a RangeSet<T, A>,
+) {
+    let _: Union<'a, T> = left.union(right);
+    let _: Intersection<'a, T> = left.intersection(right);
+    let _: Union<'a, T> = Union::new(left.iter(), right.iter());
+    let _: Intersection<'a, T> = Intersection::new(left.iter(), right.iter());
+}
+
+pub fn either_and_both<T: Ord + Clone, A: Allocator + Clone>(
+    left: &RangeSet<T, A>,
+    right: &RangeSet<T, A>,
+) -> Result<(RangeSet<T, A>, RangeSet<T, A>), AllocError>
+    requires faithful_keys { KeysCloneFaithfully T.is_clone T.cmp }
+{
+    let either = (left | right)?;
+    let both = (left & right)?;
+    Ok((either, both))
+}
+
+pub fn change<T: Ord + Clone, A: Allocator>(
+    set: &mut RangeSet<T, A>,
+    given: Range<T>,
+    taken: Range<T>,
+) -> Result<(), AllocError>
+    requires given_non_empty { (half_open T.cmp).IsNonEmpty given }
+    requires taken_non_empty { (half_open T.cmp).IsNonEmpty taken }
+    requires faithful_keys { KeysCloneFaithfully T.is_clone T.cmp }
+{
+    set.insert(given)?;
+    set.remove(taken)?;
+    set.clear();
+    Ok(())
+}
+
+pub fn copy<T: Ord + Clone, A: Allocator + Clone>(
+    set: &RangeSet<T, A>,
+) -> Result<RangeSet<T, A>, AllocError>
+    requires faithful_keys { KeysCloneFaithfully T.is_clone T.cmp }
+{
+    set.clone()
+}
+
+pub fn from<T: Ord + Clone, A: Allocator + Clone, const N: usize>(
+    alloc: A,
+    value: [Range<T>; N],
+) -> Result<RangeSet<T, A>, AllocError>
+    requires non_empty { AreNonEmptyRanges (half_open T.cmp) value }
+    requires faithful_keys { KeysCloneFaithfully T.is_clone T.cmp }
+{
+    RangeSet::from(alloc, value)
+}
+
+pub fn collect<T: Ord + Clone, A: Allocator, I: IntoIterator<Item = Range<T>>>(
+    alloc: A,
+    iter: I,
+) -> Result<RangeSet<T, A>, AllocError>
+    requires ends { IsFiniteIterable I.into_iter_gives I.IntoIter.can_next I.IntoIter.remaining iter }
+    requires non_empty { (it : I.IntoIter) → I.into_iter_gives iter it → GivesNonEmptyRanges (half_open T.cmp) I.IntoIter.next_gives it }
+    requires faithful_keys { KeysCloneFaithfully T.is_clone T.cmp }
+{
+    RangeSet::from_iter(alloc, iter)
+}
+
+pub fn extend<T: Ord + Clone, A: Allocator, I: IntoIterator<Item = Range<T>>>(
+    alloc: A,
+    iter: I,
+) -> Result<RangeSet<T, A>, AllocError>
+    requires ends { IsFiniteIterable I.into_iter_gives I.IntoIter.can_next I.IntoIter.remaining iter }
+    requires non_empty { (it : I.IntoIter) → I.into_iter_gives iter it → GivesNonEmptyRanges (half_open T.cmp) I.IntoIter.next_gives it }
+    requires faithful_keys { KeysCloneFaithfully T.is_clone T.cmp }
+{
+    let mut set: RangeSet<T, A> = RangeSet::new(alloc);
+    set.extend(iter)?;
+    Ok(set)
+}
+
+pub fn hand_over<T: Ord + Clone, A: Allocator>(set: RangeSet<T, A>) -> IntoIter<T, A> {
+    set.into_iter()
+}
+
+fn is_eq<S: Eq>(_set: &S) {}
+
+pub fn compare<T: Ord + Clone + Hash, A: Allocator, H: Hasher>(
+    left: &RangeSet<T, A>,
+    right: &RangeSet<T, A>,
+    state: &mut H,
+) -> bool {
+    let _: Ordering = left.cmp(right);
+    let _: Option<Ordering> = left.partial_cmp(right);
+    left.hash(state);
+    is_eq(left);
+    left == right || left < right
+}
+
+pub fn text<T: Ord + Clone + Debug, A: Allocator>(
+    alloc: Global,
+    set: &RangeSet<T, A>,
+) -> Result<String, AllocError> {
+    format!(in alloc; "{set:?}")
+}
+
+pub fn write<T: Ord + Clone, A: Allocator, E, WK: Fn(&T) -> Result<Value, E>>(
+    set: &RangeSet<T, A>,
+    alloc: Global,
+    write_key: WK,
+) -> Result<Value, WriteError<E>>
+    requires keys { WK.IsAlwaysCallable write_key }
+{
+    set.to_value(alloc, write_key)
+}
+
+pub fn read<T: Ord + Clone, A: Allocator, E, RK: Fn(&Value) -> Result<T, E>>(
+    alloc: A,
+    form: Form,
+    value: &Value,
+    read_key: RK,
+) -> Result<RangeSet<T, A>, ReadError<E>>
+    requires keys { RK.IsAlwaysCallable read_key }
+    requires faithful_keys { KeysCloneFaithfully T.is_clone T.cmp }
+{
+    RangeSet::from_value(alloc, form, value, read_key)
+}

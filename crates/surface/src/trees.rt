@@ -1,0 +1,125 @@
+//! The calls of `tree_map::RangeMap`, by their signatures.
+ghost use Rattle.std.specs.Iterator.{IsFiniteIterable};
+ghost use Rattle.rangemap.specs.Clones.{KeysCloneFaithfully, ValuesCloneFaithfully};
+ghost use Rattle.rangemap.specs.Incoming.{GivesNonEmpty};
+ghost use Rattle.rangemap.specs.Ranges.{AreNonEmpty, half_open};
+
+use rangemap::tree_map::{Gaps, IntoIter, Iter, Overlapping, RangeMap};
+use std::alloc::{AllocError, Allocator, Global};
+use std::cmp::Ordering;
+use std::fmt::Debug;
+use std::hash::{Hash, Hasher};
+use std::iter::IntoIterator;
+use std::ops::Range;
+
+pub fn ask<'a, K: Ord + Clone, V: Eq + Clone, A: Allocator + Clone>(
+    map: &'a RangeMap<K, V, A>,
+    key: &K,
+    range: &'a Range<K>,
+) {
+    let _: Option<&'a V> = map.get(key);
+    let _: Option<(&'a Range<K>, &'a V)> = map.get_key_value(key);
+    let _: bool = map.contains_key(key);
+    let _: Option<(&'a Range<K>, &'a V)> = map.first_range_value();
+    let _: Option<(&'a Range<K>, &'a V)> = map.last_range_value();
+    let _: usize = map.len();
+    let _: bool = map.is_empty();
+    let _: bool = map.overlaps(range);
+    let _: Iter<'a, K, V> = map.iter();
+    let _: Overlapping<'a, K, V> = map.overlapping(range);
+    let _: Gaps<'a, K, V> = map.gaps(range);
+}
+
+pub fn change<K: Ord + Clone, V: Eq + Clone, A: Allocator + Clone>(
+    map: &mut RangeMap<K, V, A>,
+    given: Range<K>,
+    value: V,
+    taken: Range<K>,
+) -> Result<(), AllocError>
+    requires given_non_empty { (half_open K.cmp).IsNonEmpty given }
+    requires taken_non_empty { (half_open K.cmp).IsNonEmpty taken }
+    requires faithful_keys { KeysCloneFaithfully K.is_clone K.cmp }
+    requires faithful_values { ValuesCloneFaithfully V.is_clone V.eq }
+{
+    map.insert(given, value)?;
+    map.remove(taken)?;
+    map.clear();
+    Ok(())
+}
+
+pub fn copy<K: Ord + Clone, V: Eq + Clone, A: Allocator + Clone>(
+    map: &RangeMap<K, V, A>,
+) -> Result<RangeMap<K, V, A>, AllocError>
+    requires faithful_keys { KeysCloneFaithfully K.is_clone K.cmp }
+    requires faithful_values { ValuesCloneFaithfully V.is_clone V.eq }
+{
+    map.clone()
+}
+
+pub fn from<K: Ord + Clone, V: Eq + Clone, A: Allocator + Clone, const N: usize>(
+    alloc: A,
+    value: [(Range<K>, V); N],
+) -> Result<RangeMap<K, V, A>, AllocError>
+    requires non_empty { AreNonEmpty (half_open K.cmp) value }
+    requires faithful_keys { KeysCloneFaithfully K.is_clone K.cmp }
+    requires faithful_values { ValuesCloneFaithfully V.is_clone V.eq }
+{
+    RangeMap::from(alloc, value)
+}
+
+pub fn collect<
+    K: Ord + Clone,
+    V: Eq + Clone,
+    A: Allocator + Clone,
+    I: IntoIterator<Item = (Range<K>, V)>,
+>(alloc: A, iter: I) -> Result<RangeMap<K, V, A>, AllocError>
+    requires ends { IsFiniteIterable I.into_iter_gives I.IntoIter.can_next I.IntoIter.remaining iter }
+    requires non_empty { (it : I.IntoIter) → I.into_iter_gives iter it → GivesNonEmpty (half_open K.cmp) I.IntoIter.next_gives it }
+    requires faithful_keys { KeysCloneFaithfully K.is_clone K.cmp }
+    requires faithful_values { ValuesCloneFaithfully V.is_clone V.eq }
+{
+    RangeMap::from_iter(alloc, iter)
+}
+
+pub fn extend<
+    K: Ord + Clone,
+    V: Eq + Clone,
+    A: Allocator + Clone,
+    I: IntoIterator<Item = (Range<K>, V)>,
+>(alloc: A, iter: I) -> Result<RangeMap<K, V, A>, AllocError>
+    requires ends { IsFiniteIterable I.into_iter_gives I.IntoIter.can_next I.IntoIter.remaining iter }
+    requires non_empty { (it : I.IntoIter) → I.into_iter_gives iter it → GivesNonEmpty (half_open K.cmp) I.IntoIter.next_gives it }
+    requires faithful_keys { KeysCloneFaithfully K.is_clone K.cmp }
+    requires faithful_values { ValuesCloneFaithfully V.is_clone V.eq }
+{
+    let mut map: RangeMap<K, V, A> = RangeMap::new(alloc);
+    map.extend(iter)?;
+    Ok(map)
+}
+
+pub fn hand_over<K: Ord + Clone, V: Eq + Clone, A: Allocator + Clone>(
+    map: RangeMap<K, V, A>,
+) -> IntoIter<K, V, A> {
+    map.into_iter()
+}
+
+fn is_eq<M: Eq>(_map: &M) {}
+
+pub fn compare<K: Ord + Clone + Hash, V: Ord + Clone + Hash, A: Allocator + Clone, H: Hasher>(
+    left: &RangeMap<K, V, A>,
+    right: &RangeMap<K, V, A>,
+    state: &mut H,
+) -> bool {
+    let _: Ordering = left.cmp(right);
+    let _: Option<Ordering> = left.partial_cmp(right);
+    left.hash(state);
+    is_eq(left);
+    left == right || left < right
+}
+
+pub fn text<K: Ord + Clone + Debug, V: Eq + Clone + Debug, A: Allocator + Clone>(
+    alloc: Global,
+    map: &RangeMap<K, V, A>,
+) -> Result<String, AllocError> {
+    format!(in alloc; "{map:?}")
+}
