@@ -11,7 +11,7 @@ use Rattle.std.proofs.lemmas.List.Elements.{recursion_from_All}
 use Rattle.std.specs.declared.alloc.AllocError.{AllocError}
 use Rattle.rangemap_core.specs.Ranges.{RangeKind, AreGaps, IsCanonical, IsStorable, covering, covers, unit_eq, value_at, with_unit}
 use Rattle.rangemap_laws.specs.Histories.{IsUndefinedOn}
-use Rattle.rangemap_core.specs.Items.{AreSame, IsSame, GivesRange, TakesRange}
+use Rattle.rangemap_core.specs.MadeRanges.{AreSame, IsSame, GivesRange, TakesRange}
 use Rattle.rangemap_core.specs.engine.Endpoints.{IsPlaced, EndpointOf}
 use Rattle.rangemap_core.specs.engine.Places.{place_cmp}
 use Rattle.rangemap_core.specs.laws.Orders.{eq_le, eq_turn, itself, le_Equal, le_Less, le_eq, lt_eq, turn}

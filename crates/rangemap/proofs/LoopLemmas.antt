@@ -13,7 +13,7 @@ use Rattle.std.specs.Map.Iter.{TakesFirst, deref, deref_pair}
 use Rattle.std.specs.Ordering.{int_cmp, nat_cmp}
 use Rattle.std.specs.Prelude.{ℤ}
 use Rattle.std.specs.declared.alloc.AllocError.{AllocError}
-use Rattle.rangemap_core.specs.Items.{GivesRange, IsSame}
+use Rattle.rangemap_core.specs.MadeRanges.{GivesRange, IsSame}
 use Rattle.rangemap_core.specs.Ranges.{RangeKind, AreGaps, IsCanonical, IsStorable, closed, covers, half_open, overlapped, value_at, with_unit}
 use Rattle.rangemap_core.specs.engine.Endpoints.{IsPlaced, EndpointOf}
 use Rattle.rangemap_operations.specs.Sets.{AreCommon, AreHulls, CoverEither, IsCanonicalSet, IsHull}

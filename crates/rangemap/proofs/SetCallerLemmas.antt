@@ -10,7 +10,7 @@ use Rattle.std.specs.Cmp.{nat_cmp_total}
 use Rattle.std.specs.declared.alloc.AllocError.{AllocError}
 use Rattle.std.specs.declared.ops.RangeInclusive.{RangeInclusive}
 use Rattle.rangemap_core.specs.Ranges.{RangeKind, AreGaps, IsCanonOf, closed, covers, same_ranges, unit_eq, value_at, with_unit}
-use Rattle.rangemap_core.specs.Items.{GivesRange}
+use Rattle.rangemap_core.specs.MadeRanges.{GivesRange}
 use Rattle.rangemap_core.specs.engine.Endpoints.{IsPlaced, EndpointOf}
 use Rattle.rangemap_maps.specs.ClosedEndpoints.{closed_part, closed_placed}
 use Rattle.rangemap_maps.specs.ClosedPlaces.{closed_end_place}

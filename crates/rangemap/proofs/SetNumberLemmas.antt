@@ -9,7 +9,7 @@ use Rattle.std.specs.declared.alloc.AllocError.{AllocError}
 use Rattle.std.specs.declared.ops.Range.{Range}
 use Rattle.std.specs.declared.ops.RangeInclusive.{RangeInclusive}
 use Rattle.rangemap.specs.Ranges.{AreGaps, RangeKind, closed, covers, half_open, value_at}
-use Rattle.rangemap.specs.Items.{GivesRange}
+use Rattle.rangemap.specs.MadeRanges.{GivesRange}
 use Rattle.rangemap.specs.Sets.{Adds, TakesOut}
 use Rattle.rangemap.proofs.NumberKinds.{closed_unsigned, half_open_unsigned}
 use Rattle.rangemap.proofs.NumberLemmas.{IsFreeBetween, last_gap, next_gap, not_before, not_behind}

@@ -1,10 +1,10 @@
 pub use Rattle.rangemap_core.specs.Ranges
 pub use Rattle.rangemap_core.specs.Clones
-pub use Rattle.rangemap_core.specs.Incoming
+pub use Rattle.rangemap_core.specs.NonEmptyPairs
 pub use Rattle.rangemap_core.specs.ListOrder
 pub use Rattle.rangemap_core.specs.Hashes
 pub use Rattle.rangemap_formats.specs.Texts
-pub use Rattle.rangemap_core.specs.Items
+pub use Rattle.rangemap_core.specs.MadeRanges
 pub use Rattle.rangemap_core.specs.Segments
 pub use Rattle.rangemap_formats.specs.Json
 pub use Rattle.rangemap_operations.specs.Sets
@@ -12,10 +12,10 @@ pub use Rattle.rangemap_steps.specs.Steps
 pub use Rattle.rangemap_steps.specs.StepLaws
 pub use Rattle.rangemap_steps.specs.CharLaws
 pub use Rattle.rangemap_laws.specs.Histories
-pub use Rattle.rangemap_laws.specs.Held
-pub use Rattle.rangemap_laws.specs.Parted
-pub use Rattle.rangemap_laws.specs.Rows
+pub use Rattle.rangemap_laws.specs.DefinedIn
+pub use Rattle.rangemap_laws.specs.GapPartition
+pub use Rattle.rangemap_laws.specs.SmallLists
 pub use Rattle.rangemap_operations.specs.Operators
 pub use Rattle.rangemap_laws.specs.SetHistories
-pub use Rattle.rangemap_laws.specs.Ended
+pub use Rattle.rangemap_laws.specs.IteratorEnds
 pub use Rattle.rangemap_laws.specs.Runs

@@ -8,7 +8,7 @@ use Rattle.std.proofs.lemmas.Map.Iter.{iter_end}
 use Rattle.rangemap_core.specs.Ranges.{RangeKind, AreGaps, IsCanonical, IsStorable, overlapped, same_pair, same_pairs}
 use Rattle.rangemap_core.proofs.EqualListLemmas.{same_pairs-last}
 use Rattle.rangemap_core.specs.Appends.{Appends, AppendsGaps, GivesStored}
-use Rattle.rangemap_core.specs.Items.{AreSame, GivesRange}
+use Rattle.rangemap_core.specs.MadeRanges.{AreSame, GivesRange}
 use Rattle.rangemap_core.specs.engine.Endpoints.{EndpointOf, IsPlaced}
 use Rattle.rangemap_core.specs.engine.Stretch.{Every}
 use Rattle.rangemap_core.proofs.IncomingLemmas.{each_shown}

@@ -12,7 +12,7 @@ ghost use Rattle.std.specs.Iterator.{Drains, ExtendsWithItems, IsFiniteIterable}
 ghost use Rattle.std.specs.Option.{option_copied, option_map};
 ghost use Rattle.rangemap_core.specs.Appends.{Appends, AppendsGaps};
 ghost use Rattle.rangemap_core.specs.Clones.{KeysCloneFaithfully, ValuesCloneFaithfully};
-ghost use Rattle.rangemap_core.specs.Incoming.{GivesNonEmpty};
+ghost use Rattle.rangemap_core.specs.NonEmptyPairs.{GivesNonEmpty};
 ghost use Rattle.rangemap_core.specs.Ranges.{AreGaps, IsCanonOf, IsCanonical, Overrides, covering, erase, nothing, overlapped, override, override_all, same_pairs, value_at};
 
 use crate::kind::Kind;

@@ -59,7 +59,7 @@ impl<K: Ord + Clone> Kind<K, Range<K>> for HalfOpen {
     ghost use Rattle.rangemap_core.specs.Clones.{KeysCloneFaithfully};
     ghost use Rattle.rangemap_core.specs.engine.Endpoints.{endpoint_of, is_before};
     ghost use Rattle.rangemap_core.specs.engine.EndpointKinds.{half_open_part, half_open_placed};
-    ghost use Rattle.rangemap_core.specs.Items.{IsSame};
+    ghost use Rattle.rangemap_core.specs.MadeRanges.{IsSame};
     ghost use Rattle.rangemap_core.specs.engine.PlacedKinds.{half_open_end_place};
     ghost use Rattle.std.specs.Prelude.{◌≡◌, true, IfOk};
 

@@ -3,7 +3,7 @@ ghost use Rattle.std.specs.Prelude.{◌≡◌, Bool, true, Option as OptionOf, I
 ghost use Rattle.rangemap_core.specs.Clones.{KeysCloneFaithfully};
 ghost use Rattle.rangemap_core.specs.engine.Endpoints.{EndpointOf, IsAsked, IsPlaced, endpoint_of, is_before};
 ghost use Rattle.rangemap_core.specs.engine.Intervals.{IsBetween, IsInterval, reaches};
-ghost use Rattle.rangemap_core.specs.Items.{IsSame};
+ghost use Rattle.rangemap_core.specs.MadeRanges.{IsSame};
 ghost use Rattle.rangemap_core.specs.Ranges.{RangeKind};
 ghost use Rattle.rangemap_core.specs.Touch.{IsTouch};
 

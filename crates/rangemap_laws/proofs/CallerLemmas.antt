@@ -14,7 +14,7 @@ use Rattle.rangemap_core.specs.engine.PlacedKinds.{place_total}
 use Rattle.rangemap_core.specs.engine.EndpointKinds.{lt_is}
 use Rattle.rangemap_core.proofs.AlikeLemmas.{Alike-itself}
 use Rattle.rangemap_core.proofs.UniquenessLemmas.{alike_from_same, canon_unique, equal_pairs}
-use Rattle.rangemap_laws.specs.Held.{IsDefinedIn}
+use Rattle.rangemap_laws.specs.DefinedIn.{IsDefinedIn}
 use Rattle.rangemap_laws.proofs.GapLemmas.{covered_is}
 
 -- ---- values

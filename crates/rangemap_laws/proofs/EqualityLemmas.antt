@@ -2,7 +2,7 @@
 use Rattle.std.proofs.Common.{◌≡◌, Bool, true, false, ◌&&◌, List, Option, refl, sym}
 use Rattle.std.specs.Cmp.{IsEquivalence}
 use Rattle.rangemap_core.specs.engine.Endpoints.{IsPlaced, EndpointOf}
-use Rattle.rangemap_core.specs.Items.{IsSame}
+use Rattle.rangemap_core.specs.MadeRanges.{IsSame}
 use Rattle.rangemap_core.specs.Ranges.{RangeKind, Alike, IsCanonOf, IsCanonical, IsStorable, erase, override, same_pairs, value_at}
 use Rattle.rangemap_core.proofs.AlikeLemmas.{Alike-itself, Alike-through, Alike-turned, canon_along, erase-alike, erase-override, override-alike, override-override, override-swapped}
 use Rattle.rangemap_core.proofs.UniquenessLemmas.{alike_from_same, canon_unique, same_points}

@@ -9,7 +9,7 @@ use Rattle.rangemap_core.specs.Ranges.{RangeKind, IsCanonical, IsStorable, AreGa
 use Rattle.rangemap_core.specs.engine.Places.{place_cmp}
 use Rattle.rangemap_core.specs.engine.PlacedKinds.{place_total}
 use Rattle.rangemap_core.specs.laws.Orders.{Less-Equal, lt_lt}
-use Rattle.rangemap_laws.specs.Parted.{IsParted}
+use Rattle.rangemap_laws.specs.GapPartition.{IsPartition}
 
 apart_tests : (h c : Bool) → ((h && not c) && c) ≡ false
 apart_tests h c = grind (arith, nat_tests)
@@ -60,7 +60,7 @@ module _ {K X : Type 0} {k : RangeKind K X} {end_place : X → Option K} {part :
       Less-Equal later.0 (p.touches r (get_or rest j d) can.0 later.1 t)
   no_touch (r ∷ rest) can (suc i) (suc j) d lt l t = no_touch rest can.2 i j d (omega arith) (omega arith) t
 
-  pub parted : {V : Type 0} (list : List (X × V)) (gaps : List X) (q : X) → AreGaps k (map (λ p. p.0) list) q gaps → IsParted k q gaps (λ x. is_some (covering k list x))
+  pub parted : {V : Type 0} (list : List (X × V)) (gaps : List X) (q : X) → AreGaps k (map (λ p. p.0) list) q gaps → IsPartition k q gaps (λ x. is_some (covering k list x))
   parted list gaps q g = record {
     apart = λ x key. (λ i. points x key i && is_some (covering k list x)) ∙ apart_tests (k.holds q x) (is_some (covering k list x));
     together = λ x key. (λ i. points x key i || (k.holds q x && is_some (covering k list x))) ∙ together_tests (k.holds q x) (is_some (covering k list x));

@@ -1,7 +1,7 @@
 pub mod Histories
-pub mod Held
-pub mod Parted
-pub mod Rows
+pub mod DefinedIn
+pub mod GapPartition
+pub mod SmallLists
 pub mod SetHistories
-pub mod Ended
+pub mod IteratorEnds
 pub mod Runs

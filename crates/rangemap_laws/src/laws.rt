@@ -15,7 +15,7 @@ ghost use Rattle.std.specs.Option.{option_eq};
 ghost use Rattle.std.specs.declared.ops.Range.{Range as RangeOf};
 ghost use Rattle.std.specs.declared.ops.RangeInclusive.{RangeInclusive as RangeInclusiveOf};
 ghost use Rattle.rangemap_core.specs.Clones.{KeysCloneFaithfully, ValuesCloneFaithfully};
-ghost use Rattle.rangemap_laws.specs.Parted.{IsParted};
+ghost use Rattle.rangemap_laws.specs.GapPartition.{IsPartition};
 ghost use Rattle.rangemap_core.specs.Ranges.{Alike, AreGaps, IsCanonOf, IsCanonical, closed, covering, erase, half_open, override, same_pairs, value_at};
 
 mod clones;
@@ -179,7 +179,7 @@ pub fn gaps_and_covered_keys_make_up_a_range<M: Container, B: Allocator>(
 ) -> Result<Vec<M::Range, B>, AllocError>
     requires { KeysCloneFaithfully M.Key.is_clone M.Key.cmp }
     ensures gaps { IfOk result (λ gaps. AreGaps M.Kind.kind (map (λ pair. pair.0) (M.pairs stored.now)) outer_range.now gaps.items) }
-    ensures parted { IfOk result (λ gaps. IsParted M.Kind.kind outer_range.now gaps.items (λ key. is_some (covering M.Kind.kind (M.pairs stored.now) key))) }
+    ensures parted { IfOk result (λ gaps. IsPartition M.Kind.kind outer_range.now gaps.items (λ key. is_some (covering M.Kind.kind (M.pairs stored.now) key))) }
 {
     collect_gaps(alloc, stored, outer_range)
 }

@@ -120,7 +120,7 @@ impl<K: Ord + Clone, StepFnsT: StepFns<K>> Kind<K, RangeInclusive<K>> for Closed
     ghost use Rattle.rangemap_core.specs.Clones.{KeysCloneFaithfully};
     ghost use Rattle.rangemap_core.specs.engine.Endpoints.{endpoint_of, is_before};
     ghost use Rattle.rangemap_maps.specs.ClosedEndpoints.{closed_part, closed_placed};
-    ghost use Rattle.rangemap_core.specs.Items.{IsSame};
+    ghost use Rattle.rangemap_core.specs.MadeRanges.{IsSame};
     ghost use Rattle.rangemap_maps.specs.ClosedPlaces.{closed_end_place};
     ghost use Rattle.std.specs.Prelude.{◌≡◌, true, IfOk};
 

@@ -8,7 +8,7 @@ use Rattle.std.specs.List.{AllByRecursion, list_all, list_any}
 use Rattle.rangemap_operations.specs.operations.PlaceLaws.{HasPlaces, lt_true}
 use Rattle.rangemap_operations.specs.operations.Places.{RangePlaces}
 use Rattle.rangemap_core.specs.laws.Orders.{eq_eq, eq_lt, eq_turn, le_Equal, lt_le}
-use Rattle.rangemap_core.specs.Items.{TakesRange}
+use Rattle.rangemap_core.specs.MadeRanges.{TakesRange}
 use Rattle.rangemap_core.specs.Ranges.{RangeKind, IsCanonOfPoints, IsStorable, covers}
 use Rattle.rangemap_operations.specs.Sets.{Adds, AreHulls, IsHull, IsCanonicalSet, is_within}
 use Rattle.rangemap_operations.proofs.UnitValueLemmas.{covers_one}

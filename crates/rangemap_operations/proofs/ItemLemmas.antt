@@ -1,7 +1,7 @@
 -- What the first and the last range of an item say of it.
 use Rattle.std.proofs.Common.{◌≡◌, Bool, true, false, List, ◌∷◌, Option, Some, None, refl, sym, ap, ◌∙◌, true≢false, Less, Equal, is_lt}
 use Rattle.std.specs.Cmp as order
-use Rattle.rangemap_core.specs.Items.{TakesRange}
+use Rattle.rangemap_core.specs.MadeRanges.{TakesRange}
 use Rattle.rangemap_core.specs.Ranges.{RangeKind}
 use Rattle.rangemap_core.specs.engine.Intervals.{IsBetween, IsInterval, goes_past}
 use Rattle.rangemap_core.specs.engine.Intervals as intervals

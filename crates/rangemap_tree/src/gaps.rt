@@ -3,7 +3,7 @@ ghost use Rattle.std.specs.Prelude.{◌≡◌, ◌≢◌, ◌∷◌, [], IfOk, I
 ghost use Rattle.std.specs.Iterator.{UpTo, at_most};
 ghost use Rattle.std.specs.Iterator.SizeHint.{IsWithinCount};
 ghost use Rattle.rangemap_core.specs.Clones.{KeysCloneFaithfully};
-ghost use Rattle.rangemap_core.specs.Items.{GivesRange, TakesRange};
+ghost use Rattle.rangemap_core.specs.MadeRanges.{GivesRange, TakesRange};
 ghost use Rattle.rangemap_core.specs.Ranges.{AreGaps, IsCanonical, half_open};
 
 use crate::by_start::ByStart;

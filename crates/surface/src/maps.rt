@@ -1,7 +1,7 @@
 //! The calls of `map::RangeMap`, by their signatures.
 ghost use Rattle.std.specs.Iterator.{IsFiniteIterable};
 ghost use Rattle.rangemap.specs.Clones.{KeysCloneFaithfully, ValuesCloneFaithfully};
-ghost use Rattle.rangemap.specs.Incoming.{GivesNonEmpty};
+ghost use Rattle.rangemap.specs.NonEmptyPairs.{GivesNonEmpty};
 ghost use Rattle.rangemap.specs.Ranges.{AreNonEmpty, half_open};
 
 use rangemap::map::{Gaps, IntoIter, Iter, Overlapping, RangeMap};

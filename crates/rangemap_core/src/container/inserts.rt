@@ -2,7 +2,7 @@
 ghost use Rattle.std.specs.Prelude.{List};
 ghost use Rattle.std.specs.Iterator.{ExtendsWithItems, IsFiniteIterable};
 ghost use Rattle.rangemap_core.specs.Clones.{KeysCloneFaithfully, ValuesCloneFaithfully};
-ghost use Rattle.rangemap_core.specs.Incoming.{GivesNonEmpty};
+ghost use Rattle.rangemap_core.specs.NonEmptyPairs.{GivesNonEmpty};
 ghost use Rattle.rangemap_core.specs.Ranges.{Overrides};
 
 use super::Container;

@@ -1,6 +1,6 @@
 //! Calls with clones of a range and a value, which the laws make more than once.
 ghost use Rattle.std.specs.Prelude.{IfOk, OnOk};
-ghost use Rattle.rangemap_core.specs.Items.{IsSame};
+ghost use Rattle.rangemap_core.specs.MadeRanges.{IsSame};
 ghost use Rattle.rangemap_core.specs.Clones.{KeysCloneFaithfully, ValuesCloneFaithfully};
 ghost use Rattle.rangemap_core.specs.Ranges.{IsCanonOf, IsCanonical, IsStorable, erase, override, value_at};
 

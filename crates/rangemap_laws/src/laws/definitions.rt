@@ -6,7 +6,7 @@ ghost use Rattle.rangemap_core.specs.ListOrder.{pairs_cmp, ranges_cmp};
 ghost use Rattle.rangemap_core.specs.Ranges.{AreGaps, IsCanonOf, IsCanonical, closed, covering, erase, half_open, overlapped, override, value_at};
 ghost use Rattle.rangemap_formats.specs.Texts.{plain_map, plain_set};
 ghost use Rattle.rangemap_operations.specs.Sets.{AreCommon, AreHulls};
-ghost use Rattle.rangemap_laws.specs.Rows.{bytes, digit, inclusive, iterated, one_pair, range, three_pairs};
+ghost use Rattle.rangemap_laws.specs.SmallLists.{bytes, digit, inclusive, iterated, one_pair, range, three_pairs};
 
 /// Which lists are canonical: `three_pairs` is (0..3, 1), (3..6, 2), (6..10, 1). A list is none
 /// whose ranges touch with equal values, overlap, stand in another order or are empty.

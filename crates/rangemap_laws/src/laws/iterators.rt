@@ -3,7 +3,7 @@
 //! Each function makes the calls that its law speaks of, and answers what these answered. An item
 //! leaves fewer to come; none is answered only where none is to come, and from then on.
 ghost use Rattle.std.specs.Prelude.{◌≡◌, ◌<◌, ℕ, IfNone, IfOk, IsNone, Ok as OkWord, None as NoneWord, Option, OnSome};
-ghost use Rattle.rangemap_laws.specs.Ended.{GoesToEnd, TriesToEnd};
+ghost use Rattle.rangemap_laws.specs.IteratorEnds.{GoesToEnd, TriesToEnd};
 
 use rangemap_core::gaps::Gaps;
 use rangemap_core::kind::{Interval, Kind};
@@ -130,7 +130,7 @@ pub fn try_next_ends_tries<I: StaysEndedByTries>(
 impl<'a, R, V> StaysEndedAtBack for iter::Iter<'a, R, V> {
     ghost use Rattle.std.specs.Prelude.{length};
     ghost use Rattle.std.specs.Map.Iter.{deref_pair};
-    ghost use Rattle.rangemap_laws.specs.Ended.{first_taken, last_taken};
+    ghost use Rattle.rangemap_laws.specs.IteratorEnds.{first_taken, last_taken};
 
     ghost left = { λ s. length s };
 
@@ -143,7 +143,7 @@ impl<'a, R, V> StaysEndedAtBack for iter::Iter<'a, R, V> {
 
 impl<R: Drop, V: Drop, A: Allocator> StaysEndedAtBack for into_iter::IntoIter<R, V, A> {
     ghost use Rattle.std.specs.Prelude.{length};
-    ghost use Rattle.rangemap_laws.specs.Ended.{first_taken, last_taken};
+    ghost use Rattle.rangemap_laws.specs.IteratorEnds.{first_taken, last_taken};
 
     ghost left = { λ s. length s };
 
@@ -158,7 +158,7 @@ impl<'a, I: Interval<K, R>, K: Ord + Clone, R, V> StaysEndedAtBack
     for overlapping::Overlapping<'a, I, K, R, V> {
     ghost use Rattle.std.specs.Prelude.{length};
     ghost use Rattle.std.specs.Map.Iter.{deref_pair};
-    ghost use Rattle.rangemap_laws.specs.Ended.{first_taken, last_taken};
+    ghost use Rattle.rangemap_laws.specs.IteratorEnds.{first_taken, last_taken};
 
     ghost left = { λ s. length s };
 
@@ -172,7 +172,7 @@ impl<'a, I: Interval<K, R>, K: Ord + Clone, R, V> StaysEndedAtBack
 impl<'a, K, V> StaysEndedAtBack for tree_map::Iter<'a, K, V> {
     ghost use Rattle.std.specs.Prelude.{length};
     ghost use Rattle.std.specs.Map.Iter.{deref_pair};
-    ghost use Rattle.rangemap_laws.specs.Ended.{first_taken, last_taken};
+    ghost use Rattle.rangemap_laws.specs.IteratorEnds.{first_taken, last_taken};
 
     ghost left = { λ s. length s };
 
@@ -185,7 +185,7 @@ impl<'a, K, V> StaysEndedAtBack for tree_map::Iter<'a, K, V> {
 
 impl<K: Drop, V: Drop, A: Allocator> StaysEndedAtBack for tree_map::IntoIter<K, V, A> {
     ghost use Rattle.std.specs.Prelude.{length};
-    ghost use Rattle.rangemap_laws.specs.Ended.{first_taken, last_taken};
+    ghost use Rattle.rangemap_laws.specs.IteratorEnds.{first_taken, last_taken};
 
     ghost left = { λ s. length s };
 
@@ -199,7 +199,7 @@ impl<K: Drop, V: Drop, A: Allocator> StaysEndedAtBack for tree_map::IntoIter<K, 
 impl<'a, K, V> StaysEndedAtBack for tree_map::Overlapping<'a, K, V> {
     ghost use Rattle.std.specs.Prelude.{length};
     ghost use Rattle.std.specs.Map.Iter.{deref_pair};
-    ghost use Rattle.rangemap_laws.specs.Ended.{first_taken, last_taken};
+    ghost use Rattle.rangemap_laws.specs.IteratorEnds.{first_taken, last_taken};
 
     ghost left = { λ s. length s };
 
@@ -213,7 +213,7 @@ impl<'a, K, V> StaysEndedAtBack for tree_map::Overlapping<'a, K, V> {
 impl<'a, R: SetRange> StaysEndedAtBack for rangemap_operations::iter::Iter<'a, R> {
     ghost use Rattle.std.specs.Prelude.{length};
     ghost use Rattle.std.specs.Map.Iter.{deref};
-    ghost use Rattle.rangemap_laws.specs.Ended.{first_taken, last_taken};
+    ghost use Rattle.rangemap_laws.specs.IteratorEnds.{first_taken, last_taken};
 
     ghost left = { λ s. length s };
 
@@ -226,7 +226,7 @@ impl<'a, R: SetRange> StaysEndedAtBack for rangemap_operations::iter::Iter<'a, R
 
 impl<R: Drop, A: Allocator> StaysEndedAtBack for rangemap_operations::into_iter::IntoIter<R, A> {
     ghost use Rattle.std.specs.Prelude.{length};
-    ghost use Rattle.rangemap_laws.specs.Ended.{first_taken, last_taken};
+    ghost use Rattle.rangemap_laws.specs.IteratorEnds.{first_taken, last_taken};
 
     ghost left = { λ s. length s };
 
@@ -240,7 +240,7 @@ impl<R: Drop, A: Allocator> StaysEndedAtBack for rangemap_operations::into_iter:
 impl<'a, R: SetRange> StaysEndedAtBack for rangemap_operations::overlapping::Overlapping<'a, R> {
     ghost use Rattle.std.specs.Prelude.{length};
     ghost use Rattle.std.specs.Map.Iter.{deref};
-    ghost use Rattle.rangemap_laws.specs.Ended.{first_taken, last_taken};
+    ghost use Rattle.rangemap_laws.specs.IteratorEnds.{first_taken, last_taken};
 
     ghost left = { λ s. length s };
 
@@ -253,7 +253,7 @@ impl<'a, R: SetRange> StaysEndedAtBack for rangemap_operations::overlapping::Ove
 
 impl<'a, Q: Kind<K, R>, K: Ord + Clone, R: Drop, V> StaysEndedByTries for Gaps<'a, Q, K, R, V> {
     ghost use Rattle.std.specs.Prelude.{length};
-    ghost use Rattle.rangemap_laws.specs.Ended.{range_given};
+    ghost use Rattle.rangemap_laws.specs.IteratorEnds.{range_given};
 
     type Range = R;
 
@@ -269,7 +269,7 @@ impl<'a, Q: Kind<K, R>, K: Ord + Clone, R: Drop, V> StaysEndedByTries for Gaps<'
 impl<'a, K: Ord + Clone, V> StaysEndedByTries for tree_map::Gaps<'a, K, V> {
     ghost use Rattle.std.specs.Prelude.{length};
     ghost use Rattle.rangemap_core.specs.Ranges.{half_open};
-    ghost use Rattle.rangemap_laws.specs.Ended.{range_given};
+    ghost use Rattle.rangemap_laws.specs.IteratorEnds.{range_given};
 
     type Range = Range<K>;
 
@@ -284,7 +284,7 @@ impl<'a, K: Ord + Clone, V> StaysEndedByTries for tree_map::Gaps<'a, K, V> {
 
 impl<'a, R: SetRange> StaysEndedByTries for Union<'a, R> {
     ghost use Rattle.std.specs.Prelude.{length};
-    ghost use Rattle.rangemap_laws.specs.Ended.{range_given};
+    ghost use Rattle.rangemap_laws.specs.IteratorEnds.{range_given};
 
     type Range = R;
 
@@ -299,7 +299,7 @@ impl<'a, R: SetRange> StaysEndedByTries for Union<'a, R> {
 
 impl<'a, R: SetRange> StaysEndedByTries for Intersection<'a, R> {
     ghost use Rattle.std.specs.Prelude.{length};
-    ghost use Rattle.rangemap_laws.specs.Ended.{range_given};
+    ghost use Rattle.rangemap_laws.specs.IteratorEnds.{range_given};
 
     type Range = R;
 

@@ -2,7 +2,7 @@
 ghost use Rattle.std.specs.Prelude.{◌≡◌, List, IfOk, true};
 ghost use Rattle.std.specs.Iterator.{Drains, ExtendsWithItems, IsFiniteIterable};
 ghost use Rattle.rangemap_core.specs.Clones.{KeysCloneFaithfully, ValuesCloneFaithfully};
-ghost use Rattle.rangemap_core.specs.Incoming.{GivesNonEmpty};
+ghost use Rattle.rangemap_core.specs.NonEmptyPairs.{GivesNonEmpty};
 ghost use Rattle.rangemap_core.specs.Ranges.{AreNonEmpty, IsCanonOf, Overrides, nothing, override_all, same_pairs, value_at};
 
 use super::Map;

@@ -2,7 +2,7 @@
 ghost use Rattle.std.specs.Prelude.{◌≡◌, ◌∷◌, List, IfOk};
 ghost use Rattle.std.specs.declared.cmp.Ordering.TheVariants.{Less};
 ghost use Rattle.rangemap_core.specs.Clones.{KeysCloneFaithfully};
-ghost use Rattle.rangemap_core.specs.Items.{TakesRange};
+ghost use Rattle.rangemap_core.specs.MadeRanges.{TakesRange};
 ghost use Rattle.rangemap_operations.specs.operations.Items.{reaches};
 
 use crate::set_range::SetRange;

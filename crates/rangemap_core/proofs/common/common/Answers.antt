@@ -1,5 +1,5 @@
 use Rattle.std.proofs.Common.{◌≡◌, ◌∙◌, sym, ap, subst, cond}
-use Rattle.rangemap_core.specs.Items.{IsSame}
+use Rattle.rangemap_core.specs.MadeRanges.{IsSame}
 use Rattle.rangemap_core.specs.engine.Endpoints.{AtEnd, AtStart, endpoint_of, is_before}
 use Rattle.rangemap_core.proofs.CommonLemmas.{from, to, nothing_shared, shared_by}
 use Rattle.rangemap_core.proofs.common.common.Goals as goal

@@ -1,6 +1,6 @@
 use Rattle.std.proofs.Common.{arith, refl}
 use Rattle.rangemap_core.specs.Ranges.{IsStorable}
-use Rattle.rangemap_laws.specs.Rows.{bytes, inclusive}
+use Rattle.rangemap_laws.specs.SmallLists.{bytes, inclusive}
 use Rattle.rangemap_laws.proofs.laws.definitions.closed_rows.Goals as goal
 
 -- 5 lies between

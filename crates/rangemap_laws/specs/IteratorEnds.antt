@@ -3,7 +3,7 @@ use Rattle.std.proofs.Common.{arith, ◌≡◌, ◌≢◌, ℕ, ◌<◌, List, [
 use Rattle.std.specs.Prelude.{MatchResult}
 use Rattle.std.specs.Map.Iter.{TakesFirst, TakesLast}
 use Rattle.std.specs.declared.alloc.AllocError.{AllocError}
-use Rattle.rangemap_core.specs.Items.{GivesRange}
+use Rattle.rangemap_core.specs.MadeRanges.{GivesRange}
 use Rattle.rangemap_core.specs.Ranges.{RangeKind}
 
 -- A call at s, at which `left s` items were to come, answered r and left t. An item leaves fewer of
