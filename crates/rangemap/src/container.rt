@@ -2,4 +2,4 @@
 
 pub use rangemap_core::container::{Collect, Container, TryClone, collect_gaps, insert_pairs};
 pub use rangemap_maps::segments::segments;
-pub use rangemap_operations::combine::{CollectRanges, Combine};
+pub use rangemap_operations::combine::Combine;

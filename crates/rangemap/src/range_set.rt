@@ -90,25 +90,18 @@ impl<T: Ord + Clone, StepFnsT: StepFns<T>, A: Allocator> Set<
 }
 
 impl<Q: SetKind<T, R>, T: Ord + Clone, R: SetRange<Key = T>, A: Allocator> Set<Q, T, R, A> {
-    /// Returns the number of stored ranges.
-    pub fn len(&self) -> usize
-        ensures { result ≡ length self.now }
-    {
-        self.pairs.len()
-    }
-
-    /// Returns whether no range is stored.
+    /// Returns whether the set has no key.
     pub fn is_empty(&self) -> bool
         ensures { result ≡ nat_eq (length self.now) 0 }
     {
         self.pairs.is_empty()
     }
 
-    /// Takes every key out, and keeps the memory for later inserts.
-    pub fn clear(&mut self)
-        ensures { self.new ≡ [] }
+    /// Returns the number of stored ranges, which is not the number of keys.
+    pub fn len(&self) -> usize
+        ensures { result ≡ length self.now }
     {
-        self.pairs.clear();
+        self.pairs.len()
     }
 
     /// Returns the stored ranges in order, which can be taken from both ends.
@@ -254,5 +247,12 @@ impl<Q: SetKind<T, R>, T: Ord + Clone, R: SetRange<Key = T>, A: Allocator> Set<Q
         ensures meets_nothing { met Q.kind self.old range ≡ [] → IsOk result × (self.new ≡ self.old) }
     {
         self.pairs.remove(range)
+    }
+
+    /// Takes every key out, and keeps the memory for later inserts.
+    pub fn clear(&mut self)
+        ensures { self.new ≡ [] }
+    {
+        self.pairs.clear();
     }
 }

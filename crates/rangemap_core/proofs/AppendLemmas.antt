@@ -1,5 +1,5 @@
 -- Clones of pairs, and gaps, that are put behind a list one after another.
-use Rattle.std.proofs.Common.{◌≡◌, Bool, true, false, List, [], ◌∷◌, ◌++◌, cond, map, Option, None, Result, Ok, Err, OnErr, append_assoc, append-nil, refl, subst, sym, ap, ◌∙◌}
+use Rattle.std.proofs.Common.{◌≡◌, Bool, true, false, List, [], ◌∷◌, ◌++◌, cond, map, Option, None, Ok, append_assoc, append-nil, refl, subst, sym, ap, ◌∙◌}
 use Rattle.std.specs.Borrow.{Bor}
 use Rattle.std.specs.Iterator.{Drains, Yields}
 use Rattle.std.specs.Map.Iter.{TakesFirst, deref_pair}
@@ -77,8 +77,3 @@ module _ {K X V : Type 0} {k : RangeKind K X} {end_place : X → Option K} {part
 -- gaps behind nothing
 pub gaps_alone : {K X : Type 0} (k : RangeKind K X) (ranges : List X) (q : X) (old new : List X) → old ≡ [] → AppendsGaps k ranges q old new → AreGaps k ranges q new
 gaps_alone k ranges q old new none h = subst (AreGaps k ranges q) (sym (h.1 ∙ ap (λ xs. xs ++ h.0) none)) h.2
-
--- what holds, also where a call was refused
-pub on_any_err : {T E P : Type 0} (r : Result T E) → P → OnErr r P
-on_any_err (Ok x) p = tt
-on_any_err (Err e) p = p

@@ -97,13 +97,6 @@ impl<Q: Stored<K, R>, K: Ord + Clone, R: Drop, V: Eq + Clone, A: Allocator> Map<
         self.pairs.is_empty()
     }
 
-    /// Takes every key out. The memory is kept for later inserts.
-    pub fn clear(&mut self)
-        ensures { self.new ≡ [] }
-    {
-        self.pairs.clear();
-    }
-
     /// Returns the stored pairs, in order, from both ends.
     pub fn iter(&self) -> Iter<'_, R, V>
         ensures all { result ≡ self.now }

@@ -10,8 +10,8 @@ use rangemap_core::container::Collect;
 use std::alloc::AllocError;
 use std::iter::IntoIterator;
 
-/// A set that has the operators, which it makes by the steps of its keys' own type: a map all of
-/// whose values are equal.
+/// A set by the steps of its keys' own type: a map all of whose values are equal. It has the
+/// operators, and takes ranges alone, one after another, by its own calls.
 pub trait Combine: Collect {
     /// `self | other`.
     fn union_set(&self, other: &Self) -> Result<Self, AllocError>
@@ -23,12 +23,6 @@ pub trait Combine: Collect {
         requires faithful_keys { KeysCloneFaithfully Self.Key.is_clone Self.Key.cmp }
         ensures { IfOk result (λ set. IsCanonOf Self.Kind.kind Self.Value.eq (common (value_at Self.Kind.kind (Self.pairs self.now)) (value_at Self.Kind.kind (Self.pairs other.now))) (Self.pairs set)) };
 
-    /// The values say nothing.
-    ghost all_equal: { (v w : Self.Value) → Self.Value.eq v w ≡ true };
-}
-
-/// A set that also takes ranges alone, one after another, as its own calls do.
-pub trait CollectRanges: Combine {
     /// Inserts the items of `iter`, in the order in which they come, by the set's `extend`. The
     /// caller sees to it that it ends and gives no empty range, and that clones are faithful. `Err`
     /// says that an insert was refused; the items before that one stay.
@@ -52,4 +46,7 @@ pub trait CollectRanges: Combine {
         requires non_empty { (it : I.IntoIter) → I.into_iter_gives iter it → GivesNonEmptyRanges Self.Kind.kind I.IntoIter.next_gives it }
         requires faithful_keys { KeysCloneFaithfully Self.Key.is_clone Self.Key.cmp }
         ensures { IfOk result (λ all. (it : I.IntoIter) × (items : List _) × I.into_iter_gives iter it × Drains I.IntoIter.next_gives it items × IsCanonOfPoints Self.Kind.kind (covers Self.Kind.kind items) (ranges (Self.pairs all))) };
+
+    /// The values say nothing.
+    ghost all_equal: { (v w : Self.Value) → Self.Value.eq v w ≡ true };
 }

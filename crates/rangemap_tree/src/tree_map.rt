@@ -75,21 +75,21 @@ impl<K: Ord + Clone, V: Eq + Clone, A: Allocator + Clone> RangeMap<K, V, A> {
         self.pairs.allocator()
     }
 
-    /// Returns the number of stored ranges.
-    pub fn len(&self) -> usize
-        ensures { result ≡ length self.now }
-    {
-        self.pairs.len()
-    }
-
-    /// Returns whether no range is stored.
+    /// Returns whether no key has a value.
     pub fn is_empty(&self) -> bool
         ensures { result ≡ nat_eq (length self.now) 0 }
     {
         self.pairs.len() == 0
     }
 
-    /// Takes every key out.
+    /// Returns how many ranges are stored.
+    pub fn len(&self) -> usize
+        ensures { result ≡ length self.now }
+    {
+        self.pairs.len()
+    }
+
+    /// Takes every key out, and gives the memory back.
     pub fn clear(&mut self)
         ensures { self.new ≡ [] }
     {

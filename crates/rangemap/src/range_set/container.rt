@@ -4,7 +4,7 @@ use super::Set;
 use rangemap_core::container::{Collect, Container, TryClone, insert_pairs};
 use rangemap_maps::kinds::OwnSteps;
 use rangemap_maps::range_map::Map;
-use rangemap_operations::combine::{CollectRanges, Combine};
+use rangemap_operations::combine::Combine;
 use rangemap_operations::set_range::{SetKind, SetRange};
 use std::alloc::{AllocError, Allocator};
 use std::iter::IntoIterator;
@@ -156,14 +156,7 @@ impl<
     fn intersection_set(&self, other: &Self) -> Result<Self, AllocError> {
         self & other
     }
-}
 
-impl<
-    Q: OwnSteps<T, R> + SetKind<T, R>,
-    T: Ord + Clone,
-    R: SetRange<Key = T>,
-    A: Allocator + Clone,
-> CollectRanges for Set<Q, T, R, A> {
     fn extend_ranges<I: IntoIterator<Item = R>>(&mut self, iter: I) -> Result<(), AllocError> {
         self.extend(iter)
     }

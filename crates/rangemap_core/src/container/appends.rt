@@ -36,34 +36,15 @@ pub fn append_clones<
     ensures err { OnErr result (out.new.items ≡ out.old.items) }
 {
     let len = out.len();
-    let pushed = push_clones::<Q, K, R, V, I, B>(pairs, out);
-    if pushed.is_err() {
-        out.truncate(len);
-    }
-    pushed
-}
-
-// The same, but that what was appended before a refusal stays.
-fn push_clones<
-    'a,
-    Q: Kind<K, R>,
-    K: Ord + Clone + 'a,
-    R: Drop + 'a,
-    V: Eq + Clone + 'a,
-    I: Iterator<Item = (&'a R, &'a V)> + Drop,
-    B: Allocator,
->(pairs: I, out: &mut Vec<(R, V), B>) -> Result<(), AllocError>
-    requires can { I.can_next pairs }
-    requires ends { IsFinite (I.remaining pairs) }
-    requires stored { GivesStored Q.kind I.next_gives pairs }
-    requires faithful_keys { KeysCloneFaithfully K.is_clone K.cmp }
-    requires faithful_values { ValuesCloneFaithfully V.is_clone V.eq }
-    ensures ok { OnOk result ((items : List _) × Drains I.next_gives pairs items × Appends Q.kind V.eq (map deref_pair items) out.old.items out.new.items) }
-    ensures err { OnErr result ((more : List _) × (out.new.items ≡ out.old.items ++ more)) }
-{
     for (range, value) in pairs {
-        let copy = clone_pair::<Q, K, R, V>(range, value)?;
-        out.push(copy)?;
+        let is_pushed = match clone_pair::<Q, K, R, V>(range, value) {
+            Ok(copy) => out.push(copy).is_ok(),
+            Err(_) => false,
+        };
+        if !is_pushed {
+            out.truncate(len);
+            return Err(AllocError);
+        }
     }
     Ok(())
 }
@@ -82,26 +63,16 @@ pub fn append_gaps<R: Drop, I: Iterator<Item = Result<R, AllocError>> + Drop, B:
     ensures ok { OnOk result ((items : List _) × Drains I.next_gives gaps (map OkWord items) × (out.new.items ≡ out.old.items ++ items)) }
     ensures err { OnErr result (out.new.items ≡ out.old.items) }
 {
-    let len = out.len();
-    let pushed = push_gaps(gaps, out);
-    if pushed.is_err() {
-        out.truncate(len);
-    }
-    pushed
-}
-
-// The same, but that what was appended before a refusal stays.
-fn push_gaps<R: Drop, I: Iterator<Item = Result<R, AllocError>> + Drop, B: Allocator>(
-    gaps: I,
-    out: &mut Vec<R, B>,
-) -> Result<(), AllocError>
-    requires can { I.can_next gaps }
-    requires ends { IsFinite (I.remaining gaps) }
-    ensures ok { OnOk result ((items : List _) × Drains I.next_gives gaps (map OkWord items) × (out.new.items ≡ out.old.items ++ items)) }
-    ensures err { OnErr result ((more : List _) × (out.new.items ≡ out.old.items ++ more)) }
-{
+    let start = out.len();
     for gap in gaps {
-        out.push(gap?)?;
+        let is_pushed = match gap {
+            Ok(gap) => out.push(gap).is_ok(),
+            Err(_) => false,
+        };
+        if !is_pushed {
+            out.truncate(start);
+            return Err(AllocError);
+        }
     }
     Ok(())
 }

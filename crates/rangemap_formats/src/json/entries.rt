@@ -67,11 +67,10 @@ impl<K, V, E, WK: Fn(&K) -> Result<Value, E>, WV: Fn(&V) -> Result<Value, E>> Wr
     fn entry(
         &self,
         alloc: Global,
-        start: Value,
-        end: Value,
+        ends: (Value, Value),
         value: Value,
     ) -> Result<Value, AllocError> {
-        let range = list_of_two(alloc, start, end)?;
+        let range = list_of_two(alloc, ends.0, ends.1)?;
         list_of_two(alloc, range, value)
     }
 }
@@ -129,14 +128,8 @@ impl<K, E, WK: Fn(&K) -> Result<Value, E>> WritesParts<K, (), E> for SetWriter<W
         Ok(Value::Null)
     }
 
-    fn entry(
-        &self,
-        alloc: Global,
-        start: Value,
-        end: Value,
-        _value: Value,
-    ) -> Result<Value, AllocError> {
-        list_of_two(alloc, start, end)
+    fn entry(&self, alloc: Global, ends: (Value, Value), _: Value) -> Result<Value, AllocError> {
+        list_of_two(alloc, ends.0, ends.1)
     }
 }
 

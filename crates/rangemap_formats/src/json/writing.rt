@@ -26,15 +26,9 @@ pub trait WritesParts<K, V, E> {
         requires { is_ready self.now }
         ensures { (writer self.now).value value.now result };
 
-    /// Lays the parts out as an entry.
-    fn entry(
-        &self,
-        alloc: Global,
-        start: Value,
-        end: Value,
-        value: Value,
-    ) -> Result<Value, AllocError>
-        ensures { IfOk result (λ entry. (writer self.now).shape entry start end value) };
+    /// Lays the ends of a range, the first before the last, and its value out as an entry.
+    fn entry(&self, alloc: Global, ends: (Value, Value), value: Value) -> Result<Value, AllocError>
+        ensures { IfOk result (λ entry. (writer self.now).shape entry ends.0 ends.1 value) };
 }
 
 /// Writes the list of the entries of the pairs, in order. Every `to_value` is this call.
@@ -77,5 +71,5 @@ fn write_entry<Q: Interval<K, R>, K: Ord + Clone, R, V, E, W: WritesParts<K, V, 
         Ok(part) => part,
         Err(fault) => return Err(WriteError::Caller(fault)),
     };
-    Ok(writer.entry(alloc, start, end, value)?)
+    Ok(writer.entry(alloc, (start, end), value)?)
 }

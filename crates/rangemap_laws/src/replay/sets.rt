@@ -10,9 +10,9 @@ use super::CallOn;
 use super::changes::{add_clone, add_new, clear_at, insert_at, remove_at};
 use crate::calls::sets::SetCall;
 use rangemap_core::container::{Collect, TryClone};
-use rangemap_operations::combine::CollectRanges;
+use rangemap_operations::combine::Combine;
 
-impl<M: CollectRanges<Value = ()> + TryClone> CallOn<M> for SetCall<M::Range, M::Alloc> {
+impl<M: Combine<Value = ()> + TryClone> CallOn<M> for SetCall<M::Range, M::Alloc> {
     ghost use Rattle.rangemap_laws.specs.SetHistories.{SetHasNonEmptyRanges, SetStep};
 
     ghost has_non_empty = { SetHasNonEmptyRanges M.Kind.kind };
@@ -34,7 +34,7 @@ impl<M: CollectRanges<Value = ()> + TryClone> CallOn<M> for SetCall<M::Range, M:
     }
 }
 
-fn extend_ranges_at<M: CollectRanges<Value = ()>>(
+fn extend_ranges_at<M: Combine<Value = ()>>(
     sets: &mut Vec<M, M::Alloc>,
     at: usize,
     ranges: Vec<M::Range, M::Alloc>,
@@ -51,7 +51,7 @@ fn extend_ranges_at<M: CollectRanges<Value = ()>>(
     }
 }
 
-fn add_from_ranges<M: CollectRanges<Value = ()>>(
+fn add_from_ranges<M: Combine<Value = ()>>(
     alloc: M::Alloc,
     sets: &mut Vec<M, M::Alloc>,
     ranges: Vec<M::Range, M::Alloc>,
@@ -70,7 +70,7 @@ fn add_from_ranges<M: CollectRanges<Value = ()>>(
     true
 }
 
-fn add_union<M: CollectRanges<Value = ()>>(
+fn add_union<M: Combine<Value = ()>>(
     sets: &mut Vec<M, M::Alloc>,
     left: usize,
     right: usize,
@@ -94,7 +94,7 @@ fn add_union<M: CollectRanges<Value = ()>>(
     true
 }
 
-fn add_intersection<M: CollectRanges<Value = ()>>(
+fn add_intersection<M: Combine<Value = ()>>(
     sets: &mut Vec<M, M::Alloc>,
     left: usize,
     right: usize,

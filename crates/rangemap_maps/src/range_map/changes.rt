@@ -117,4 +117,11 @@ impl<Q: Stored<K, R>, K: Ord + Clone, R: Drop, V: Eq + Clone, A: Allocator> Map<
         let right = piece::<Q, K, R, V>(to, behind, &last.1)?;
         splice(&mut self.pairs, start, end, left, None, right)
     }
+
+    /// Takes every key out. The memory is kept for later inserts.
+    pub fn clear(&mut self)
+        ensures { self.new ≡ [] }
+    {
+        self.pairs.clear();
+    }
 }

@@ -1,6 +1,6 @@
 use Rattle.std.proofs.lemmas.Result.{IfOk-weaker}
 use Rattle.rangemap_operations.proofs.SetLemmas.{shown_made}
-use Rattle.rangemap.proofs.range_set.container.SetCollectRanges.from_ranges.Goals as goal
+use Rattle.rangemap.proofs.range_set.container.SetCombine.from_ranges.Goals as goal
 
 pub returns : goal.returns
 returns g c =

@@ -1,9 +1,10 @@
-use Rattle.std.proofs.Common.{subst, ◌∙◌}
+use Rattle.std.proofs.Common.{rules, subst}
 use Rattle.std.specs.Iterator.{Yields}
 use Rattle.rangemap_core.specs.Ranges.{IsStorable}
-use Rattle.rangemap_core.proofs.AppendLemmas.{Appends-last, Appends-none, on_any_err}
+use Rattle.rangemap_core.proofs.AppendLemmas.{Appends-last, Appends-none}
 use Rattle.rangemap_core.proofs.IncomingLemmas.{turn_item}
-use Rattle.rangemap_core.proofs.container.appends.push_clones.Goals as goal
+use Rattle.rangemap_core.proofs.container.appends.append_clones.Goals as goal
+use Rattle.rangemap_core.proofs.container.appends.append_clones.Goals.{in-Ok+in-Err-1, in-Ok+in-Ok-1, in-Err}
 
 pub loop-range-init : goal.loop-range-init
 loop-range-init g c = Appends-none g.Q.Interval.kind g.V.PartialEq.eq c.args.out.now.items
@@ -13,19 +14,17 @@ clone_pair-requires-clause-stored g c =
     turn_item g.I.Iterator.next_gives (λ pair. IsStorable g.Q.Interval.kind pair.0.now) c.args.pairs c.loop-range.yielded c.loop-range.range-iterator (c.in-Some.range, c.in-Some.value) c.next.new.self
     c.requires.stored (subst (λ start. Yields g.I.Iterator.next_gives start c.loop-range.yielded c.loop-range.range-iterator) c.into_iter-range-iterator.ensures.into_iter_gives c.loop-range.yielded_by) c.in-Some.ensures.steps
 
-pub returns-in_err-copy-clause-err : goal.returns-in_err-copy-clause-err
-returns-in_err-copy-clause-err g c = on_any_err c.from_residual.result (c.loop-range.invariant.0, c.loop-range.invariant.1)
-
-pub loop-range-preserved : goal.loop-range-preserved
-loop-range-preserved g c =
-    Appends-last g.Q.Interval.kind g.V.PartialEq.eq c.loop-range.yielded (c.in-Some.range, c.in-Some.value) c.in_ok-copy.copy c.args.out.now.items c.loop-range.out.items c.push.new.self.items
-    c.loop-range.invariant c.in_ok-copy.ensures.same c.in_ok-push.ensures.items
-
-pub returns-in_err-push-clause-err : goal.returns-in_err-push-clause-err
-returns-in_err-push-clause-err g c = on_any_err c.from_residual-in_err-push.result (c.loop-range.invariant.0, c.in_err-push.ensures.items ∙ c.loop-range.invariant.1)
-
 pub returns-clause-ok : goal.returns-clause-ok
 returns-clause-ok g c =
     let it = c.into_iter-range-iterator in
     let ran = subst (λ start. Yields g.I.Iterator.next_gives start c.loop-range.yielded c.loop-range.range-iterator) it.ensures.into_iter_gives c.loop-range.yielded_by in
     (c.loop-range.yielded, (c.next.new.self, (c.loop-range.range-iterator, ran, c.in-None.ensures.steps)), c.loop-range.invariant)
+
+pub loop-range-preserved : goal.loop-range-preserved
+loop-range-preserved g c =
+    elim c.match-clone_pair.branch
+    [ in-Ok+in-Err-1 w ↦ search rules
+    | in-Ok+in-Ok-1 w ↦
+      Appends-last g.Q.Interval.kind g.V.PartialEq.eq c.loop-range.yielded (c.in-Some.range, c.in-Some.value) w.in-Ok.copy c.args.out.now.items c.loop-range.out.items c.match-clone_pair.out.items
+      c.loop-range.invariant w.in-Ok.ensures.same (search rules)
+    | in-Err w ↦ search rules ]

@@ -1,5 +1,5 @@
 use Rattle.rangemap_operations.proofs.SetLemmas.{shown_added}
-use Rattle.rangemap.proofs.range_set.container.SetCollectRanges.extend_ranges.Goals as goal
+use Rattle.rangemap.proofs.range_set.container.SetCombine.extend_ranges.Goals as goal
 
 pub returns : goal.returns
 returns g c =
