@@ -3,12 +3,14 @@
 use rangemap::range_inclusive_set;
 use std::ops::Range;
 use std::test::Fail;
+use uses::block_list::{Block, BlockList, split};
 use uses::byte_cache::ByteCache;
 use uses::char_class::{CharClass, complement_twice, de_morgan};
 use uses::extents::Extents;
 use uses::planner::Planner;
 use uses::received::Received;
 use uses::rota::Rota;
+use uses::window::Window;
 
 #[test]
 fn only_what_is_missing_is_fetched(rt: HostRuntime) -> Result<(), Fail> {
@@ -119,5 +121,50 @@ fn two_shifts_are_swapped(rt: HostRuntime) -> Result<(), Fail> {
     assert_eq!(rt; free.try_next()?, Some(0..8));
     assert_eq!(rt; free.try_next()?, Some(20..24));
     assert_eq!(rt; free.try_next()?, None);
+    Ok(())
+}
+
+#[test]
+fn addresses_are_blocked(rt: HostRuntime) -> Result<(), Fail> {
+    let mut list = BlockList::new(rt.alloc());
+    list.block(FIRST, LAST)?;
+    list.block(LAST + 1, u32::MAX)?;
+    assert!(rt; list.is_blocked(FIRST) && list.is_blocked(LAST + 1));
+    assert!(rt; list.is_blocked(u32::MAX) && !list.is_blocked(FIRST - 1));
+    Ok(())
+}
+
+// The blocks are what Python's `ipaddress.summarize_address_range` gives for 10.0.0.5 to 10.0.0.16
+// and for all addresses.
+#[test]
+fn addresses_are_split_into_few_blocks(rt: HostRuntime) -> Result<(), Fail> {
+    let wanted = [(5, 32), (6, 31), (8, 29), (16, 32)].map(|(last, prefix)| Block {
+        first: FIRST + last,
+        prefix,
+    });
+    let first = u64::from(FIRST);
+    let blocks = split(rt.alloc(), first + 5, first + 17)?;
+    assert_eq!(rt; blocks.as_slice(), wanted.as_slice());
+    let all = split(rt.alloc(), 0, 4_294_967_296)?;
+    let whole = Block {
+        first: 0,
+        prefix: 0,
+    };
+    assert_eq!(rt; all.as_slice(), [whole].as_slice());
+    assert_eq!(rt; whole.size(), 4_294_967_296);
+    assert!(rt; split(rt.alloc(), first, first)?.is_empty());
+    Ok(())
+}
+
+#[test]
+fn numbers_wait_until_they_are_delivered(rt: HostRuntime) -> Result<(), Fail> {
+    let mut window = Window::new(rt.alloc());
+    window.receive(4, 8)?;
+    window.receive(0, 2)?;
+    assert_eq!(rt; window.next(), 0);
+    assert!(rt; window.is_waiting(1) && !window.is_waiting(2) && window.is_waiting(4));
+    window.deliver(6)?;
+    assert_eq!(rt; window.next(), 6);
+    assert!(rt; !window.is_waiting(1) && !window.is_waiting(5) && window.is_waiting(7));
     Ok(())
 }

@@ -1,2 +1,3 @@
 pub mod ClosedEndpointLemmas
 pub mod ChangeLemmas
+pub mod ClippedCloneLemmas

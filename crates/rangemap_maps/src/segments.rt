@@ -7,21 +7,23 @@ ghost use Rattle.rangemap_core.specs.Segments.{segments_of};
 use crate::kinds::Stored;
 use crate::range_map::Map;
 use rangemap_core::common::common;
+use rangemap_core::container::Container;
 use rangemap_core::kind::known_ends;
 use std::alloc::{AllocError, Allocator};
 
 /// Returns the keys of `query` as a map of their own, in memory of `alloc`: each stretch of them
-/// with its value, or with none.
+/// with its value, or with none; of a set the value is `()`.
 ///
 /// The stretches are those of the pairs that overlap the query, cut to it, and its gaps. Together
 /// they have exactly its keys, so each touches the next. Nothing is asked of the query: an empty or
 /// a reversed one has no stretch.
 ///
-/// It takes *O*(log *n* + *k* log *k*), with *k* stored ranges that the query overlaps.
+/// It takes *O*(log *n* + *k* log *k*), with *k* stored ranges that the query overlaps. Memory of
+/// `alloc` is for clones of these pairs, and for the answer.
 ///
 /// # Errors
 ///
-/// Memory, or a clone of a key or value, was refused.
+/// Memory, or a clone of a key, of a value or of `alloc`, was refused.
 ///
 /// # Examples
 ///
@@ -30,29 +32,31 @@ use std::alloc::{AllocError, Allocator};
 /// let all = segments(alloc, &map, &(2..9))?;
 /// // (2..3, Some('a')), (3..5, None), (5..7, Some('b')), (7..9, None)
 /// ```
-pub fn segments<
-    Q: Stored<K, R>,
-    K: Ord + Clone,
-    R: Drop,
-    V: Eq + Clone,
-    A: Allocator,
-    B: Allocator,
->(alloc: B, map: &Map<Q, K, R, V, A>, query: &R) -> Result<Map<Q, K, R, Option<V>, B>, AllocError>
-    requires faithful_keys { KeysCloneFaithfully K.is_clone K.cmp }
-    requires faithful_values { ValuesCloneFaithfully V.is_clone V.eq }
-    ensures { IfOk result (IsCanonOf Q.kind ⟦<Option<V> as PartialEq>⟧.eq (segments_of Q.kind (value_at Q.kind map.now) query.now)) }
+pub fn segments<M: Container, B: Allocator + Clone>(
+    alloc: B,
+    stored: &M,
+    query: &M::Range,
+) -> Result<Map<M::Kind, M::Key, M::Range, Option<M::Value>, B>, AllocError>
+where
+    M::Kind: Stored<M::Key, M::Range>,
+    requires faithful_keys { KeysCloneFaithfully M.Key.is_clone M.Key.cmp }
+    requires faithful_values { ValuesCloneFaithfully M.Value.is_clone M.Value.eq }
+    ensures { IfOk result (IsCanonOf M.Kind.kind ⟦<Option<M::Value> as PartialEq>⟧.eq (segments_of M.Kind.kind (value_at M.Kind.kind (M.pairs stored.now)) query.now)) }
 {
-    known_ends::<Q, K, R>(query);
-    let _ = map.iter();
+    known_ends::<M::Kind, M::Key, M::Range>(query);
+    stored.known();
+    let mut found = Vec::new(alloc.clone()?);
+    stored.append_overlapping(query, &mut found)?;
     let mut all = Map::empty(alloc);
-    if let Some(whole) = common::<Q, K, R>(query, query)? {
+    if let Some(whole) = common::<M::Kind, M::Key, M::Range>(query, query)? {
         all.insert(whole, None)?;
     }
-    let mut found = map.overlapping(query);
-    'pairs: while let Some((range, value)) = found.next() {
-        if let Some(shared) = common::<Q, K, R>(query, range)? {
-            all.insert(shared, Some(value.clone()?))?;
+    let mut rest = found.as_slice();
+    'pairs: while let Some((pair, others)) = rest.split_first() {
+        if let Some(shared) = common::<M::Kind, M::Key, M::Range>(query, &pair.0)? {
+            all.insert(shared, Some(pair.1.clone()?))?;
         }
+        rest = others;
     }
     let _ = all.iter();
     Ok(all)

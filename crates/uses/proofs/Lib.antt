@@ -1,3 +1,4 @@
+mod CidrLemmas
 mod ExtentLemmas
 mod RingLemmas
 mod WordLemmas

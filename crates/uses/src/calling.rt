@@ -60,6 +60,14 @@ pub fn add(set: &mut RangeSet<u64, Global>, from: u64, to: u64) -> Result<(), Al
     Ok(())
 }
 
+/// Puts the ranges of a second list behind those of a first.
+pub fn chain(ranges: &mut Vec<Range<u64>>, more: &mut Vec<Range<u64>>) -> Result<(), AllocError>
+    ensures { OnOk result ((key : ℕ) → covers (half_open nat_cmp) ranges.new.items key ≡ (covers (half_open nat_cmp) ranges.old.items key || covers (half_open nat_cmp) more.old.items key)) }
+{
+    ranges.append(more)?;
+    Ok(())
+}
+
 /// Adds the texts from one up to another to a set, if there are any.
 pub fn add_texts(
     set: &mut RangeSet<String, Global>,

@@ -63,4 +63,17 @@ impl Window {
         self.next = to;
         Ok(())
     }
+    /// Returns the number that is delivered next.
+    pub fn next(&self) -> u64
+        ensures { result ≡ self.now.next }
+    {
+        self.next
+    }
+
+    /// Returns whether the number waits.
+    pub fn is_waiting(&self, number: u64) -> bool
+        ensures { result ≡ covers (half_open nat_cmp) self.now.waiting number }
+    {
+        self.waiting.contains(&number)
+    }
 }

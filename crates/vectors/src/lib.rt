@@ -29,6 +29,8 @@ mod orders;
 #[cfg(test)]
 mod searches;
 #[cfg(test)]
+mod segments;
+#[cfg(test)]
 mod set;
 #[cfg(test)]
 mod sets;
