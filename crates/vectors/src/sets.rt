@@ -37,8 +37,16 @@ fn check_unions<S: Combine, R: Abort>(
 {
     let (first, second, third) = sets;
     assert_both(rt, commutes(&Operator::Union, first, second), whole)?;
-    assert_both(rt, associates(&Operator::Union, first, second, third), whole)?;
-    assert_both(rt, distributes(&Operator::Union, first, second, third), longer)?;
+    assert_both(
+        rt,
+        associates(&Operator::Union, first, second, third),
+        whole,
+    )?;
+    assert_both(
+        rt,
+        distributes(&Operator::Union, first, second, third),
+        longer,
+    )?;
     assert!(rt; is_idempotent(&Operator::Union, first)? == *first);
     assert!(rt; absorbs(&Operator::Union, first, third)? == *first);
     Ok(())
@@ -56,8 +64,16 @@ fn check_intersections<S: Combine, R: Abort>(
 {
     let (first, second, third) = sets;
     assert_both(rt, commutes(&Operator::Intersection, first, third), common)?;
-    assert_both(rt, associates(&Operator::Intersection, first, third, second), none)?;
-    assert_both(rt, distributes(&Operator::Intersection, third, first, second), third)?;
+    assert_both(
+        rt,
+        associates(&Operator::Intersection, first, third, second),
+        none,
+    )?;
+    assert_both(
+        rt,
+        distributes(&Operator::Intersection, third, first, second),
+        third,
+    )?;
     assert!(rt; is_idempotent(&Operator::Intersection, first)? == *first);
     assert!(rt; absorbs(&Operator::Intersection, first, second)? == *first);
     Ok(())
