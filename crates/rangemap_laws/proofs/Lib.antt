@@ -5,3 +5,4 @@ pub mod ReplayLemmas
 pub mod SetReplayLemmas
 pub mod RunLemmas
 pub mod CallerLemmas
+mod JoinedLemmas

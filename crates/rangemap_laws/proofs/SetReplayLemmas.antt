@@ -7,13 +7,16 @@ use Rattle.rangemap_core.specs.Ranges.{RangeKind, IsCanonOf, IsCanonOfPoints, co
 use Rattle.rangemap_core.proofs.AlikeLemmas.{canon_along}
 use Rattle.rangemap_core.proofs.CanonLemmas.{override_all_of}
 use Rattle.rangemap_core.proofs.ZipLemmas.{added, as_long, changed, found}
-use Rattle.rangemap_laws.specs.declared.calls.sets.SetCall.TheVariants.{FromIter, Extend, Union, Intersection}
+use Rattle.rangemap_laws.specs.declared.calls.sets.SetCall.TheVariants.{FromIter, Extend}
 use Rattle.rangemap_laws.specs.Histories.{Makes}
 use Rattle.rangemap_operations.specs.Operators.{common, either}
-use Rattle.rangemap_laws.specs.SetHistories.{SetStep}
+use Rattle.rangemap_laws.specs.SetHistories.{SetStep, joining}
+use Rattle.rangemap_laws.specs.Joined.{joined}
+use Rattle.rangemap_laws.specs.declared.laws.sets.Operator.{Operator}
+use Rattle.rangemap_laws.specs.declared.laws.sets.Operator.TheVariants.{Union, Intersection}
+use Rattle.rangemap_laws.proofs.JoinedLemmas.{joined_alike}
 use Rattle.rangemap_operations.specs.Sets.{Adds, ranges}
 use Rattle.rangemap_operations.proofs.SetLemmas.{canon_shown, overrides_of}
-use Rattle.rangemap_operations.proofs.OperatorLemmas.{common_alike, either_alike}
 
 module _ {K X M : Type 0} (k : RangeKind K X) (shown : M → List (X × ⊤)) (ls : List M) where
   e : IsEquivalence (unit_eq k)
@@ -24,25 +27,19 @@ module _ {K X M : Type 0} (k : RangeKind K X) (shown : M → List (X × ⊤)) (l
 
   module _ (A : Type 0) (i j : ℕ) where
     module _ (l r m : M) (here : i < length ls) (is : l ≡ get_or ls i l) (there : j < length ls) (it : r ≡ get_or ls j r) where
-      pub union_here : IsCanonOf k (unit_eq k) (either (value_at k (shown l)) (value_at k (shown r))) (shown m) → Makes k (unit_eq k) shown (SetStep {A = A} k) ls (Union i j) true (ls ++ m ∷ [])
-      union_here made fs h =
-          let f = found Shows fs ls i l h here is in
-          let g = found Shows fs ls j r h there it in (
-            _,
-            (f.0, g.0, f.1, g.1, refl),
-            added Shows fs ls (either f.0 g.0) m h
-                (canon_along k e (either (value_at k (shown l)) (value_at k (shown r))) (either f.0 g.0) (shown m) (either_alike k (unit_eq k) (value_at k (shown l)) f.0 (value_at k (shown r)) g.0 f.2.represents g.2.represents) made),
-          )
+      -- the sets that stand for what the operator makes, with what it made added
+      joined_made : (f g : K → Option ⊤) → Shows f l → Shows g r → (o : Operator) → Shows (joined o (value_at k (shown l)) (value_at k (shown r))) m → Shows (joined o f g) m
+      joined_made f g a b o made = canon_along k e (joined o (value_at k (shown l)) (value_at k (shown r))) (joined o f g) (shown m) (joined_alike o k (unit_eq k) (value_at k (shown l)) f (value_at k (shown r)) g a.represents b.represents) made
 
-      pub intersection_here : IsCanonOf k (unit_eq k) (common (value_at k (shown l)) (value_at k (shown r))) (shown m) → Makes k (unit_eq k) shown (SetStep {A = A} k) ls (Intersection i j) true (ls ++ m ∷ [])
-      intersection_here made fs h =
+      pub joined_here : (o : Operator) → Shows (joined o (value_at k (shown l)) (value_at k (shown r))) m → Makes k (unit_eq k) shown (SetStep {A = A} k) ls (joining o i j) true (ls ++ m ∷ [])
+      joined_here Union made fs h =
           let f = found Shows fs ls i l h here is in
-          let g = found Shows fs ls j r h there it in (
-            _,
-            (f.0, g.0, f.1, g.1, refl),
-            added Shows fs ls (common f.0 g.0) m h
-                (canon_along k e (common (value_at k (shown l)) (value_at k (shown r))) (common f.0 g.0) (shown m) (common_alike k (unit_eq k) (value_at k (shown l)) f.0 (value_at k (shown r)) g.0 f.2.represents g.2.represents) made),
-          )
+          let g = found Shows fs ls j r h there it in
+          (_, (f.0, g.0, f.1, g.1, refl), added Shows fs ls (either f.0 g.0) m h (joined_made f.0 g.0 f.2 g.2 Union made))
+      joined_here Intersection made fs h =
+          let f = found Shows fs ls i l h here is in
+          let g = found Shows fs ls j r h there it in
+          (_, (f.0, g.0, f.1, g.1, refl), added Shows fs ls (common f.0 g.0) m h (joined_made f.0 g.0 f.2 g.2 Intersection made))
 
   module _ {A : Type 0} (at : ℕ) (given : Vec X A) where
     pub extend_past : length ls ≤ at → Makes k (unit_eq k) shown (SetStep k) ls (Extend at given) false ls

@@ -5,3 +5,4 @@ pub mod SmallLists
 pub mod SetHistories
 pub mod IteratorEnds
 pub mod Runs
+pub mod Joined

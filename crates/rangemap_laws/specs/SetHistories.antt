@@ -5,6 +5,8 @@ use Rattle.rangemap_operations.specs.Operators.{common, either}
 use Rattle.rangemap_laws.specs.declared.calls.Change.TheVariants.{New as MakeEmpty, Insert as InsertPair, Remove as RemoveRange, Clear as ClearMap, Clone as CloneMap}
 use Rattle.rangemap_laws.specs.declared.calls.sets.SetCall.{SetCall}
 use Rattle.rangemap_laws.specs.declared.calls.sets.SetCall.TheVariants.{New, Insert, Remove, Clear, Clone, FromIter, Extend, Union, Intersection}
+use Rattle.rangemap_laws.specs.declared.laws.sets.Operator.{Operator}
+use Rattle.rangemap_laws.specs.declared.laws.sets.Operator.TheVariants.{Union as OfEither, Intersection as OfBoth}
 use Rattle.rangemap_core.specs.Ranges.{RangeKind, nothing, override_all, with_unit}
 use Rattle.rangemap_operations.specs.Sets.{AreNonEmptyRanges}
 
@@ -44,3 +46,8 @@ module _ {K X A : Type 0} (k : RangeKind K X) where
   SetStep old (Union left right) false new = new ≡ old
   SetStep old (Intersection left right) true new = Joins common old left right new
   SetStep old (Intersection left right) false new = new ≡ old
+
+-- the call that makes the operator
+abbrev pub joining : {X A : Type 0} → Operator → ℕ → ℕ → SetCall X A
+joining OfEither left right = Union left right
+joining OfBoth left right = Intersection left right

@@ -1,9 +1,10 @@
 -- Small lists of ranges of numbers, which show what the definitions say.
-use Rattle.std.specs.Prelude.{ℕ, ◌+◌, ◌<◌, List, [], ◌∷◌, true, false}
+use Rattle.std.specs.Prelude.{◌≡◌, ℕ, ◌+◌, ◌<◌, List, [], ◌∷◌, Result, Ok, true, false}
 use Rattle.std.specs.Ordering.{nat_cmp}
 use Rattle.std.specs.declared.ops.Range.{Range}
 use Rattle.std.specs.declared.ops.RangeInclusive.{RangeInclusive}
 use Rattle.rangemap_core.specs.Ranges.{RangeKind, closed}
+use Rattle.serde_json.specs.declared.value.Value.{Value}
 
 -- `a..b`
 abbrev pub range : ℕ → ℕ → Range ℕ
@@ -32,3 +33,11 @@ iterated a b = record { start = a; end = b; exhausted = true }
 -- the text of a number below ten
 abbrev pub digit : ℕ → List ℕ
 digit n = (48 + n) ∷ []
+
+-- a number is written as the part that stands for it
+abbrev pub writes : (ℕ → Value) → ℕ → Result Value ℕ → Type 0
+writes of n answer = answer ≡ Ok (of n)
+
+-- and a part is read as the number that it stands for
+abbrev pub reads : (ℕ → Value) → Value → Result ℕ ℕ → Type 0
+reads of part answer = (n : ℕ) × (part ≡ of n) × (answer ≡ Ok n)

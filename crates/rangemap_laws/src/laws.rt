@@ -10,7 +10,7 @@
 //!
 //! A contract speaks of what is held, not of how often it was written. So a law can't tell one
 //! insert from two equal ones; that the calls are made once is read in the bodies.
-ghost use Rattle.std.specs.Prelude.{◌≡◌, ◌↔◌, ◌&&◌, true, false, is_some, map, IsTrue, IfOk, List, Some as SomeWord, None as NoneWord, OnErr, OnOk};
+ghost use Rattle.std.specs.Prelude.{◌≡◌, ◌↔◌, ◌&&◌, true, false, not, is_some, map, IsTrue, IfOk, List, Some as SomeWord, None as NoneWord, OnErr, OnOk};
 ghost use Rattle.std.specs.Option.{option_eq};
 ghost use Rattle.std.specs.declared.ops.Range.{Range as RangeOf};
 ghost use Rattle.std.specs.declared.ops.RangeInclusive.{RangeInclusive as RangeInclusiveOf};
@@ -54,15 +54,17 @@ pub fn closed_lists_are_unique<K: Ord, V: Eq, StepFnsT: StepFns<K>>()
         ↔ Alike (closed StepFnsT.is_key K.cmp) V.eq (value_at (closed StepFnsT.is_key K.cmp) left) (value_at (closed StepFnsT.is_key K.cmp) right)) }
 {}
 
-/// Two maps are equal exactly when they give alike answers at every key. The answer is that of
-/// `==`.
-pub fn equal_exactly_when_alike<M: Container>(left: &M, right: &M) -> bool
-    ensures equal { result ≡ same_pairs M.Kind.kind M.Value.eq (M.pairs left.now) (M.pairs right.now) }
-    ensures alike { IsTrue result ↔ Alike M.Kind.kind M.Value.eq (value_at M.Kind.kind (M.pairs left.now)) (value_at M.Kind.kind (M.pairs right.now)) }
+/// Two maps are equal exactly when they give alike answers at every key. The answers are those of
+/// `==` and `!=`.
+pub fn equal_exactly_when_alike<M: Container>(left: &M, right: &M) -> (bool, bool)
+    ensures answer { result.0 ≡ M.eq left.now right.now }
+    ensures other_answer { result.1 ≡ not result.0 }
+    ensures equal { result.0 ≡ same_pairs M.Kind.kind M.Value.eq (M.pairs left.now) (M.pairs right.now) }
+    ensures alike { IsTrue result.0 ↔ Alike M.Kind.kind M.Value.eq (value_at M.Kind.kind (M.pairs left.now)) (value_at M.Kind.kind (M.pairs right.now)) }
 {
     left.known();
     right.known();
-    left == right
+    (left == right, left != right)
 }
 
 /// After an insert each key of the range has the value, and any other key is covered exactly as

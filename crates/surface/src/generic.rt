@@ -49,6 +49,6 @@ pub fn represented<M: Container<Key = u32, Range = Range<u32>, Value = char>>(
 pub fn laws_alike(
     left: &map::RangeMap<u32, char, Global>,
     right: &map::RangeMap<u32, char, Global>,
-) -> bool {
+) -> (bool, bool) {
     laws::equal_exactly_when_alike(left, right)
 }

@@ -5,11 +5,7 @@ use crate::hash::folded_made;
 use crate::order::assert_less_than;
 use crate::text::{assert_long_text, assert_made_text};
 use rangemap::container::Combine;
-use rangemap::laws::sets::{
-    intersection_absorbs, intersection_associates, intersection_commutes, intersection_distributes,
-    intersection_is_idempotent, union_absorbs, union_associates, union_commutes, union_distributes,
-    union_is_idempotent,
-};
+use rangemap::laws::sets::{Operator, absorbs, associates, commutes, distributes, is_idempotent};
 use rangemap::{RangeInclusiveSet, RangeSet, range_inclusive_set, range_set};
 use std::alloc::{AllocError, Global};
 use std::process::Abort;
@@ -40,11 +36,19 @@ fn check_unions<S: Combine, R: Abort>(
     requires { KeysCloneFaithfully S.Key.is_clone S.Key.cmp }
 {
     let (first, second, third) = sets;
-    assert_both(rt, union_commutes(first, second), whole)?;
-    assert_both(rt, union_associates(first, second, third), whole)?;
-    assert_both(rt, union_distributes(first, second, third), longer)?;
-    assert!(rt; union_is_idempotent(first)? == *first);
-    assert!(rt; union_absorbs(first, third)? == *first);
+    assert_both(rt, commutes(&Operator::Union, first, second), whole)?;
+    assert_both(
+        rt,
+        associates(&Operator::Union, first, second, third),
+        whole,
+    )?;
+    assert_both(
+        rt,
+        distributes(&Operator::Union, first, second, third),
+        longer,
+    )?;
+    assert!(rt; is_idempotent(&Operator::Union, first)? == *first);
+    assert!(rt; absorbs(&Operator::Union, first, third)? == *first);
     Ok(())
 }
 
@@ -59,11 +63,19 @@ fn check_intersections<S: Combine, R: Abort>(
     requires { KeysCloneFaithfully S.Key.is_clone S.Key.cmp }
 {
     let (first, second, third) = sets;
-    assert_both(rt, intersection_commutes(first, third), common)?;
-    assert_both(rt, intersection_associates(first, third, second), none)?;
-    assert_both(rt, intersection_distributes(third, first, second), third)?;
-    assert!(rt; intersection_is_idempotent(first)? == *first);
-    assert!(rt; intersection_absorbs(first, second)? == *first);
+    assert_both(rt, commutes(&Operator::Intersection, first, third), common)?;
+    assert_both(
+        rt,
+        associates(&Operator::Intersection, first, third, second),
+        none,
+    )?;
+    assert_both(
+        rt,
+        distributes(&Operator::Intersection, third, first, second),
+        third,
+    )?;
+    assert!(rt; is_idempotent(&Operator::Intersection, first)? == *first);
+    assert!(rt; absorbs(&Operator::Intersection, first, second)? == *first);
     Ok(())
 }
 

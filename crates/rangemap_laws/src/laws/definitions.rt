@@ -4,9 +4,13 @@ ghost use Rattle.std.specs.Ordering.{nat_cmp};
 ghost use Rattle.std.specs.declared.cmp.Ordering.TheVariants.{Equal as EqualWord, Less as LessWord};
 ghost use Rattle.rangemap_core.specs.ListOrder.{pairs_cmp, ranges_cmp};
 ghost use Rattle.rangemap_core.specs.Ranges.{AreGaps, IsCanonOf, IsCanonical, closed, covering, erase, half_open, overlapped, override, value_at};
+ghost use Rattle.rangemap_formats.specs.Json.{IsForm, IsReading, RefusesToRead, list_of, map_entry, map_reader, map_writer, set_entry, set_writer};
 ghost use Rattle.rangemap_formats.specs.Texts.{plain_map, plain_set};
+ghost use Rattle.rangemap_formats.specs.declared.json.Form.TheVariants.{Any as AnyWord, Canonical as CanonicalWord};
+ghost use Rattle.rangemap_formats.specs.declared.json.ReadError.TheVariants as read_error;
 ghost use Rattle.rangemap_operations.specs.Sets.{AreCommon, AreHulls};
-ghost use Rattle.rangemap_laws.specs.SmallLists.{bytes, digit, inclusive, iterated, one_pair, range, three_pairs};
+ghost use Rattle.rangemap_laws.specs.SmallLists.{bytes, digit, inclusive, iterated, one_pair, range, reads, three_pairs, writes};
+ghost use Rattle.serde_json.specs.declared.value.Value.{Value as Json};
 
 /// Which lists are canonical: `three_pairs` is (0..3, 1), (3..6, 2), (6..10, 1). A list is none
 /// whose ranges touch with equal values, overlap, stand in another order or are empty.
@@ -99,4 +103,43 @@ pub fn text_rows()
     ensures ranges { plain_set (half_open nat_cmp) (codes "..") digit (range 0 3 ∷ range 4 9 ∷ []) ≡ codes "{0..3, 4..9}" }
     ensures closed_ranges { plain_set bytes (codes "..=") digit (inclusive 0 4 ∷ inclusive 6 9 ∷ []) ≡ codes "{0..=4, 6..=9}" }
     ensures nothing { plain_set (half_open nat_cmp) (codes "..") digit [] ≡ codes "{}" }
+{}
+
+/// The JSON form of small lists, where `of` is the part that stands for a number: of a map the list
+/// of its entries `[[start, end], value]`, of a set that of its entries `[start, end]`, of nothing
+/// the empty list. What an entry lacks is not the form.
+pub fn json_form_rows()
+    ensures pairs { (of : ℕ → Json) (v one two : Json)
+        → list_of v ≡ SomeWord (one ∷ two ∷ [])
+        → map_entry one (of 0) (of 3) (of 1)
+        → map_entry two (of 3) (of 9) (of 2)
+        → IsForm (half_open nat_cmp) (map_writer (writes of) (writes of)) ((range 0 3, 1) ∷ (range 3 9, 2) ∷ []) v }
+    ensures ranges { (of : ℕ → Json) (v one two : Json)
+        → list_of v ≡ SomeWord (one ∷ two ∷ [])
+        → set_entry one (of 0) (of 4) (of 0)
+        → set_entry two (of 6) (of 9) (of 6)
+        → IsForm bytes (set_writer (writes of)) ((inclusive 0 4, tt) ∷ (inclusive 6 9, tt) ∷ []) v }
+    ensures nothing { (of : ℕ → Json) (v : Json) → list_of v ≡ SomeWord [] → IsForm (half_open nat_cmp) (set_writer (writes of)) [] v }
+    ensures left_out { (of : ℕ → Json) (v : Json) → list_of v ≡ SomeWord [] → ¬ (IsForm (half_open nat_cmp) (map_writer (writes of) (writes of)) one_pair v) }
+{}
+
+/// What is read of small lists of entries, and which are refused: in any form entries are inserted in
+/// order, and in the canonical form they may neither overlap nor be joined.
+pub fn json_reading_rows()
+    ensures inserted { (of : ℕ → Json) (v one two : Json)
+        → list_of v ≡ SomeWord (one ∷ two ∷ [])
+        → map_entry one (of 0) (of 10) (of 1)
+        → map_entry two (of 3) (of 6) (of 2)
+        → IsReading (half_open nat_cmp) (map_reader (reads of) (reads of)) nat_eq AnyWord v three_pairs }
+    ensures out_of_order { (of : ℕ → Json) (v one two : Json)
+        → list_of v ≡ SomeWord (one ∷ two ∷ [])
+        → map_entry one (of 0) (of 10) (of 1)
+        → map_entry two (of 3) (of 6) (of 2)
+        → RefusesToRead (half_open nat_cmp) (map_reader (reads of) (reads of)) nat_eq CanonicalWord v (read_error.OutOfOrder 1) }
+    ensures uncoalesced { (of : ℕ → Json) (v one two : Json)
+        → list_of v ≡ SomeWord (one ∷ two ∷ [])
+        → map_entry one (of 0) (of 5) (of 1)
+        → map_entry two (of 5) (of 9) (of 1)
+        → RefusesToRead (half_open nat_cmp) (map_reader (reads of) (reads of)) nat_eq CanonicalWord v (read_error.Uncoalesced 1) }
+    ensures no_list { (of : ℕ → Json) (v : Json) → list_of v ≡ NoneWord → RefusesToRead (half_open nat_cmp) (map_reader (reads of) (reads of)) nat_eq AnyWord v read_error.NotAList }
 {}

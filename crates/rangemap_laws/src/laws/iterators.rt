@@ -2,8 +2,10 @@
 //!
 //! Each function makes the calls that its law speaks of, and answers what these answered. An item
 //! leaves fewer to come; none is answered only where none is to come, and from then on.
-ghost use Rattle.std.specs.Prelude.{◌≡◌, ◌<◌, ℕ, IfNone, IfOk, IsNone, Ok as OkWord, None as NoneWord, Option, OnSome};
-ghost use Rattle.rangemap_laws.specs.IteratorEnds.{GoesToEnd, TriesToEnd};
+ghost use Rattle.std.specs.Prelude.{◌≡◌, ◌<◌, ℕ, IfNone, IfOk, IsNone, Ok as OkWord, None as NoneWord, Option, OnSome, length};
+ghost use Rattle.std.specs.Map.Iter.{deref, deref_pair};
+ghost use Rattle.rangemap_core.specs.Ranges.{half_open};
+ghost use Rattle.rangemap_laws.specs.IteratorEnds.{GoesToEnd, TriesToEnd, first_taken, last_taken, range_given};
 
 use rangemap_core::gaps::Gaps;
 use rangemap_core::kind::{Interval, Kind};
@@ -128,10 +130,6 @@ pub fn try_next_ends_tries<I: StaysEndedByTries>(
 }
 
 impl<'a, R, V> StaysEndedAtBack for iter::Iter<'a, R, V> {
-    ghost use Rattle.std.specs.Prelude.{length};
-    ghost use Rattle.std.specs.Map.Iter.{deref_pair};
-    ghost use Rattle.rangemap_laws.specs.IteratorEnds.{first_taken, last_taken};
-
     ghost left = { λ s. length s };
 
     ghost is_ready = { λ iter. (tt {0}, tt {0}) };
@@ -142,9 +140,6 @@ impl<'a, R, V> StaysEndedAtBack for iter::Iter<'a, R, V> {
 }
 
 impl<R: Drop, V: Drop, A: Allocator> StaysEndedAtBack for into_iter::IntoIter<R, V, A> {
-    ghost use Rattle.std.specs.Prelude.{length};
-    ghost use Rattle.rangemap_laws.specs.IteratorEnds.{first_taken, last_taken};
-
     ghost left = { λ s. length s };
 
     ghost is_ready = { λ iter. (tt {0}, tt {0}) };
@@ -156,10 +151,6 @@ impl<R: Drop, V: Drop, A: Allocator> StaysEndedAtBack for into_iter::IntoIter<R,
 
 impl<'a, I: Interval<K, R>, K: Ord + Clone, R, V> StaysEndedAtBack
     for overlapping::Overlapping<'a, I, K, R, V> {
-    ghost use Rattle.std.specs.Prelude.{length};
-    ghost use Rattle.std.specs.Map.Iter.{deref_pair};
-    ghost use Rattle.rangemap_laws.specs.IteratorEnds.{first_taken, last_taken};
-
     ghost left = { λ s. length s };
 
     ghost is_ready = { λ iter. (tt {0}, tt {0}) };
@@ -170,10 +161,6 @@ impl<'a, I: Interval<K, R>, K: Ord + Clone, R, V> StaysEndedAtBack
 }
 
 impl<'a, K, V> StaysEndedAtBack for tree_map::Iter<'a, K, V> {
-    ghost use Rattle.std.specs.Prelude.{length};
-    ghost use Rattle.std.specs.Map.Iter.{deref_pair};
-    ghost use Rattle.rangemap_laws.specs.IteratorEnds.{first_taken, last_taken};
-
     ghost left = { λ s. length s };
 
     ghost is_ready = { λ iter. (tt {0}, tt {0}) };
@@ -184,9 +171,6 @@ impl<'a, K, V> StaysEndedAtBack for tree_map::Iter<'a, K, V> {
 }
 
 impl<K: Drop, V: Drop, A: Allocator> StaysEndedAtBack for tree_map::IntoIter<K, V, A> {
-    ghost use Rattle.std.specs.Prelude.{length};
-    ghost use Rattle.rangemap_laws.specs.IteratorEnds.{first_taken, last_taken};
-
     ghost left = { λ s. length s };
 
     ghost is_ready = { λ iter. (tt {0}, tt {0}) };
@@ -197,10 +181,6 @@ impl<K: Drop, V: Drop, A: Allocator> StaysEndedAtBack for tree_map::IntoIter<K, 
 }
 
 impl<'a, K, V> StaysEndedAtBack for tree_map::Overlapping<'a, K, V> {
-    ghost use Rattle.std.specs.Prelude.{length};
-    ghost use Rattle.std.specs.Map.Iter.{deref_pair};
-    ghost use Rattle.rangemap_laws.specs.IteratorEnds.{first_taken, last_taken};
-
     ghost left = { λ s. length s };
 
     ghost is_ready = { λ iter. (tt {0}, tt {0}) };
@@ -211,10 +191,6 @@ impl<'a, K, V> StaysEndedAtBack for tree_map::Overlapping<'a, K, V> {
 }
 
 impl<'a, R: SetRange> StaysEndedAtBack for rangemap_operations::iter::Iter<'a, R> {
-    ghost use Rattle.std.specs.Prelude.{length};
-    ghost use Rattle.std.specs.Map.Iter.{deref};
-    ghost use Rattle.rangemap_laws.specs.IteratorEnds.{first_taken, last_taken};
-
     ghost left = { λ s. length s };
 
     ghost is_ready = { λ iter. (tt {0}, tt {0}) };
@@ -225,9 +201,6 @@ impl<'a, R: SetRange> StaysEndedAtBack for rangemap_operations::iter::Iter<'a, R
 }
 
 impl<R: Drop, A: Allocator> StaysEndedAtBack for rangemap_operations::into_iter::IntoIter<R, A> {
-    ghost use Rattle.std.specs.Prelude.{length};
-    ghost use Rattle.rangemap_laws.specs.IteratorEnds.{first_taken, last_taken};
-
     ghost left = { λ s. length s };
 
     ghost is_ready = { λ iter. (tt {0}, tt {0}) };
@@ -238,10 +211,6 @@ impl<R: Drop, A: Allocator> StaysEndedAtBack for rangemap_operations::into_iter:
 }
 
 impl<'a, R: SetRange> StaysEndedAtBack for rangemap_operations::overlapping::Overlapping<'a, R> {
-    ghost use Rattle.std.specs.Prelude.{length};
-    ghost use Rattle.std.specs.Map.Iter.{deref};
-    ghost use Rattle.rangemap_laws.specs.IteratorEnds.{first_taken, last_taken};
-
     ghost left = { λ s. length s };
 
     ghost is_ready = { λ iter. (tt {0}, tt {0}) };
@@ -252,9 +221,6 @@ impl<'a, R: SetRange> StaysEndedAtBack for rangemap_operations::overlapping::Ove
 }
 
 impl<'a, Q: Kind<K, R>, K: Ord + Clone, R: Drop, V> StaysEndedByTries for Gaps<'a, Q, K, R, V> {
-    ghost use Rattle.std.specs.Prelude.{length};
-    ghost use Rattle.rangemap_laws.specs.IteratorEnds.{range_given};
-
     type Range = R;
 
     ghost left = { λ s. length s };
@@ -267,10 +233,6 @@ impl<'a, Q: Kind<K, R>, K: Ord + Clone, R: Drop, V> StaysEndedByTries for Gaps<'
 }
 
 impl<'a, K: Ord + Clone, V> StaysEndedByTries for tree_map::Gaps<'a, K, V> {
-    ghost use Rattle.std.specs.Prelude.{length};
-    ghost use Rattle.rangemap_core.specs.Ranges.{half_open};
-    ghost use Rattle.rangemap_laws.specs.IteratorEnds.{range_given};
-
     type Range = Range<K>;
 
     ghost left = { λ s. length s };
@@ -283,9 +245,6 @@ impl<'a, K: Ord + Clone, V> StaysEndedByTries for tree_map::Gaps<'a, K, V> {
 }
 
 impl<'a, R: SetRange> StaysEndedByTries for Union<'a, R> {
-    ghost use Rattle.std.specs.Prelude.{length};
-    ghost use Rattle.rangemap_laws.specs.IteratorEnds.{range_given};
-
     type Range = R;
 
     ghost left = { λ s. length s };
@@ -298,9 +257,6 @@ impl<'a, R: SetRange> StaysEndedByTries for Union<'a, R> {
 }
 
 impl<'a, R: SetRange> StaysEndedByTries for Intersection<'a, R> {
-    ghost use Rattle.std.specs.Prelude.{length};
-    ghost use Rattle.rangemap_laws.specs.IteratorEnds.{range_given};
-
     type Range = R;
 
     ghost left = { λ s. length s };

@@ -1,13 +1,13 @@
 //! The laws of `|` and `&`, of every set that has them.
 //!
-//! Each function makes the operators that its law speaks of, and answers the sets that they make,
-//! which are equal. A law holds where every operator in it succeeds; `Err(AllocError)` says that
-//! one was refused.
-ghost use Rattle.std.specs.Prelude.{◌++◌, IsTrue, IfOk, List};
+//! Each function is told which operator its law is to be of. It makes the operators that the law
+//! speaks of, and answers the sets that they make, which are equal. A law holds where every operator
+//! in it succeeds; `Err(AllocError)` says that one was refused.
+ghost use Rattle.std.specs.Prelude.{◌≡◌, ◌++◌, IsTrue, IfOk, List};
 ghost use Rattle.std.specs.declared.ops.RangeInclusive.{RangeInclusive as RangeInclusiveOf};
 ghost use Rattle.rangemap_core.specs.Clones.{KeysCloneFaithfully};
 ghost use Rattle.rangemap_core.specs.Ranges.{IsCanonOf, closed, same_pairs, value_at};
-ghost use Rattle.rangemap_operations.specs.Operators.{common, either};
+ghost use Rattle.rangemap_laws.specs.Joined.{joined, other_of};
 ghost use Rattle.rangemap_operations.specs.operations.Items.{intersection_items, union_items};
 ghost use Rattle.rangemap_operations.specs.operations.Places.{closed_places};
 ghost use Rattle.rangemap_operations.specs.Sets.{AreCommon, AreHulls, IsCanonicalSet};
@@ -16,145 +16,117 @@ use rangemap_core::std_ext::StepFns;
 use rangemap_operations::combine::Combine;
 use std::alloc::AllocError;
 
-/// `a | b` equals `b | a`.
-pub fn union_commutes<M: Combine>(first: &M, second: &M) -> Result<(M, M), AllocError>
+/// One of the two operators.
+pub enum Operator {
+    /// `|`, the keys of either set.
+    Union,
+    /// `&`, the keys of both.
+    Intersection,
+}
+
+impl Operator {
+    /// Makes the operator.
+    pub fn join<M: Combine>(&self, first: &M, second: &M) -> Result<M, AllocError>
+        requires faithful_keys { KeysCloneFaithfully M.Key.is_clone M.Key.cmp }
+        ensures { IfOk result (λ set. IsCanonOf M.Kind.kind M.Value.eq (joined self.now (value_at M.Kind.kind (M.pairs first.now)) (value_at M.Kind.kind (M.pairs second.now))) (M.pairs set)) }
+    {
+        match self {
+            Operator::Union => first.union_set(second),
+            Operator::Intersection => first.intersection_set(second),
+        }
+    }
+
+    /// Returns the other operator.
+    pub fn other(&self) -> &Operator
+        ensures { result.now ≡ other_of self.now }
+    {
+        match self {
+            Operator::Union => &Operator::Intersection,
+            Operator::Intersection => &Operator::Union,
+        }
+    }
+}
+
+/// `a | b` equals `b | a`, and `a & b` equals `b & a`.
+pub fn commutes<M: Combine>(
+    operator: &Operator,
+    first: &M,
+    second: &M,
+) -> Result<(M, M), AllocError>
     requires faithful_keys { KeysCloneFaithfully M.Key.is_clone M.Key.cmp }
-    ensures left { IfOk result (λ sets. IsCanonOf M.Kind.kind M.Value.eq (either (value_at M.Kind.kind (M.pairs first.now)) (value_at M.Kind.kind (M.pairs second.now))) (M.pairs sets.0)) }
-    ensures right { IfOk result (λ sets. IsCanonOf M.Kind.kind M.Value.eq (either (value_at M.Kind.kind (M.pairs second.now)) (value_at M.Kind.kind (M.pairs first.now))) (M.pairs sets.1)) }
+    ensures left { IfOk result (λ sets. IsCanonOf M.Kind.kind M.Value.eq (joined operator.now (value_at M.Kind.kind (M.pairs first.now)) (value_at M.Kind.kind (M.pairs second.now))) (M.pairs sets.0)) }
+    ensures right { IfOk result (λ sets. IsCanonOf M.Kind.kind M.Value.eq (joined operator.now (value_at M.Kind.kind (M.pairs second.now)) (value_at M.Kind.kind (M.pairs first.now))) (M.pairs sets.1)) }
     ensures equal { IfOk result (λ sets. IsTrue (same_pairs M.Kind.kind M.Value.eq (M.pairs sets.0) (M.pairs sets.1))) }
 {
-    let left = first.union_set(second)?;
-    let right = second.union_set(first)?;
+    let left = operator.join(first, second)?;
+    let right = operator.join(second, first)?;
     Ok((left, right))
 }
 
-/// `(a | b) | c` equals `a | (b | c)`.
-pub fn union_associates<M: Combine>(first: &M, second: &M, third: &M) -> Result<(M, M), AllocError>
-    requires faithful_keys { KeysCloneFaithfully M.Key.is_clone M.Key.cmp }
-    ensures left { IfOk result (λ sets. IsCanonOf M.Kind.kind M.Value.eq (either (either (value_at M.Kind.kind (M.pairs first.now)) (value_at M.Kind.kind (M.pairs second.now))) (value_at M.Kind.kind (M.pairs third.now))) (M.pairs sets.0)) }
-    ensures right { IfOk result (λ sets. IsCanonOf M.Kind.kind M.Value.eq (either (value_at M.Kind.kind (M.pairs first.now)) (either (value_at M.Kind.kind (M.pairs second.now)) (value_at M.Kind.kind (M.pairs third.now)))) (M.pairs sets.1)) }
-    ensures equal { IfOk result (λ sets. IsTrue (same_pairs M.Kind.kind M.Value.eq (M.pairs sets.0) (M.pairs sets.1))) }
-{
-    first.known();
-    third.known();
-    let front = first.union_set(second)?;
-    let back = second.union_set(third)?;
-    let left = front.union_set(third)?;
-    let right = first.union_set(&back)?;
-    Ok((left, right))
-}
-
-/// `a | a` equals `a`.
-pub fn union_is_idempotent<M: Combine>(first: &M) -> Result<M, AllocError>
-    requires faithful_keys { KeysCloneFaithfully M.Key.is_clone M.Key.cmp }
-    ensures made { IfOk result (λ set. IsCanonOf M.Kind.kind M.Value.eq (either (value_at M.Kind.kind (M.pairs first.now)) (value_at M.Kind.kind (M.pairs first.now))) (M.pairs set)) }
-    ensures equal { IfOk result (λ set. IsTrue (same_pairs M.Kind.kind M.Value.eq (M.pairs set) (M.pairs first.now))) }
-{
-    first.known();
-    let made = first.union_set(first)?;
-    Ok(made)
-}
-
-/// `a | (a & b)` equals `a`.
-pub fn union_absorbs<M: Combine>(first: &M, second: &M) -> Result<M, AllocError>
-    requires faithful_keys { KeysCloneFaithfully M.Key.is_clone M.Key.cmp }
-    ensures made { IfOk result (λ set. IsCanonOf M.Kind.kind M.Value.eq (either (value_at M.Kind.kind (M.pairs first.now)) (common (value_at M.Kind.kind (M.pairs first.now)) (value_at M.Kind.kind (M.pairs second.now)))) (M.pairs set)) }
-    ensures equal { IfOk result (λ set. IsTrue (same_pairs M.Kind.kind M.Value.eq (M.pairs set) (M.pairs first.now))) }
-{
-    first.known();
-    let inner = first.intersection_set(second)?;
-    let made = first.union_set(&inner)?;
-    Ok(made)
-}
-
-/// `a | (b & c)` equals `(a | b) & (a | c)`.
-pub fn union_distributes<M: Combine>(first: &M, second: &M, third: &M) -> Result<(M, M), AllocError>
-    requires faithful_keys { KeysCloneFaithfully M.Key.is_clone M.Key.cmp }
-    ensures left { IfOk result (λ sets. IsCanonOf M.Kind.kind M.Value.eq (either (value_at M.Kind.kind (M.pairs first.now)) (common (value_at M.Kind.kind (M.pairs second.now)) (value_at M.Kind.kind (M.pairs third.now)))) (M.pairs sets.0)) }
-    ensures right { IfOk result (λ sets. IsCanonOf M.Kind.kind M.Value.eq (common (either (value_at M.Kind.kind (M.pairs first.now)) (value_at M.Kind.kind (M.pairs second.now))) (either (value_at M.Kind.kind (M.pairs first.now)) (value_at M.Kind.kind (M.pairs third.now)))) (M.pairs sets.1)) }
-    ensures equal { IfOk result (λ sets. IsTrue (same_pairs M.Kind.kind M.Value.eq (M.pairs sets.0) (M.pairs sets.1))) }
-{
-    first.known();
-    let inner = second.intersection_set(third)?;
-    let near = first.union_set(second)?;
-    let far = first.union_set(third)?;
-    let left = first.union_set(&inner)?;
-    let right = near.intersection_set(&far)?;
-    Ok((left, right))
-}
-
-/// `a & b` equals `b & a`.
-pub fn intersection_commutes<M: Combine>(first: &M, second: &M) -> Result<(M, M), AllocError>
-    requires faithful_keys { KeysCloneFaithfully M.Key.is_clone M.Key.cmp }
-    ensures left { IfOk result (λ sets. IsCanonOf M.Kind.kind M.Value.eq (common (value_at M.Kind.kind (M.pairs first.now)) (value_at M.Kind.kind (M.pairs second.now))) (M.pairs sets.0)) }
-    ensures right { IfOk result (λ sets. IsCanonOf M.Kind.kind M.Value.eq (common (value_at M.Kind.kind (M.pairs second.now)) (value_at M.Kind.kind (M.pairs first.now))) (M.pairs sets.1)) }
-    ensures equal { IfOk result (λ sets. IsTrue (same_pairs M.Kind.kind M.Value.eq (M.pairs sets.0) (M.pairs sets.1))) }
-{
-    let left = first.intersection_set(second)?;
-    let right = second.intersection_set(first)?;
-    Ok((left, right))
-}
-
-/// `(a & b) & c` equals `a & (b & c)`.
-pub fn intersection_associates<M: Combine>(
+/// `(a | b) | c` equals `a | (b | c)`, and `(a & b) & c` equals `a & (b & c)`.
+pub fn associates<M: Combine>(
+    operator: &Operator,
     first: &M,
     second: &M,
     third: &M,
 ) -> Result<(M, M), AllocError>
     requires faithful_keys { KeysCloneFaithfully M.Key.is_clone M.Key.cmp }
-    ensures left { IfOk result (λ sets. IsCanonOf M.Kind.kind M.Value.eq (common (common (value_at M.Kind.kind (M.pairs first.now)) (value_at M.Kind.kind (M.pairs second.now))) (value_at M.Kind.kind (M.pairs third.now))) (M.pairs sets.0)) }
-    ensures right { IfOk result (λ sets. IsCanonOf M.Kind.kind M.Value.eq (common (value_at M.Kind.kind (M.pairs first.now)) (common (value_at M.Kind.kind (M.pairs second.now)) (value_at M.Kind.kind (M.pairs third.now)))) (M.pairs sets.1)) }
+    ensures left { IfOk result (λ sets. IsCanonOf M.Kind.kind M.Value.eq (joined operator.now (joined operator.now (value_at M.Kind.kind (M.pairs first.now)) (value_at M.Kind.kind (M.pairs second.now))) (value_at M.Kind.kind (M.pairs third.now))) (M.pairs sets.0)) }
+    ensures right { IfOk result (λ sets. IsCanonOf M.Kind.kind M.Value.eq (joined operator.now (value_at M.Kind.kind (M.pairs first.now)) (joined operator.now (value_at M.Kind.kind (M.pairs second.now)) (value_at M.Kind.kind (M.pairs third.now)))) (M.pairs sets.1)) }
     ensures equal { IfOk result (λ sets. IsTrue (same_pairs M.Kind.kind M.Value.eq (M.pairs sets.0) (M.pairs sets.1))) }
 {
     first.known();
     third.known();
-    let front = first.intersection_set(second)?;
-    let back = second.intersection_set(third)?;
-    let left = front.intersection_set(third)?;
-    let right = first.intersection_set(&back)?;
+    let front = operator.join(first, second)?;
+    let back = operator.join(second, third)?;
+    let left = operator.join(&front, third)?;
+    let right = operator.join(first, &back)?;
     Ok((left, right))
 }
 
-/// `a & a` equals `a`.
-pub fn intersection_is_idempotent<M: Combine>(first: &M) -> Result<M, AllocError>
+/// `a | a` equals `a`, and so does `a & a`.
+pub fn is_idempotent<M: Combine>(operator: &Operator, first: &M) -> Result<M, AllocError>
     requires faithful_keys { KeysCloneFaithfully M.Key.is_clone M.Key.cmp }
-    ensures made { IfOk result (λ set. IsCanonOf M.Kind.kind M.Value.eq (common (value_at M.Kind.kind (M.pairs first.now)) (value_at M.Kind.kind (M.pairs first.now))) (M.pairs set)) }
+    ensures made { IfOk result (λ set. IsCanonOf M.Kind.kind M.Value.eq (joined operator.now (value_at M.Kind.kind (M.pairs first.now)) (value_at M.Kind.kind (M.pairs first.now))) (M.pairs set)) }
     ensures equal { IfOk result (λ set. IsTrue (same_pairs M.Kind.kind M.Value.eq (M.pairs set) (M.pairs first.now))) }
 {
     first.known();
-    let made = first.intersection_set(first)?;
+    let made = operator.join(first, first)?;
     Ok(made)
 }
 
-/// `a & (a | b)` equals `a`.
-pub fn intersection_absorbs<M: Combine>(first: &M, second: &M) -> Result<M, AllocError>
+/// `a | (a & b)` equals `a`, and so does `a & (a | b)`. The operator is the outer one.
+pub fn absorbs<M: Combine>(operator: &Operator, first: &M, second: &M) -> Result<M, AllocError>
     requires faithful_keys { KeysCloneFaithfully M.Key.is_clone M.Key.cmp }
-    ensures made { IfOk result (λ set. IsCanonOf M.Kind.kind M.Value.eq (common (value_at M.Kind.kind (M.pairs first.now)) (either (value_at M.Kind.kind (M.pairs first.now)) (value_at M.Kind.kind (M.pairs second.now)))) (M.pairs set)) }
+    ensures made { IfOk result (λ set. IsCanonOf M.Kind.kind M.Value.eq (joined operator.now (value_at M.Kind.kind (M.pairs first.now)) (joined (other_of operator.now) (value_at M.Kind.kind (M.pairs first.now)) (value_at M.Kind.kind (M.pairs second.now)))) (M.pairs set)) }
     ensures equal { IfOk result (λ set. IsTrue (same_pairs M.Kind.kind M.Value.eq (M.pairs set) (M.pairs first.now))) }
 {
     first.known();
-    let inner = first.union_set(second)?;
-    let made = first.intersection_set(&inner)?;
+    let inner = operator.other().join(first, second)?;
+    let made = operator.join(first, &inner)?;
     Ok(made)
 }
 
-/// `a & (b | c)` equals `(a & b) | (a & c)`.
-pub fn intersection_distributes<M: Combine>(
+/// `a | (b & c)` equals `(a | b) & (a | c)`, and `a & (b | c)` equals `(a & b) | (a & c)`. The operator
+/// is the outer one of the left side.
+pub fn distributes<M: Combine>(
+    operator: &Operator,
     first: &M,
     second: &M,
     third: &M,
 ) -> Result<(M, M), AllocError>
     requires faithful_keys { KeysCloneFaithfully M.Key.is_clone M.Key.cmp }
-    ensures left { IfOk result (λ sets. IsCanonOf M.Kind.kind M.Value.eq (common (value_at M.Kind.kind (M.pairs first.now)) (either (value_at M.Kind.kind (M.pairs second.now)) (value_at M.Kind.kind (M.pairs third.now)))) (M.pairs sets.0)) }
-    ensures right { IfOk result (λ sets. IsCanonOf M.Kind.kind M.Value.eq (either (common (value_at M.Kind.kind (M.pairs first.now)) (value_at M.Kind.kind (M.pairs second.now))) (common (value_at M.Kind.kind (M.pairs first.now)) (value_at M.Kind.kind (M.pairs third.now)))) (M.pairs sets.1)) }
+    ensures left { IfOk result (λ sets. IsCanonOf M.Kind.kind M.Value.eq (joined operator.now (value_at M.Kind.kind (M.pairs first.now)) (joined (other_of operator.now) (value_at M.Kind.kind (M.pairs second.now)) (value_at M.Kind.kind (M.pairs third.now)))) (M.pairs sets.0)) }
+    ensures right { IfOk result (λ sets. IsCanonOf M.Kind.kind M.Value.eq (joined (other_of operator.now) (joined operator.now (value_at M.Kind.kind (M.pairs first.now)) (value_at M.Kind.kind (M.pairs second.now))) (joined operator.now (value_at M.Kind.kind (M.pairs first.now)) (value_at M.Kind.kind (M.pairs third.now)))) (M.pairs sets.1)) }
     ensures equal { IfOk result (λ sets. IsTrue (same_pairs M.Kind.kind M.Value.eq (M.pairs sets.0) (M.pairs sets.1))) }
 {
     first.known();
-    let inner = second.union_set(third)?;
-    let near = first.intersection_set(second)?;
-    let far = first.intersection_set(third)?;
-    let left = first.intersection_set(&inner)?;
-    let right = near.union_set(&far)?;
+    let other = operator.other();
+    let inner = other.join(second, third)?;
+    let near = operator.join(first, second)?;
+    let far = operator.join(first, third)?;
+    let left = operator.join(first, &inner)?;
+    let right = other.join(&near, &far)?;
     Ok((left, right))
 }
 

@@ -2,13 +2,14 @@
 ghost use Rattle.std.specs.Prelude.{◌≡◌, ◌+◌, ◌<◌, ◌≤◌, vec_len, vec_capacity};
 ghost use Rattle.rangemap_core.specs.Clones.{KeysCloneFaithfully};
 ghost use Rattle.rangemap_laws.specs.Histories.{Makes};
-ghost use Rattle.rangemap_laws.specs.SetHistories.{SetStep};
+ghost use Rattle.rangemap_laws.specs.SetHistories.{SetStep, joining};
 ghost use Rattle.rangemap_operations.specs.Sets.{AreNonEmptyRanges};
 ghost use Rattle.rangemap_core.specs.Ranges.{unit_eq};
 
 use super::CallOn;
 use super::changes::{add_clone, add_new, clear_at, insert_at, remove_at};
 use crate::calls::sets::SetCall;
+use crate::laws::sets::Operator;
 use rangemap_core::container::{Collect, TryClone};
 use rangemap_operations::combine::Combine;
 
@@ -28,8 +29,13 @@ impl<M: Combine<Value = ()> + TryClone> CallOn<M> for SetCall<M::Range, M::Alloc
             SetCall::Clone { at } => add_clone(sets, at),
             SetCall::FromIter { ranges } => add_from_ranges(alloc, sets, ranges),
             SetCall::Extend { at, ranges } => extend_ranges_at(sets, at, ranges),
-            SetCall::Union { left, right } => add_union(sets, left, right),
-            SetCall::Intersection { left, right } => add_intersection(sets, left, right),
+            SetCall::Union { left, right } => add_joined(&Operator::Union, sets, left, right),
+            SetCall::Intersection { left, right } => add_joined(
+                &Operator::Intersection,
+                sets,
+                left,
+                right,
+            ),
         }
     }
 }
@@ -70,14 +76,15 @@ fn add_from_ranges<M: Combine<Value = ()>>(
     true
 }
 
-fn add_union<M: Combine<Value = ()>>(
+fn add_joined<M: Combine<Value = ()>>(
+    operator: &Operator,
     sets: &mut Vec<M, M::Alloc>,
     left: usize,
     right: usize,
 ) -> bool
     requires room { vec_len sets.old < vec_capacity sets.old }
     requires faithful_keys { KeysCloneFaithfully M.Key.is_clone M.Key.cmp }
-    ensures made { Makes M.Kind.kind (unit_eq M.Kind.kind) M.pairs (SetStep {A = M.Alloc} M.Kind.kind) sets.old.items (SetCall.Union left right) result sets.new.items }
+    ensures made { Makes M.Kind.kind (unit_eq M.Kind.kind) M.pairs (SetStep {A = M.Alloc} M.Kind.kind) sets.old.items (joining operator.now left right) result sets.new.items }
     ensures len { vec_len sets.new ≤ vec_len sets.old + 1 }
     ensures capacity { vec_capacity sets.old ≤ vec_capacity sets.new }
 {
@@ -87,33 +94,9 @@ fn add_union<M: Combine<Value = ()>>(
     let Some(second) = sets.get(right) else {
         return false;
     };
-    let Ok(all) = first.union_set(second) else {
+    let Ok(set) = operator.join(first, second) else {
         return false;
     };
-    sets.push_reserved(all);
-    true
-}
-
-fn add_intersection<M: Combine<Value = ()>>(
-    sets: &mut Vec<M, M::Alloc>,
-    left: usize,
-    right: usize,
-) -> bool
-    requires room { vec_len sets.old < vec_capacity sets.old }
-    requires faithful_keys { KeysCloneFaithfully M.Key.is_clone M.Key.cmp }
-    ensures made { Makes M.Kind.kind (unit_eq M.Kind.kind) M.pairs (SetStep {A = M.Alloc} M.Kind.kind) sets.old.items (SetCall.Intersection left right) result sets.new.items }
-    ensures len { vec_len sets.new ≤ vec_len sets.old + 1 }
-    ensures capacity { vec_capacity sets.old ≤ vec_capacity sets.new }
-{
-    let Some(first) = sets.get(left) else {
-        return false;
-    };
-    let Some(second) = sets.get(right) else {
-        return false;
-    };
-    let Ok(common) = first.intersection_set(second) else {
-        return false;
-    };
-    sets.push_reserved(common);
+    sets.push_reserved(set);
     true
 }

@@ -1,0 +1,13 @@
+-- What the operator of a law makes of point functions, and which is the other one.
+use Rattle.std.specs.Prelude.{Option}
+use Rattle.rangemap_laws.specs.declared.laws.sets.Operator.{Operator}
+use Rattle.rangemap_laws.specs.declared.laws.sets.Operator.TheVariants.{Union, Intersection}
+use Rattle.rangemap_operations.specs.Operators.{common, either}
+
+abbrev pub joined : {K V : Type 0} → Operator → (K → Option V) → (K → Option V) → K → Option V
+joined Union f g = either f g
+joined Intersection f g = common f g
+
+abbrev pub other_of : Operator → Operator
+other_of Union = Intersection
+other_of Intersection = Union
