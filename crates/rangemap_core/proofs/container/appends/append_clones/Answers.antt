@@ -22,9 +22,10 @@ returns-clause-ok g c =
 
 pub loop-range-preserved : goal.loop-range-preserved
 loop-range-preserved g c =
-    elim c.match-clone_pair.branch
-    [ in-Ok+in-Err-1 w ↦ search rules
-    | in-Ok+in-Ok-1 w ↦
-      Appends-last g.Q.Interval.kind g.V.PartialEq.eq c.loop-range.yielded (c.in-Some.range, c.in-Some.value) w.in-Ok.copy c.args.out.now.items c.loop-range.out.items c.match-clone_pair.out.items
-      c.loop-range.invariant w.in-Ok.ensures.same (search rules)
-    | in-Err w ↦ search rules ]
+    elim c.match-clone_pair.branch [
+      | in-Ok+in-Err-1 w ↦ search rules
+      | in-Ok+in-Ok-1 w ↦
+          Appends-last g.Q.Interval.kind g.V.PartialEq.eq c.loop-range.yielded (c.in-Some.range, c.in-Some.value) w.in-Ok.copy c.args.out.now.items c.loop-range.out.items c.match-clone_pair.out.items
+          c.loop-range.invariant w.in-Ok.ensures.same (search rules)
+      | in-Err w ↦ search rules
+    ]
