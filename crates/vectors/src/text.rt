@@ -91,7 +91,17 @@ fn the_laws_of_texts_write_them(rt: HostRuntime) -> Result<(), Fail> {
         signed_text(alloc, &signed)?.as_str(),
         "{-128..=-1: 7, 5..=127: 8}"
     );
+    Ok(())
+}
+
+#[test]
+fn the_law_of_ascii_texts_writes_them(rt: HostRuntime) -> Result<(), Fail> {
+    let alloc = rt.alloc();
     let texts = range_map! { in alloc; 0..5u32 => "a\"b" }?;
+    // what the law asks for
+    assert_eq!(rt; texts.len(), 1);
+    let (_, text) = texts.first_range_value().expect(&rt, "a pair");
+    assert!(rt; text.is_ascii());
     assert_eq!(rt; ascii_text(alloc, &texts)?.as_str(), "{0..5: \"a\\\"b\"}");
     Ok(())
 }
