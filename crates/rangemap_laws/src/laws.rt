@@ -171,9 +171,7 @@ pub fn remove_after_insert_equals_remove<M: Container>(
 /// Gaps and covered keys make up a range: the gaps of `outer_range` and what `stored` covers of it
 /// share no key, and together they have all its keys. No gap is empty, and no two touch.
 ///
-/// Answers the gaps, in a vector with the allocator. It errs where there is no memory for them. It
-/// costs time in the logarithm of the ranges stored, and in the number of those that overlap the
-/// range.
+/// Answers the gaps, errs and takes time as `collect_gaps` does, which it calls.
 pub fn gaps_and_covered_keys_make_up_a_range<M: Container, B: Allocator>(
     alloc: B,
     stored: &M,
