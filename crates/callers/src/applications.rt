@@ -1,4 +1,5 @@
 //! What the crate `uses` stands for: each use once, at an example.
+ghost use Rattle.std.specs.Prelude.{◌≡◌};
 
 use rangemap::range_inclusive_set;
 use std::ops::Range;
@@ -134,22 +135,28 @@ fn addresses_are_blocked(rt: HostRuntime) -> Result<(), Fail> {
     Ok(())
 }
 
+/// A block of a row.
+fn block(first: u32, prefix: u32) -> Block
+    ensures { (result.first ≡ first) × (result.prefix ≡ prefix) }
+{
+    Block { first, prefix }
+}
+
 // The blocks are what Python's `ipaddress.summarize_address_range` gives for 10.0.0.5 to 10.0.0.16
 // and for all addresses.
 #[test]
 fn addresses_are_split_into_few_blocks(rt: HostRuntime) -> Result<(), Fail> {
-    let wanted = [(5, 32), (6, 31), (8, 29), (16, 32)].map(|(last, prefix)| Block {
-        first: FIRST + last,
-        prefix,
-    });
+    let wanted = [
+        block(FIRST + 5, 32),
+        block(FIRST + 6, 31),
+        block(FIRST + 8, 29),
+        block(FIRST + 16, 32),
+    ];
     let first = u64::from(FIRST);
     let blocks = split(rt.alloc(), first + 5, first + 17)?;
     assert_eq!(rt; blocks.as_slice(), wanted.as_slice());
     let all = split(rt.alloc(), 0, 4_294_967_296)?;
-    let whole = Block {
-        first: 0,
-        prefix: 0,
-    };
+    let whole = block(0, 0);
     assert_eq!(rt; all.as_slice(), [whole].as_slice());
     assert_eq!(rt; whole.size(), 4_294_967_296);
     assert!(rt; split(rt.alloc(), first, first)?.is_empty());
