@@ -61,7 +61,7 @@ type NamesRow<'r> = Row<'r, Ends, char>;
 // Both ends of each piece that stays are cloned, and both ends of a gap.
 #[test]
 #[tactic(auto, using(crate::proofs::Texts::clones_tie))]
-fn each_clone_of_a_key_may_be_refused(rt: HostRuntime) -> Result<(), Fail> {
+fn each_clone_of_a_text_may_be_refused(rt: HostRuntime) -> Result<(), Fail> {
     let rows: [NamesRow<'_>; 1] = [(
         &[(("a", "k"), 'a'), (("u", "z"), 'b')],
         Change(
@@ -71,13 +71,7 @@ fn each_clone_of_a_key_may_be_refused(rt: HostRuntime) -> Result<(), Fail> {
         4,
     )];
     let heap = Refusing::new(rt.alloc(), MANY);
-    check_refusals::<_, Names<'_>>(&rt, &heap, &rows)
-}
-
-#[test]
-#[tactic(auto, using(crate::proofs::Texts::clones_tie))]
-fn each_clone_of_a_gap_may_be_refused(rt: HostRuntime) -> Result<(), Fail> {
-    let heap = Refusing::new(rt.alloc(), MANY);
+    check_refusals::<_, Names<'_>>(&rt, &heap, &rows)?;
     let row = (&("a", "f"), &("a", "b"), &("d", "f"));
     check_gap_refusals::<_, Names<'_>>(&rt, &heap, &[(("b", "d"), 'a')], row, 2)
 }
