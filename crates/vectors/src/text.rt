@@ -25,23 +25,13 @@ fn maps_are_written_in_braces(rt: HostRuntime) -> Result<(), Fail> {
     let none: RangeMap<u32, bool, Global> = RangeMap::new(alloc);
     assert_text(&rt, &none, "{}")?;
     let signed = range_map! { in alloc; -3..0i8 => 7u16 }?;
-    assert_text(&rt, &signed, "{-3..0: 7}")
-}
-
-#[test]
-fn closed_maps_are_written_in_braces(rt: HostRuntime) -> Result<(), Fail> {
-    let alloc = rt.alloc();
+    assert_text(&rt, &signed, "{-3..0: 7}")?;
+    let map = range_map! { in alloc; 'a'..'f' => Some(true), 'x'..'z' => None }?;
+    assert_text(&rt, &map, "{'a'..'f': Some(true), 'x'..'z': None}")?;
     let map = range_inclusive_map! { in alloc; 0..=100u32 => "abc", 200..=300 => "ghi" }?;
     assert_text(&rt, &map, "{0..=100: \"abc\", 200..=300: \"ghi\"}")?;
     let none: RangeInclusiveMap<u32, bool, u32, Global> = RangeInclusiveMap::new(alloc);
     assert_text(&rt, &none, "{}")
-}
-
-#[test]
-fn other_keys_and_values_are_written_by_their_own_text(rt: HostRuntime) -> Result<(), Fail> {
-    let alloc = rt.alloc();
-    let map = range_map! { in alloc; 'a'..'f' => Some(true), 'x'..'z' => None }?;
-    assert_text(&rt, &map, "{'a'..'f': Some(true), 'x'..'z': None}")
 }
 
 /// Shows that `{:?}` writes the text of a set that was made, unless it was refused memory.
@@ -91,7 +81,17 @@ fn the_laws_of_texts_write_them(rt: HostRuntime) -> Result<(), Fail> {
         signed_text(alloc, &signed)?.as_str(),
         "{-128..=-1: 7, 5..=127: 8}"
     );
+    Ok(())
+}
+
+#[test]
+fn the_law_of_ascii_texts_writes_them(rt: HostRuntime) -> Result<(), Fail> {
+    let alloc = rt.alloc();
     let texts = range_map! { in alloc; 0..5u32 => "a\"b" }?;
+    // what the law asks for
+    assert_eq!(rt; texts.len(), 1);
+    let (_, text) = texts.first_range_value().expect(&rt, "a pair");
+    assert!(rt; text.is_ascii());
     assert_eq!(rt; ascii_text(alloc, &texts)?.as_str(), "{0..5: \"a\\\"b\"}");
     Ok(())
 }
