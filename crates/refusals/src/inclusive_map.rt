@@ -10,7 +10,6 @@ use rows::{CostlyMap, MANY};
 use std::test::Fail;
 
 mod makers;
-mod replays;
 
 /// A row over such a map.
 type CostlyRow<'r> = Row<'r, (u8, u8), char>;

@@ -11,7 +11,6 @@ use std::test::Fail;
 
 mod makers;
 mod operations;
-mod replays;
 
 /// A row over such a set.
 type CostlyRow<'r> = Row<'r, (u8, u8), ()>;

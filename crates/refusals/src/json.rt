@@ -2,6 +2,7 @@
 //! JSON value is made in, and of no other; `from_value` takes that of the container.
 
 use crate::trials::{Answer, Trial, count_refusals};
+use rangemap::container::Container;
 use rangemap::{Form, RangeInclusiveMap, RangeInclusiveSet, RangeMap, RangeSet, ReadError};
 use rows::{Costly, Heap, MANY};
 use serde_json::Value;
@@ -31,76 +32,45 @@ const RANGES: &str = "[[0,1],[3,4],[6,7],[9,10],[12,13],[15,16],[18,19],[21,22],
 const PAIRS: &str = "[[[0,1],7],[[3,4],7],[[6,7],7],[[9,10],7],[[12,13],7],[[15,16],7],\
     [[18,19],7],[[21,22],7],[[24,25],7],[[27,28],7],[[30,31],7],[[33,34],7],[[36,37],7]]";
 
-/// The forms in which they may be read.
-const FORMS: [Form; 2] = [Form::Any, Form::Canonical];
-
-/// Whether a container was read, of whose ranges the number is told.
-fn is_read<R: Abort>(rt: &R, told: Result<usize, ReadError<NoNumber>>) -> Answer {
-    match told {
-        Ok(len) => {
-            assert_eq!(rt; len, 13);
-            Ok(true)
+/// Whether a container was read. One that was has so many ranges.
+fn is_read<R: Abort, M: Container>(
+    rt: &R,
+    read: Result<M, ReadError<NoNumber>>,
+    len: usize,
+) -> bool {
+    match read {
+        Ok(all) => {
+            assert_eq!(rt; all.len(), len);
+            true
         }
         Err(error) => {
             assert_eq!(rt; error, ReadError::OutOfMemory);
-            Ok(false)
+            false
         }
     }
 }
 
-/// A map that is read in a form.
+/// The four containers, read in a form. They are refused alike.
 #[derive(Drop)]
-struct ReadMap(Form);
+struct Read(Form);
 
-impl Trial for ReadMap {
+impl Trial for Read {
     fn is_accepted<R: AllocGlobal + Abort>(&self, rt: &R, heap: &Heap, left: u64) -> Answer {
-        let value = Value::from_str(rt.alloc(), PAIRS)?;
+        let pairs = Value::from_str(rt.alloc(), PAIRS)?;
         heap.refuse_after(left);
-        let answer = RangeMap::from_value(heap, self.0, &value, read_number, read_number);
-        heap.refuse_after(MANY);
-        is_read(rt, answer.map(|map| map.len()))
-    }
-}
-
-/// A closed map that is read in a form.
-#[derive(Drop)]
-struct ReadInclusiveMap(Form);
-
-impl Trial for ReadInclusiveMap {
-    fn is_accepted<R: AllocGlobal + Abort>(&self, rt: &R, heap: &Heap, left: u64) -> Answer {
-        let value = Value::from_str(rt.alloc(), PAIRS)?;
+        let map = RangeMap::from_value(heap, self.0, &pairs, read_number, read_number);
+        let is_made = is_read(rt, map, 13);
         heap.refuse_after(left);
-        let answer = RangeInclusiveMap::from_value(heap, self.0, &value, read_number, read_number);
-        heap.refuse_after(MANY);
-        is_read(rt, answer.map(|map| map.len()))
-    }
-}
-
-/// A set that is read in a form.
-#[derive(Drop)]
-struct ReadSet(Form);
-
-impl Trial for ReadSet {
-    fn is_accepted<R: AllocGlobal + Abort>(&self, rt: &R, heap: &Heap, left: u64) -> Answer {
-        let value = Value::from_str(rt.alloc(), RANGES)?;
+        let map = RangeInclusiveMap::from_value(heap, self.0, &pairs, read_number, read_number);
+        assert_eq!(rt; is_read(rt, map, 13), is_made);
+        let ranges = Value::from_str(rt.alloc(), RANGES)?;
         heap.refuse_after(left);
-        let answer = RangeSet::from_value(heap, self.0, &value, read_number);
-        heap.refuse_after(MANY);
-        is_read(rt, answer.map(|set| set.len()))
-    }
-}
-
-/// A closed set that is read in a form.
-#[derive(Drop)]
-struct ReadInclusiveSet(Form);
-
-impl Trial for ReadInclusiveSet {
-    fn is_accepted<R: AllocGlobal + Abort>(&self, rt: &R, heap: &Heap, left: u64) -> Answer {
-        let value = Value::from_str(rt.alloc(), RANGES)?;
+        let set = RangeSet::from_value(heap, self.0, &ranges, read_number);
+        assert_eq!(rt; is_read(rt, set, 13), is_made);
         heap.refuse_after(left);
-        let answer = RangeInclusiveSet::from_value(heap, self.0, &value, read_number);
-        heap.refuse_after(MANY);
-        is_read(rt, answer.map(|set| set.len()))
+        let set = RangeInclusiveSet::from_value(heap, self.0, &ranges, read_number);
+        assert_eq!(rt; is_read(rt, set, 13), is_made);
+        Ok(is_made)
     }
 }
 
@@ -114,16 +84,7 @@ impl Trial for ReadCostly {
         heap.refuse_after(left);
         let answer = RangeInclusiveMap::from_value(heap, Form::Any, &value, read, read);
         heap.refuse_after(MANY);
-        match answer {
-            Ok(map) => {
-                assert_eq!(rt; map.len(), 3);
-                Ok(true)
-            }
-            Err(error) => {
-                assert_eq!(rt; error, ReadError::OutOfMemory);
-                Ok(false)
-            }
-        }
+        Ok(is_read(rt, answer, 3))
     }
 }
 
@@ -136,22 +97,13 @@ fn read_costly<'a>(heap: &'a Heap, part: &Value) -> Result<Costly<'a>, NoNumber>
     }
 }
 
-// Both growths.
 #[test]
 fn what_is_read_may_be_refused(rt: HostRuntime) -> Result<(), Fail> {
-    for form in FORMS {
-        assert_eq!(rt; count_refusals(&rt, &ReadMap(form))?, 2);
-        assert_eq!(rt; count_refusals(&rt, &ReadInclusiveMap(form))?, 2);
-        assert_eq!(rt; count_refusals(&rt, &ReadSet(form))?, 2);
-        assert_eq!(rt; count_refusals(&rt, &ReadInclusiveSet(form))?, 2);
-    }
-    Ok(())
-}
-
-// The growth; of each of the two pieces that the second range leaves a key and a value; and both
-// ends of the third range, which is joined with the piece before it.
-#[test]
-fn each_clone_of_a_part_may_be_refused(rt: HostRuntime) -> Result<(), Fail> {
+    // both growths
+    assert_eq!(rt; count_refusals(&rt, &Read(Form::Any))?, 2);
+    assert_eq!(rt; count_refusals(&rt, &Read(Form::Canonical))?, 2);
+    // the growth; of each of the two pieces that the second range leaves a key and a value; and
+    // both ends of the third range, which is joined with the piece before it
     assert_eq!(rt; count_refusals(&rt, &ReadCostly)?, 7);
     Ok(())
 }

@@ -1,77 +1,47 @@
 //! Lists whose macros are refused memory, each request in its turn.
 
 use crate::trials::{Answer, Trial, count_refusals};
+use rangemap::container::Container;
 use rangemap::{range_inclusive_map, range_inclusive_set, range_map, range_set};
-use rows::{Heap, MANY};
+use rows::Heap;
 use std::alloc::AllocError;
 use std::process::Abort;
 use std::test::Fail;
 
-/// Whether a container of two ranges was made, of whose ranges the number is told.
-fn is_made_of_two<R: Abort>(rt: &R, told: Result<usize, AllocError>) -> Answer {
-    match told {
-        Ok(len) => {
-            assert_eq!(rt; len, 2);
-            Ok(true)
+/// Whether a container was made. One that was has two ranges.
+fn is_made_of_two<R: Abort, M: Container>(rt: &R, made: Result<M, AllocError>) -> bool {
+    match made {
+        Ok(all) => {
+            assert_eq!(rt; all.len(), 2);
+            true
         }
-        Err(AllocError) => Ok(false),
+        Err(AllocError) => false,
     }
 }
 
-/// `range_map!`
-struct MapOf;
+/// The four macros, which are refused alike.
+struct Lists;
 
-impl Trial for MapOf {
+impl Trial for Lists {
     fn is_accepted<R: AllocGlobal + Abort>(&self, rt: &R, heap: &Heap, left: u64) -> Answer {
         heap.refuse_after(left);
-        let answer = range_map! { in heap; 0..5u32 => 'a', 7..9 => 'b' };
-        heap.refuse_after(MANY);
-        is_made_of_two(rt, answer.map(|map| map.len()))
-    }
-}
-
-/// `range_inclusive_map!`
-struct InclusiveMapOf;
-
-impl Trial for InclusiveMapOf {
-    fn is_accepted<R: AllocGlobal + Abort>(&self, rt: &R, heap: &Heap, left: u64) -> Answer {
+        let is_made = is_made_of_two(rt, range_map! { in heap; 0..5u32 => 'a', 7..9 => 'b' });
         heap.refuse_after(left);
-        let answer = range_inclusive_map! { in heap; 0..=5u32 => 'a', 7..=9 => 'b' };
-        heap.refuse_after(MANY);
-        is_made_of_two(rt, answer.map(|map| map.len()))
-    }
-}
-
-/// `range_set!`
-struct SetOf;
-
-impl Trial for SetOf {
-    fn is_accepted<R: AllocGlobal + Abort>(&self, rt: &R, heap: &Heap, left: u64) -> Answer {
+        let map = range_inclusive_map! { in heap; 0..=5u32 => 'a', 7..=9 => 'b' };
+        assert_eq!(rt; is_made_of_two(rt, map), is_made);
         heap.refuse_after(left);
-        let answer = range_set![in heap; 0..5u32, 7..9];
-        heap.refuse_after(MANY);
-        is_made_of_two(rt, answer.map(|set| set.len()))
-    }
-}
-
-/// `range_inclusive_set!`
-struct InclusiveSetOf;
-
-impl Trial for InclusiveSetOf {
-    fn is_accepted<R: AllocGlobal + Abort>(&self, rt: &R, heap: &Heap, left: u64) -> Answer {
+        let set = range_set![in heap; 0..5u32, 7..9];
+        assert_eq!(rt; is_made_of_two(rt, set), is_made);
         heap.refuse_after(left);
-        let answer = range_inclusive_set![in heap; 0..=5u32, 7..=9];
-        heap.refuse_after(MANY);
-        is_made_of_two(rt, answer.map(|set| set.len()))
+        let set = range_inclusive_set![in heap; 0..=5u32, 7..=9];
+        assert_eq!(rt; is_made_of_two(rt, set), is_made);
+        Ok(is_made)
     }
 }
 
 // The list of the macro, and that of the container.
 #[test]
 fn a_list_may_be_refused(rt: HostRuntime) -> Result<(), Fail> {
-    assert_eq!(rt; count_refusals(&rt, &MapOf)?, 2);
-    assert_eq!(rt; count_refusals(&rt, &InclusiveMapOf)?, 2);
-    assert_eq!(rt; count_refusals(&rt, &SetOf)?, 2);
-    assert_eq!(rt; count_refusals(&rt, &InclusiveSetOf)?, 2);
+    assert_eq!(rt; count_refusals(&rt, &Lists)?, 2);
     Ok(())
 }

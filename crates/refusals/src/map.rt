@@ -1,13 +1,16 @@
 //! Rows about calls on maps over half-open ranges that are refused memory: the growth of a map and
-//! each clone of a text, in its turn.
+//! each clone of a text or a key, in its turn.
 
-use crate::trials::gaps::check_gap_refusals;
+use crate::trials::items::try_both;
 use crate::trials::maps::Tried::{Change, Clone};
 use crate::trials::maps::{Row, check_refusals};
+use crate::trials::{Answer, Trial, count_refusals};
+use rangemap::RangeMap;
 use refusing::Refusing;
 use rows::Call::{Insert, Remove};
-use rows::{Ends, MANY, Names, Texts};
+use rows::{Costly, Ends, HalfOpenCostlySet, Heap, InRows, MANY, Names, Texts};
 use std::ops::Range;
+use std::process::Abort;
 use std::test::Fail;
 
 pub mod makers;
@@ -58,7 +61,7 @@ fn each_request_may_be_refused(rt: HostRuntime) -> Result<(), Fail> {
 /// A row over the map over texts.
 type NamesRow<'r> = Row<'r, Ends, char>;
 
-// Both ends of each piece that stays are cloned, and both ends of a gap.
+// Both ends of each piece that stays are cloned.
 #[test]
 #[tactic(auto, using(crate::proofs::Texts::clones_tie))]
 fn each_clone_of_a_key_may_be_refused(rt: HostRuntime) -> Result<(), Fail> {
@@ -74,10 +77,21 @@ fn each_clone_of_a_key_may_be_refused(rt: HostRuntime) -> Result<(), Fail> {
     check_refusals::<_, Names<'_>>(&rt, &heap, &rows)
 }
 
+/// The gaps about a pair, from a key in the first to one in the second.
+struct Gaps;
+
+impl Trial for Gaps {
+    fn is_accepted<R: AllocGlobal + Abort>(&self, rt: &R, heap: &Heap, left: u64) -> Answer {
+        let mut map: RangeMap<Costly<'_>, char, &Heap> = RangeMap::new(heap);
+        map.insert(HalfOpenCostlySet::range(heap, &(1, 3))?, 'a')?;
+        let outer_range = HalfOpenCostlySet::range(heap, &(0, 5))?;
+        let gaps = (map.gaps(&outer_range), map.gaps(&outer_range));
+        try_both::<R, HalfOpenCostlySet<'_>, _>(rt, heap, gaps, (&(0, 1), &(3, 5)), left)
+    }
+}
+
 #[test]
-#[tactic(auto, using(crate::proofs::Texts::clones_tie))]
 fn each_clone_of_a_gap_may_be_refused(rt: HostRuntime) -> Result<(), Fail> {
-    let heap = Refusing::new(rt.alloc(), MANY);
-    let row = (&("a", "f"), &("a", "b"), &("d", "f"));
-    check_gap_refusals::<_, Names<'_>>(&rt, &heap, &[(("b", "d"), 'a')], row, 2)
+    assert_eq!(rt; count_refusals(&rt, &Gaps)?, 2);
+    Ok(())
 }

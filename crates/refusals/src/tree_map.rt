@@ -1,5 +1,5 @@
 //! Rows about calls on maps in a tree that are refused memory: each node, each list of keys and
-//! each clone of a text, in its turn.
+//! each clone of a key or a text, in its turn.
 
 use crate::trials::items::try_both;
 use crate::trials::maps::Tried::{Change, Clone};
@@ -7,7 +7,7 @@ use crate::trials::maps::{Row, check_refusals, make_map};
 use crate::trials::{Answer, Trial, count_refusals};
 use refusing::Refusing;
 use rows::Call::{Insert, Remove};
-use rows::{Ends, Heap, InRows, MANY, TreeNames, TreeTexts};
+use rows::{CostlyTree, Heap, InRows, MANY, TreeTexts};
 use std::ops::Range;
 use std::process::Abort;
 use std::test::Fail;
@@ -16,50 +16,50 @@ mod makers;
 mod runs;
 
 /// Pairs that rows hold or leave.
-const WHOLE: [(Ends, char); 1] = [(("a", "k"), 'a')];
+const WHOLE: [((u8, u8), char); 1] = [((0, 10), 'a')];
 
-const PIECES: [(Ends, char); 2] = [(("a", "c"), 'a'), (("f", "k"), 'a')];
+const PIECES: [((u8, u8), char); 2] = [((0, 2), 'a'), ((5, 10), 'a')];
 
-const INSERTED: [(Ends, char); 3] = [(("a", "c"), 'a'), (("c", "f"), 'b'), (("f", "k"), 'a')];
+const INSERTED: [((u8, u8), char); 3] = [((0, 2), 'a'), ((2, 5), 'b'), ((5, 10), 'a')];
 
-const APART: [(Ends, char); 3] = [(("a", "c"), 'a'), (("e", "g"), 'b'), (("i", "k"), 'a')];
+const APART: [((u8, u8), char); 3] = [((0, 2), 'a'), ((4, 6), 'b'), ((8, 10), 'a')];
 
 /// Fourteen pairs.
-const FILLED: [(Ends, char); 14] = [
-    (("a", "b"), 'a'),
-    (("b", "c"), 'b'),
-    (("c", "d"), 'a'),
-    (("d", "e"), 'b'),
-    (("e", "f"), 'a'),
-    (("f", "g"), 'b'),
-    (("g", "h"), 'a'),
-    (("h", "i"), 'b'),
-    (("i", "j"), 'a'),
-    (("j", "k"), 'b'),
-    (("k", "l"), 'a'),
-    (("l", "m"), 'b'),
-    (("m", "n"), 'a'),
-    (("n", "z"), 'b'),
+const FILLED: [((u8, u8), char); 14] = [
+    ((0, 1), 'a'),
+    ((1, 2), 'b'),
+    ((2, 3), 'a'),
+    ((3, 4), 'b'),
+    ((4, 5), 'a'),
+    ((5, 6), 'b'),
+    ((6, 7), 'a'),
+    ((7, 8), 'b'),
+    ((8, 9), 'a'),
+    ((9, 10), 'b'),
+    ((10, 11), 'a'),
+    ((11, 12), 'b'),
+    ((12, 13), 'a'),
+    ((13, 25), 'b'),
 ];
 
 /// The same, with another value inside the last.
-const GROWN: [(Ends, char); 16] = [
-    (("a", "b"), 'a'),
-    (("b", "c"), 'b'),
-    (("c", "d"), 'a'),
-    (("d", "e"), 'b'),
-    (("e", "f"), 'a'),
-    (("f", "g"), 'b'),
-    (("g", "h"), 'a'),
-    (("h", "i"), 'b'),
-    (("i", "j"), 'a'),
-    (("j", "k"), 'b'),
-    (("k", "l"), 'a'),
-    (("l", "m"), 'b'),
-    (("m", "n"), 'a'),
-    (("n", "u"), 'b'),
-    (("u", "w"), 'c'),
-    (("w", "z"), 'b'),
+const GROWN: [((u8, u8), char); 16] = [
+    ((0, 1), 'a'),
+    ((1, 2), 'b'),
+    ((2, 3), 'a'),
+    ((3, 4), 'b'),
+    ((4, 5), 'a'),
+    ((5, 6), 'b'),
+    ((6, 7), 'a'),
+    ((7, 8), 'b'),
+    ((8, 9), 'a'),
+    ((9, 10), 'b'),
+    ((10, 11), 'a'),
+    ((11, 12), 'b'),
+    ((12, 13), 'a'),
+    ((13, 20), 'b'),
+    ((20, 22), 'c'),
+    ((22, 25), 'b'),
 ];
 
 /// A row over the map to texts.
@@ -77,57 +77,40 @@ fn a_refused_insert_leaves_the_map(rt: HostRuntime) -> Result<(), Fail> {
     check_refusals::<_, TreeTexts<'_>>(&rt, &heap, &rows)
 }
 
-/// A row over the map over texts.
-type NamesRow<'r> = Row<'r, Ends, char>;
+/// A row over the map over costly keys.
+type CostlyRow<'r> = Row<'r, (u8, u8), char>;
 
-/// Tries the call of a row.
-#[tactic(auto, using(crate::proofs::Texts::clones_tie))]
-fn check_names<R: AllocGlobal + Abort>(rt: &R, row: NamesRow<'_>) -> Result<(), Fail> {
+#[test]
+fn each_request_may_be_refused(rt: HostRuntime) -> Result<(), Fail> {
+    let rows: [CostlyRow<'_>; 7] = [
+        // The first pair takes the tree and the key that it stands at.
+        (&[], Change(Insert((0, 10), 'a'), &WHOLE), 2),
+        // An insert inside a pair clones both ends of either piece, and two keys; one that joins
+        // three pairs clones the outer ends and a key, and makes a list of the two keys that go.
+        (&WHOLE, Change(Insert((2, 5), 'b'), &INSERTED), 6),
+        (&APART, Change(Insert((2, 8), 'a'), &WHOLE), 6),
+        // A node has room for fifteen pairs. So the piece to the right still finds room, and the
+        // new pair takes two nodes; where one of them is refused, the piece is taken out again.
+        (&FILLED, Change(Insert((20, 22), 'c'), &GROWN), 8),
+        // A removal inside a pair clones both ends of either piece, and a key.
+        (&WHOLE, Change(Remove((2, 5)), &PIECES), 5),
+        (&WHOLE, Change(Remove((12, 15)), &WHOLE), 0),
+        // the tree, and three keys for each pair
+        (&PIECES, Clone, 7),
+    ];
     let heap = Refusing::new(rt.alloc(), MANY);
-    let rows: [NamesRow<'_>; 1] = [row];
-    check_refusals::<_, TreeNames<'_>>(rt, &heap, &rows)
-}
-
-// The first pair takes the tree and the key that it stands at. An insert inside a pair clones both
-// ends of either piece, and two keys; one that joins three pairs clones the outer ends and a key,
-// and makes a list of the two keys that go.
-#[test]
-fn each_request_of_an_insert_may_be_refused(rt: HostRuntime) -> Result<(), Fail> {
-    check_names(&rt, (&[], Change(Insert(("a", "k"), 'a'), &WHOLE), 2))?;
-    check_names(&rt, (&WHOLE, Change(Insert(("c", "f"), 'b'), &INSERTED), 6))?;
-    check_names(&rt, (&APART, Change(Insert(("c", "i"), 'a'), &WHOLE), 6))
-}
-
-// A node has room for fifteen pairs. So the piece to the right still finds room, and the new pair
-// takes two nodes; where one of them is refused, the piece is taken out again.
-#[test]
-fn each_node_of_an_insert_may_be_refused(rt: HostRuntime) -> Result<(), Fail> {
-    check_names(&rt, (&FILLED, Change(Insert(("u", "w"), 'c'), &GROWN), 8))
-}
-
-// A removal inside a pair clones both ends of either piece, and a key.
-#[test]
-fn each_request_of_a_removal_may_be_refused(rt: HostRuntime) -> Result<(), Fail> {
-    check_names(&rt, (&WHOLE, Change(Remove(("c", "f")), &PIECES), 5))?;
-    check_names(&rt, (&WHOLE, Change(Remove(("m", "p")), &WHOLE), 0))
-}
-
-#[test]
-fn each_request_of_a_clone_may_be_refused(rt: HostRuntime) -> Result<(), Fail> {
-    // the tree, and three keys for each pair
-    check_names(&rt, (&PIECES, Clone, 7))
+    check_refusals::<_, CostlyTree<'_>>(&rt, &heap, &rows)
 }
 
 /// The gaps about a pair, from a key in the first to one in the second.
 struct Gaps;
 
 impl Trial for Gaps {
-    #[tactic(auto, using(crate::proofs::Texts::clones_tie))]
     fn is_accepted<R: AllocGlobal + Abort>(&self, rt: &R, heap: &Heap, left: u64) -> Answer {
-        let map: TreeNames<'_> = make_map(heap, &[(("b", "d"), 'a')])?;
-        let outer_range = TreeNames::range(heap, &("a", "f"))?;
+        let map: CostlyTree<'_> = make_map(heap, &[((1, 3), 'a')])?;
+        let outer_range = CostlyTree::range(heap, &(0, 5))?;
         let gaps = (map.gaps(&outer_range), map.gaps(&outer_range));
-        try_both::<R, TreeNames<'_>, _>(rt, heap, gaps, (&("a", "b"), &("d", "f")), left)
+        try_both::<R, CostlyTree<'_>, _>(rt, heap, gaps, (&(0, 1), &(3, 5)), left)
     }
 }
 

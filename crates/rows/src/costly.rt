@@ -1,4 +1,5 @@
-//! Keys with steps whose clone takes memory, and containers of them.
+//! Keys with steps whose clone takes memory, and containers of them, over closed ranges and half-open
+//! ones.
 ghost use Rattle.std.specs.Prelude.{◌≡◌, ◌<◌, ◌^◌, option_map, nat_eq, refl};
 ghost use Rattle.std.proofs.Common.{rules};
 ghost use Rattle.std.specs.Cmp.{nat_eq_equiv, on_equiv, on_per, partial_equiv_from_equiv, partial_order_from_own_ties};
@@ -8,11 +9,11 @@ ghost use Rattle.rangemap.specs.StepLaws.{held_follows, held_precedes, nat_after
 
 use crate::changes::InRows;
 use crate::names::Heap;
-use crate::ranges::closed;
-use rangemap::{RangeInclusiveMap, RangeInclusiveSet, StepLite};
+use crate::ranges::{closed, filled};
+use rangemap::{RangeInclusiveMap, RangeInclusiveSet, RangeSet, StepLite, tree_map};
 use std::alloc::AllocError;
 use std::cmp::Ordering;
-use std::ops::RangeInclusive;
+use std::ops::{Range, RangeInclusive};
 use std::test::Fail;
 
 /// A byte. A clone of it takes a block of memory and gives it back at once, so it may be refused.
@@ -110,6 +111,12 @@ pub type CostlyMap<'a> = RangeInclusiveMap<Costly<'a>, char, Costly<'a>, &'a Hea
 /// A set of such keys.
 pub type CostlySet<'a> = RangeInclusiveSet<Costly<'a>, Costly<'a>, &'a Heap>;
 
+/// A map over half-open ranges of such keys, in a tree.
+pub type CostlyTree<'a> = tree_map::RangeMap<Costly<'a>, char, &'a Heap>;
+
+/// A set of half-open ranges of such keys.
+pub type HalfOpenCostlySet<'a> = RangeSet<Costly<'a>, &'a Heap>;
+
 impl<'a> InRows for CostlyMap<'a> {
     type RowRange = (u8, u8);
 
@@ -147,6 +154,50 @@ impl<'a> InRows for CostlySet<'a> {
 
     fn is_range(range: &RangeInclusive<Costly<'a>>, row: &(u8, u8)) -> bool {
         (range.start().byte, range.end().byte) == *row
+    }
+
+    fn is_value(_value: &(), _row: &()) -> bool {
+        true
+    }
+}
+
+impl<'a> InRows for CostlyTree<'a> {
+    type RowRange = (u8, u8);
+
+    type RowValue = char;
+
+    fn range(heap: &'a Heap, row: &(u8, u8)) -> Result<Range<Costly<'a>>, Fail> {
+        Ok(filled(Costly { byte: row.0, heap }, Costly { byte: row.1, heap })?)
+    }
+
+    fn value(_heap: &'a Heap, row: &char) -> Result<char, Fail> {
+        Ok(*row)
+    }
+
+    fn is_range(range: &Range<Costly<'a>>, row: &(u8, u8)) -> bool {
+        (range.start.byte, range.end.byte) == *row
+    }
+
+    fn is_value(value: &char, row: &char) -> bool {
+        value == row
+    }
+}
+
+impl<'a> InRows for HalfOpenCostlySet<'a> {
+    type RowRange = (u8, u8);
+
+    type RowValue = ();
+
+    fn range(heap: &'a Heap, row: &(u8, u8)) -> Result<Range<Costly<'a>>, Fail> {
+        Ok(filled(Costly { byte: row.0, heap }, Costly { byte: row.1, heap })?)
+    }
+
+    fn value(_heap: &'a Heap, _row: &()) -> Result<(), Fail> {
+        Ok(())
+    }
+
+    fn is_range(range: &Range<Costly<'a>>, row: &(u8, u8)) -> bool {
+        (range.start.byte, range.end.byte) == *row
     }
 
     fn is_value(_value: &(), _row: &()) -> bool {

@@ -21,8 +21,8 @@ pub use compared::{
     check_equal, check_gaps, check_items, check_made, check_nothing, check_overlapping,
     check_replayed, check_row,
 };
-pub use costly::{Costly, CostlyMap, CostlySet};
-pub use names::{Ends, Heap, MANY, NamedSet, Names, Text, Texts, TreeNames, TreeTexts};
+pub use costly::{Costly, CostlyMap, CostlySet, CostlyTree, HalfOpenCostlySet};
+pub use names::{Ends, Heap, MANY, NamedSet, Names, Text, Texts, TreeTexts};
 pub use ranges::{closed, filled};
 pub use sets::{check_equality, check_made_set, check_replayed_sets, check_set, make_set};
 pub use signed::SignedSteps;

@@ -26,9 +26,6 @@ pub type TreeTexts<'a> = tree_map::RangeMap<u32, Text<'a>, &'a Heap>;
 /// A map over texts.
 pub type Names<'a> = RangeMap<Text<'a>, char, &'a Heap>;
 
-/// The same in a tree.
-pub type TreeNames<'a> = tree_map::RangeMap<Text<'a>, char, &'a Heap>;
-
 /// A set of texts.
 pub type NamedSet<'a> = RangeSet<Text<'a>, &'a Heap>;
 
@@ -80,31 +77,6 @@ impl<'a> InRows for TreeTexts<'a> {
 }
 
 impl<'a> InRows for Names<'a> {
-    type RowRange = Ends;
-
-    type RowValue = char;
-
-    fn range(heap: &'a Heap, row: &Ends) -> Result<Range<Text<'a>>, Fail> {
-        Ok(filled(
-            String::from_str(heap, row.0)?,
-            String::from_str(heap, row.1)?,
-        )?)
-    }
-
-    fn value(_heap: &'a Heap, row: &char) -> Result<char, Fail> {
-        Ok(*row)
-    }
-
-    fn is_range(range: &Range<Text<'a>>, row: &Ends) -> bool {
-        range.start.as_str() == row.0 && range.end.as_str() == row.1
-    }
-
-    fn is_value(value: &char, row: &char) -> bool {
-        value == row
-    }
-}
-
-impl<'a> InRows for TreeNames<'a> {
     type RowRange = Ends;
 
     type RowValue = char;

@@ -10,7 +10,6 @@ use std::process::Abort;
 use std::test::Fail;
 
 mod collections;
-mod comparisons;
 mod laws;
 mod queries;
 mod replays;
@@ -54,33 +53,44 @@ fn ranges_with_no_key_between_are_joined(rt: HostRuntime) -> Result<(), Fail> {
 
 #[test]
 fn bytes_go_to_their_end(rt: HostRuntime) -> Result<(), Fail> {
-    let mut map: RangeInclusiveMap<u8, bool, u8, _> = RangeInclusiveMap::new(rt.alloc());
-    map.insert(0..=127, false)?;
-    map.insert(128..=255, true)?;
-    check_row(&map, &[(0..=127, false), (128..=255, true)])?;
-    map.insert(128..=255, false)?;
-    check_row(&map, &[(0..=255, false)])
-}
-
-#[test]
-fn ends_are_removed(rt: HostRuntime) -> Result<(), Fail> {
-    let mut map = RangeInclusiveMap::from(rt.alloc(), [(-128..=127i8, true)])?;
-    map.remove(-128..=-128)?;
-    check_row(&map, &[(-127..=127, true)])?;
-    map.remove(127..=127)?;
-    check_row(&map, &[(-127..=126, true)])
-}
-
-#[test]
-fn an_empty_map_has_nothing(rt: HostRuntime) -> Result<(), Fail> {
-    let map: Map = RangeInclusiveMap::new(rt.alloc());
-    check_nothing(&map, &5)?;
-    check_row(&map, &[])
+    let rows: [Changed<'_, RangeInclusive<u8>, bool>; 2] = [
+        (
+            &[Insert(0..=127, false), Insert(128..=255, true)],
+            &[(0..=127, false), (128..=255, true)],
+        ),
+        (
+            &[
+                Insert(0..=127, false),
+                Insert(128..=255, true),
+                Insert(128..=255, false),
+            ],
+            &[(0..=255, false)],
+        ),
+    ];
+    check_changes::<RangeInclusiveMap<u8, bool, u8, Global>>(rt.alloc(), &rows)?;
+    // Ends are removed.
+    let rows: [Changed<'_, RangeInclusive<i8>, bool>; 2] = [
+        (
+            &[Insert(-128..=127, true), Remove(-128..=-128)],
+            &[(-127..=127, true)],
+        ),
+        (
+            &[
+                Insert(-128..=127, true),
+                Remove(-128..=-128),
+                Remove(127..=127),
+            ],
+            &[(-127..=126, true)],
+        ),
+    ];
+    check_changes::<RangeInclusiveMap<i8, bool, i8, Global>>(rt.alloc(), &rows)
 }
 
 #[test]
 fn the_range_that_has_a_key_is_found(rt: HostRuntime) -> Result<(), Fail> {
     let mut map: Map = RangeInclusiveMap::new(rt.alloc());
+    check_nothing(&map, &5)?;
+    check_row(&map, &[])?;
     make(
         &mut map,
         rt.alloc(),

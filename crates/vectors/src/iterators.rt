@@ -1,28 +1,42 @@
-//! Iterators that give three items, taken from both ends.
+//! Iterators that give few items, asked from both ends and by both calls.
 //!
 //! The items are taken by the laws of iterators, which make the calls of their names.
 
-use rangemap::laws::iterators::{StaysEndedAtBack, next_back_ends_both_ends, next_ends_both_ends};
+use rangemap::laws::iterators::{
+    StaysEndedAtBack, StaysEndedByTries, next_back_ends_both_ends, next_ends_both_ends,
+    next_ends_tries, next_stays_ended, try_next_ends_tries,
+};
+use std::alloc::AllocError;
 use std::fmt::Debug;
 use std::process::Abort;
 
-/// Takes the first of three items, the last and the one between, and asks on. Where the first two
-/// are taken, and where all are, `size_hint` says what is left.
-pub fn check_counted<I: StaysEndedAtBack, R: Abort>(
+/// Takes the first of three items, the last and the one between, and asks on. An iterator that is
+/// counted says by `size_hint` what is left.
+pub fn check_three<I: StaysEndedAtBack, R: Abort>(
     rt: &R,
     mut items: I,
     (first, middle, last): (I::Item, I::Item, I::Item),
+    is_counted: bool,
 )
 where
     I::Item: PartialEq + Debug + Drop,
 {
-    assert_eq!(rt; items.size_hint(), (3, Some(3)));
+    assert_eq!(rt; items.size_hint(), hint(3, is_counted));
     assert_eq!(rt; next_ends_both_ends(&mut items), (Some(first), Some(last)));
-    assert_eq!(rt; items.size_hint(), (1, Some(1)));
+    assert_eq!(rt; items.size_hint(), hint(1, is_counted));
     assert_eq!(rt; next_ends_both_ends(&mut items), (Some(middle), None));
-    assert_eq!(rt; items.size_hint(), (0, Some(0)));
+    assert_eq!(rt; items.size_hint(), hint(0, is_counted));
     assert_eq!(rt; next_ends_both_ends(&mut items), (None, None));
-    assert_eq!(rt; items.size_hint(), (0, Some(0)));
+    assert_eq!(rt; items.size_hint(), hint(0, is_counted));
+}
+
+/// What `size_hint` says where so many items are left.
+fn hint(left: usize, is_counted: bool) -> (usize, Option<usize>) {
+    if is_counted {
+        (left, Some(left))
+    } else {
+        (0, None)
+    }
 }
 
 /// Takes the first of three items and then the others from the back, and asks on.
@@ -43,18 +57,44 @@ where
     assert_eq!(rt; items.size_hint(), (0, Some(0)));
 }
 
-/// Takes the first of three items, the last and the one between, of an iterator that doesn't know
-/// how many there are, and asks on.
-pub fn check_found_three<I: StaysEndedAtBack, R: Abort>(
+/// Takes the one item of three iterators that are alike, by `next`, by `try_next`, and by calls
+/// in turn, and asks on.
+pub fn check_tries<T: PartialEq + Debug + Drop, I, R: Abort>(
     rt: &R,
-    mut items: I,
-    (first, middle, last): (I::Item, I::Item, I::Item),
+    iterators: (I, I, I),
+    items: (T, T, T),
 )
 where
-    I::Item: PartialEq + Debug + Drop,
+    I: StaysEndedByTries<Range = T, Item = Result<T, AllocError>>,
+    requires taken { I.can_next iterators.0 }
+    requires tried { I.can_next iterators.1 }
+    requires asked { I.can_next iterators.2 }
 {
-    assert_eq!(rt; items.size_hint(), (0, None));
-    assert_eq!(rt; next_ends_both_ends(&mut items), (Some(first), Some(last)));
-    assert_eq!(rt; next_ends_both_ends(&mut items), (Some(middle), None));
-    assert_eq!(rt; next_ends_both_ends(&mut items), (None, None));
+    let (mut taken, mut tried, mut asked) = iterators;
+    let (item, same, again) = items;
+    assert_eq!(rt; asked.size_hint(), (0, None));
+    assert_eq!(rt;
+        next_ends_tries(&mut taken),
+        (Some(Ok(item)), Ok(None), None)
+    );
+    assert_eq!(rt;
+        try_next_ends_tries(&mut tried),
+        (Ok(Some(same)), Ok(None), None)
+    );
+    let (first, second) = (asked.try_next(), asked.try_next());
+    assert_eq!(rt; (first, second), (Ok(Some(again)), Ok(None)));
+    assert_eq!(rt; (asked.next(), asked.try_next()), (None, Ok(None)));
+}
+
+/// An iterator that has one item gives it, and none from then on, whichever end is asked.
+pub fn check_both_ends<I: StaysEndedAtBack, R: Abort>(rt: &R, mut front: I, mut back: I)
+where
+    I::Item: Drop,
+{
+    let (item, again) = next_stays_ended(&mut front);
+    assert!(rt; item.is_some() && again.is_none());
+    let (item, last) = next_ends_both_ends(&mut front);
+    assert!(rt; item.is_none() && last.is_none());
+    let (item, again, first) = next_back_ends_both_ends(&mut back);
+    assert!(rt; item.is_some() && again.is_none() && first.is_none());
 }

@@ -7,6 +7,8 @@
 #![tactic(auto)]
 
 #[cfg(test)]
+mod endings;
+#[cfg(test)]
 mod hash;
 #[cfg(test)]
 mod inclusive_map;

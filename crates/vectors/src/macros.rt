@@ -19,11 +19,8 @@ fn a_list_makes_a_map(rt: HostRuntime) -> Result<(), Fail> {
     check_made(
         made,
         &[(0..=99, "abc"), (100..=199, "def"), (200..=300, "ghi")],
-    )
-}
-
-#[test]
-fn a_list_may_be_empty_or_end_in_a_comma(rt: HostRuntime) -> Result<(), Fail> {
+    )?;
+    // A list may be empty, or end in a comma.
     let alloc = rt.alloc();
     let none: Result<RangeMap<u32, char, Global>, AllocError> = range_map! { in alloc; };
     check_made(none, &[])?;

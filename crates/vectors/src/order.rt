@@ -34,24 +34,17 @@ fn maps_lie_by_their_first_difference(rt: HostRuntime) -> Result<(), Fail> {
     let none: Map = range_map! { in alloc; }?;
     assert_less_than(&rt, &none, range_map! { in alloc; 0..5 => 'a' })?;
     let first = range_map! { in alloc; 0..5 => 'a' }?;
-    check_greater(&rt, &first)
-}
-
-/// Compares a map with greater ones, and with an equal one.
-fn check_greater<R: AllocGlobal + Abort>(rt: &R, first: &Map) -> Result<(), Fail> {
-    let alloc = rt.alloc();
-    assert_less_than(rt, first, range_map! { in alloc; 0..6 => 'a' })?;
-    assert_less_than(rt, first, range_map! { in alloc; 0..5 => 'a', 7..8 => 'a' })?;
-    assert_less_than(rt, first, range_map! { in alloc; 1..2 => 'a' })?;
-    assert_less_than(rt, first, range_map! { in alloc; 0..5 => 'b' })?;
+    assert_less_than(&rt, &first, range_map! { in alloc; 0..6 => 'a' })?;
+    assert_less_than(
+        &rt,
+        &first,
+        range_map! { in alloc; 0..5 => 'a', 7..8 => 'a' },
+    )?;
+    assert_less_than(&rt, &first, range_map! { in alloc; 1..2 => 'a' })?;
+    assert_less_than(&rt, &first, range_map! { in alloc; 0..5 => 'b' })?;
     assert!(rt; first.cmp(&range_map! { in alloc; 0..5 => 'a' }?) == Ordering::Equal);
-    Ok(())
-}
-
-#[test]
-fn a_difference_weighs_more_than_the_lengths(rt: HostRuntime) -> Result<(), Fail> {
-    let alloc = rt.alloc();
-    let longer: Map = range_map! { in alloc; 0..5 => 'a', 7..8 => 'a' }?;
+    // A difference weighs more than the lengths.
+    let longer = range_map! { in alloc; 0..5 => 'a', 7..8 => 'a' }?;
     assert_less_than(&rt, &longer, range_map! { in alloc; 0..6 => 'a' })
 }
 
@@ -64,20 +57,11 @@ fn closed_maps_lie_by_their_first_difference(rt: HostRuntime) -> Result<(), Fail
     let none: ClosedMap = range_inclusive_map! { in alloc; }?;
     assert_less_than(&rt, &none, range_inclusive_map! { in alloc; 0..=5 => 'a' })?;
     let first = range_inclusive_map! { in alloc; 0..=5 => 'a' }?;
-    check_greater_closed(&rt, &first)
-}
-
-/// Compares a map over closed ranges with greater ones, and with an equal one.
-fn check_greater_closed<R: AllocGlobal + Abort>(rt: &R, first: &ClosedMap) -> Result<(), Fail> {
-    let alloc = rt.alloc();
-    assert_less_than(rt, first, range_inclusive_map! { in alloc; 0..=6 => 'a' })?;
-    assert_less_than(
-        rt,
-        first,
-        range_inclusive_map! { in alloc; 0..=5 => 'a', 7..=8 => 'a' },
-    )?;
-    assert_less_than(rt, first, range_inclusive_map! { in alloc; 1..=2 => 'a' })?;
-    assert_less_than(rt, first, range_inclusive_map! { in alloc; 0..=5 => 'b' })?;
+    assert_less_than(&rt, &first, range_inclusive_map! { in alloc; 0..=6 => 'a' })?;
+    let longer = range_inclusive_map! { in alloc; 0..=5 => 'a', 7..=8 => 'a' };
+    assert_less_than(&rt, &first, longer)?;
+    assert_less_than(&rt, &first, range_inclusive_map! { in alloc; 1..=2 => 'a' })?;
+    assert_less_than(&rt, &first, range_inclusive_map! { in alloc; 0..=5 => 'b' })?;
     assert!(rt; first.cmp(&range_inclusive_map! { in alloc; 0..=5 => 'a' }?) == Ordering::Equal);
     Ok(())
 }

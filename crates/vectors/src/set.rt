@@ -5,7 +5,6 @@ use std::alloc::Global;
 
 mod changes;
 mod collections;
-mod iterators;
 mod operations;
 mod queries;
 mod replays;

@@ -3,12 +3,16 @@
 
 use crate::trials::makers::check_maker_refusals;
 use crate::trials::maps::is_made;
-use crate::trials::{Answer, Trial, count_refusals};
+use crate::trials::{Answer, Trial, count_refusals, replays};
 use rangemap::RangeInclusiveMap;
+use rangemap::inclusive_map::{Call, Change, replay, replay_with_step_fns};
 use refusing::Refusing;
-use rows::{CostlyMap, Heap, InRows, MANY};
+use rows::{CostlyMap, Heap, InRows, MANY, SignedSteps};
 use std::process::Abort;
 use std::test::Fail;
+
+/// Pairs that are given, of which a map has these.
+const GIVEN: [((u8, u8), char); 2] = [((0, 9), 'a'), ((3, 5), 'b')];
 
 const STORED: [((u8, u8), char); 3] = [((0, 2), 'a'), ((3, 5), 'b'), ((6, 9), 'a')];
 
@@ -26,19 +30,65 @@ impl Trial for From {
     }
 }
 
-#[test]
-fn a_map_of_pairs_may_be_refused(rt: HostRuntime) -> Result<(), Fail> {
-    // two lists, and two keys
-    assert_eq!(rt; count_refusals(&rt, &From)?, 4);
-    Ok(())
+/// A replay that makes two maps.
+struct Replay;
+
+impl Trial for Replay {
+    fn is_accepted<R: AllocGlobal + Abort>(&self, rt: &R, heap: &Heap, left: u64) -> Answer {
+        let mut maps: Vec<RangeInclusiveMap<u8, bool, u8, &Heap>, &Heap> = Vec::new(heap);
+        let calls = [
+            Call::Change(Change::New),
+            Call::Change(Change::Insert {
+                at: 0,
+                range: 0..=255,
+                value: true,
+            }),
+            Call::Change(Change::Clone { at: 0 }),
+        ];
+        let calls = Vec::from_array(heap, calls)?;
+        heap.refuse_after(left);
+        let answer = replay(heap, &mut maps, calls);
+        heap.refuse_after(MANY);
+        let is_accepted = replays::is_accepted(rt, &answer, maps.as_slice(), left)?;
+        assert!(rt; !is_accepted || maps.len() == 2);
+        Ok(is_accepted)
+    }
 }
 
-/// Pairs that are given, of which a map has these.
-const GIVEN: [((u8, u8), char); 2] = [((0, 9), 'a'), ((3, 5), 'b')];
+/// A replay by steps of another type, which makes one map.
+struct ReplayWithStepFns;
 
-// The first growth, and a clone of the stored end of each piece of the first pair.
+impl Trial for ReplayWithStepFns {
+    fn is_accepted<R: AllocGlobal + Abort>(&self, rt: &R, heap: &Heap, left: u64) -> Answer {
+        let mut maps: Vec<RangeInclusiveMap<i8, bool, SignedSteps, &Heap>, &Heap> = Vec::new(heap);
+        let changes = [
+            Change::New,
+            Change::Insert {
+                at: 0,
+                range: -128..=127,
+                value: true,
+            },
+            Change::Clear { at: 0 },
+        ];
+        let changes = Vec::from_array(heap, changes)?;
+        heap.refuse_after(left);
+        let answer = replay_with_step_fns(heap, &mut maps, changes);
+        heap.refuse_after(MANY);
+        let is_accepted = replays::is_accepted(rt, &answer, maps.as_slice(), left)?;
+        assert!(rt; !is_accepted || maps.len() == 1);
+        Ok(is_accepted)
+    }
+}
+
 #[test]
-fn an_extend_keeps_what_the_inserts_keep(rt: HostRuntime) -> Result<(), Fail> {
+fn what_makes_a_map_may_be_refused(rt: HostRuntime) -> Result<(), Fail> {
     let heap = Refusing::new(rt.alloc(), MANY);
-    check_maker_refusals::<_, CostlyMap<'_>>(&rt, &heap, (&GIVEN, &STORED), 3)
+    // of `extend` and `from_iter` the first growth, and a clone of the stored end of each piece of
+    // the first pair; of `from` a list too
+    check_maker_refusals::<_, CostlyMap<'_>>(&rt, &heap, (&GIVEN, &STORED), 3)?;
+    assert_eq!(rt; count_refusals(&rt, &From)?, 4);
+    // of a replay, which changes nothing without room, three lists, and that of each map
+    assert_eq!(rt; count_refusals(&rt, &Replay)?, 5);
+    assert_eq!(rt; count_refusals(&rt, &ReplayWithStepFns)?, 4);
+    Ok(())
 }

@@ -22,17 +22,12 @@ pub const GIVEN: [(Range<u32>, &str); 3] = [(0..10, "a"), (3..6, "b"), (20..25, 
 
 const MADE: [(Range<u32>, &str); 4] = [(0..3, "a"), (3..6, "b"), (6..10, "a"), (20..25, "c")];
 
-// The first pair takes the first growth. The second, inside it, takes a clone of its text.
-#[test]
-fn a_refused_extend_stops_before_the_refused_pair(rt: HostRuntime) -> Result<(), Fail> {
-    let heap = Refusing::new(rt.alloc(), MANY);
-    check_kept::<_, Texts<'_>>(&rt, &heap, (&GIVEN, &[(0..10, "a")]), 1)
-}
-
-// The first growth, and a clone of the text for each piece of the first pair.
+// The first pair takes the first growth. The second, inside it, takes a clone of its text for each
+// piece of the first.
 #[test]
 fn an_extend_keeps_what_the_inserts_keep(rt: HostRuntime) -> Result<(), Fail> {
     let heap = Refusing::new(rt.alloc(), MANY);
+    check_kept::<_, Texts<'_>>(&rt, &heap, (&GIVEN, &[(0..10, "a")]), 1)?;
     check_maker_refusals::<_, Texts<'_>>(&rt, &heap, (&GIVEN, &MADE), 3)
 }
 
@@ -48,13 +43,6 @@ impl Trial for From {
         heap.refuse_after(MANY);
         is_made(rt, answer, &[(0..3, "a"), (3..6, "b"), (6..10, "a")])
     }
-}
-
-#[test]
-fn a_map_of_pairs_may_be_refused(rt: HostRuntime) -> Result<(), Fail> {
-    // two lists, and two clones of a text
-    assert_eq!(rt; count_refusals(&rt, &From)?, 4);
-    Ok(())
 }
 
 /// A map over numbers.
@@ -92,8 +80,10 @@ impl Trial for Replay {
 }
 
 #[test]
-fn a_replay_without_room_changes_nothing(rt: HostRuntime) -> Result<(), Fail> {
-    // three lists, the growth of either map
+fn what_makes_a_map_may_be_refused(rt: HostRuntime) -> Result<(), Fail> {
+    // two lists, and two clones of a text
+    assert_eq!(rt; count_refusals(&rt, &From)?, 4);
+    // of a replay, which changes nothing without room, three lists, and the growth of either map
     assert_eq!(rt; count_refusals(&rt, &Replay)?, 5);
     Ok(())
 }

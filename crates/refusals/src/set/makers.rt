@@ -2,87 +2,103 @@
 //! turn.
 
 use crate::trials::maps::is_made;
-use crate::trials::{Answer, Trial, count_refusals};
+use crate::trials::{Answer, Trial, count_refusals, replays};
 use rangemap::RangeSet;
-use rows::{Ends, Heap, InRows, MANY, NamedSet, filled};
-use std::alloc::{AllocError, Global};
-use std::ops::Range;
+use rangemap::set::{Call, replay};
+use rows::{Costly, HalfOpenCostlySet, Heap, InRows, MANY, check_row, filled};
+use std::alloc::AllocError;
 use std::process::Abort;
 use std::test::Fail;
-
-const STORED: [(Ends, ()); 2] = [(("a", "f"), ()), (("h", "k"), ())];
 
 /// A set made of two ranges.
 struct From;
 
 impl Trial for From {
-    #[tactic(auto, using(crate::proofs::Texts::clones_tie))]
     fn is_accepted<R: AllocGlobal + Abort>(&self, rt: &R, heap: &Heap, left: u64) -> Answer {
-        let first = NamedSet::range(heap, &("a", "f"))?;
-        let second = NamedSet::range(heap, &("h", "k"))?;
+        let first = HalfOpenCostlySet::range(heap, &(0, 5))?;
+        let second = HalfOpenCostlySet::range(heap, &(7, 10))?;
         heap.refuse_after(left);
         let answer = RangeSet::from(heap, [first, second]);
         heap.refuse_after(MANY);
-        is_made(rt, answer, &STORED)
+        is_made(rt, answer, &[((0, 5), ()), ((7, 10), ())])
     }
 }
 
-#[test]
-fn a_set_of_ranges_may_be_refused(rt: HostRuntime) -> Result<(), Fail> {
-    // two lists
-    assert_eq!(rt; count_refusals(&rt, &From)?, 2);
-    Ok(())
+/// An extend and a set by three ranges that touch: the first takes a list, and each other is joined
+/// with what is stored, which clones both ends.
+struct Joined;
+
+impl Trial for Joined {
+    fn is_accepted<R: AllocGlobal + Abort>(&self, rt: &R, heap: &Heap, left: u64) -> Answer {
+        let mut set: HalfOpenCostlySet<'_> = RangeSet::new(heap);
+        heap.refuse_after(left);
+        let answer = set.extend((0..3u8).map(|i| {
+            Costly { byte: 5 * i, heap }..Costly {
+                byte: 5 * i + 5,
+                heap,
+            }
+        }));
+        heap.refuse_after(left);
+        let made = RangeSet::from_iter(
+            heap,
+            (0..3u8).map(|i| {
+                Costly { byte: 5 * i, heap }..Costly {
+                    byte: 5 * i + 5,
+                    heap,
+                }
+            }),
+        );
+        heap.refuse_after(MANY);
+        let kept: &[((u8, u8), ())] = match left {
+            0 => &[],
+            1 | 2 => &[((0, 5), ())],
+            3 | 4 => &[((0, 10), ())],
+            _ => &[((0, 15), ())],
+        };
+        check_row(&set, kept)?;
+        assert_eq!(rt; is_made(rt, made, kept)?, answer.is_ok());
+        Ok(answer.is_ok())
+    }
 }
 
 /// A set of numbers.
 type Numbers<'a> = RangeSet<u32, &'a Heap>;
 
-/// The number of ranges that are given to an extend.
-const GIVEN: u32 = 100;
-
-/// Inserts these ranges into a set until one is refused. Gives those that were accepted.
-fn insert_each(heap: &Heap, alloc: Global) -> Result<Vec<Range<u32>>, Fail> {
+/// Inserts a hundred ranges into a set, until one is refused.
+fn insert_each(heap: &Heap) -> Result<Numbers<'_>, Fail> {
     let mut set: Numbers<'_> = RangeSet::new(heap);
-    let mut accepted = Vec::new(alloc);
-    for i in 0..GIVEN {
+    for i in 0..100u32 {
         if set.insert(filled(10 * i, 10 * i + 5)?).is_err() {
             break;
         }
-        accepted.push(10 * i..10 * i + 5)?;
     }
-    Ok(accepted)
+    Ok(set)
 }
 
-/// An extend by the ranges, beside their inserts.
+/// An extend by these ranges, beside their inserts.
 struct Extending;
 
 impl Trial for Extending {
     fn is_accepted<R: AllocGlobal + Abort>(&self, rt: &R, heap: &Heap, left: u64) -> Answer {
         heap.refuse_after(left);
-        let accepted = insert_each(heap, rt.alloc())?;
+        let inserted = insert_each(heap)?;
         let mut extended: Numbers<'_> = RangeSet::new(heap);
         heap.refuse_after(left);
-        let answer = extended.extend((0..GIVEN).map(|i| 10 * i..10 * i + 5));
+        let answer = extended.extend((0..100u32).map(|i| 10 * i..10 * i + 5));
         heap.refuse_after(MANY);
-        check_numbers(rt, &extended, &accepted)?;
+        check_numbers(rt, &extended, inserted.len());
         Ok(answer.is_ok())
     }
 }
 
-/// Compares a set of numbers with the ranges of a row.
-fn check_numbers<R: Abort>(rt: &R, set: &Numbers<'_>, ranges: &[Range<u32>]) -> Result<(), Fail> {
-    assert_eq!(rt; set.len(), ranges.len());
-    for (stored, range) in set.iter().zip(ranges) {
-        assert_eq!(rt; stored, range);
+/// Compares a set of numbers with so many of these ranges.
+fn check_numbers<R: Abort>(rt: &R, set: &Numbers<'_>, count: usize) {
+    assert_eq!(rt; set.len(), count);
+    let mut start = 0u32;
+    for stored in set.iter() {
+        assert_eq!(rt; *stored, start..start.saturating_add(5));
+        start = start.saturating_add(10);
     }
-    Ok(())
-}
-
-#[test]
-fn a_refused_extend_keeps_what_came_before(rt: HostRuntime) -> Result<(), Fail> {
-    // There is room for 8, 16, 32, 64 and 128, so one is refused after some were kept.
-    assert_eq!(rt; count_refusals(&rt, &Extending)?, 5);
-    Ok(())
 }
 
 /// A set made of an iterator.
@@ -94,7 +110,7 @@ impl Trial for FromIter {
         let answer = RangeSet::from_iter(heap, (0..3u32).map(|i| 10 * i..10 * i + 5));
         match answer {
             Ok(set) => {
-                check_numbers(rt, &set, &[0..5, 10..15, 20..25])?;
+                check_numbers(rt, &set, 3);
                 Ok(true)
             }
             Err(AllocError) => Ok(false),
@@ -102,8 +118,47 @@ impl Trial for FromIter {
     }
 }
 
+/// A replay that makes four sets.
+struct Replay;
+
+impl Trial for Replay {
+    fn is_accepted<R: AllocGlobal + Abort>(&self, rt: &R, heap: &Heap, left: u64) -> Answer {
+        let mut sets: Vec<Numbers<'_>, &Heap> = Vec::new(heap);
+        let calls = [
+            Call::New,
+            Call::Insert {
+                at: 0,
+                range: 0u32..10,
+            },
+            Call::Clone { at: 0 },
+            Call::Union { left: 0, right: 1 },
+            Call::Intersection { left: 0, right: 1 },
+        ];
+        let calls = Vec::from_array(heap, calls)?;
+        heap.refuse_after(left);
+        let answer = replay(heap, &mut sets, calls);
+        heap.refuse_after(MANY);
+        let is_accepted = replays::is_accepted(rt, &answer, sets.as_slice(), left)?;
+        assert!(rt; !is_accepted || sets.len() == 4);
+        Ok(is_accepted)
+    }
+}
+
 #[test]
-fn a_set_of_an_iterator_may_be_refused(rt: HostRuntime) -> Result<(), Fail> {
+fn a_refused_extend_keeps_what_came_before(rt: HostRuntime) -> Result<(), Fail> {
+    // Each of five growths doubles the room, so one is refused after some ranges were kept.
+    assert_eq!(rt; count_refusals(&rt, &Extending)?, 5);
+    // a list, and both ends of two joined ranges
+    assert_eq!(rt; count_refusals(&rt, &Joined)?, 5);
+    Ok(())
+}
+
+#[test]
+fn what_makes_a_set_may_be_refused(rt: HostRuntime) -> Result<(), Fail> {
+    // two lists
+    assert_eq!(rt; count_refusals(&rt, &From)?, 2);
     assert_eq!(rt; count_refusals(&rt, &FromIter)?, 1);
+    // of a replay, which changes nothing without room, three lists, and that of each set
+    assert_eq!(rt; count_refusals(&rt, &Replay)?, 7);
     Ok(())
 }

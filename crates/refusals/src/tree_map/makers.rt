@@ -9,35 +9,29 @@ use crate::trials::maps::is_made;
 use crate::trials::{Answer, Trial, count_refusals, replays};
 use rangemap::tree_map::{Call, Change, RangeMap, replay};
 use refusing::Refusing;
-use rows::{Ends, Heap, InRows, MANY, Names, TreeNames, TreeTexts};
+use rows::{CostlyMap, CostlyTree, Heap, InRows, MANY, TreeTexts};
 use std::process::Abort;
 use std::test::Fail;
 
-// The first pair takes the tree. The second, inside it, takes a clone of its text.
-#[test]
-fn a_refused_extend_stops_before_the_refused_pair(rt: HostRuntime) -> Result<(), Fail> {
-    let heap = Refusing::new(rt.alloc(), MANY);
-    check_kept::<_, TreeTexts<'_>>(&rt, &heap, (&GIVEN, &[(0..10, "a")]), 1)
-}
+/// Pairs that are given.
+const OUTER: [((u8, u8), char); 2] = [((0, 10), 'a'), ((2, 5), 'b')];
 
-const OUTER: [(Ends, char); 2] = [(("a", "k"), 'a'), (("c", "f"), 'b')];
-
-// The first pair takes the tree and a key, the second what an insert inside it takes.
 #[test]
-#[tactic(auto, using(crate::proofs::Texts::clones_tie))]
 fn an_extend_keeps_what_the_inserts_keep(rt: HostRuntime) -> Result<(), Fail> {
     let heap = Refusing::new(rt.alloc(), MANY);
-    check_maker_refusals::<_, TreeNames<'_>>(&rt, &heap, (&OUTER, &INSERTED), 8)
+    // The first pair takes the tree. The second, inside it, takes a clone of its text.
+    check_kept::<_, TreeTexts<'_>>(&rt, &heap, (&GIVEN, &[(0..10, "a")]), 1)?;
+    // The first pair takes the tree and a key, the second what an insert inside it takes.
+    check_maker_refusals::<_, CostlyTree<'_>>(&rt, &heap, (&OUTER, &INSERTED), 8)
 }
 
 /// A map made of these two pairs.
 struct From;
 
 impl Trial for From {
-    #[tactic(auto, using(crate::proofs::Texts::clones_tie))]
     fn is_accepted<R: AllocGlobal + Abort>(&self, rt: &R, heap: &Heap, left: u64) -> Answer {
-        let outer = TreeNames::range(heap, &("a", "k"))?;
-        let inner = TreeNames::range(heap, &("c", "f"))?;
+        let outer = CostlyTree::range(heap, &(0, 10))?;
+        let inner = CostlyTree::range(heap, &(2, 5))?;
         heap.refuse_after(left);
         let answer = RangeMap::from(heap, [(outer, 'a'), (inner, 'b')]);
         heap.refuse_after(MANY);
@@ -45,22 +39,14 @@ impl Trial for From {
     }
 }
 
-#[test]
-fn a_map_of_pairs_may_be_refused(rt: HostRuntime) -> Result<(), Fail> {
-    // what an extend takes, and the list through which the array is read
-    assert_eq!(rt; count_refusals(&rt, &From)?, 9);
-    Ok(())
-}
-
 /// A replay that makes a map, clones it and changes both.
 struct Replay;
 
 impl Trial for Replay {
-    #[tactic(auto, using(crate::proofs::Texts::clones_tie))]
     fn is_accepted<R: AllocGlobal + Abort>(&self, rt: &R, heap: &Heap, left: u64) -> Answer {
-        let mut maps: Vec<TreeNames<'_>, &Heap> = Vec::new(heap);
-        let outer = TreeNames::range(heap, &("a", "k"))?;
-        let inner = TreeNames::range(heap, &("c", "f"))?;
+        let mut maps: Vec<CostlyTree<'_>, &Heap> = Vec::new(heap);
+        let outer = CostlyTree::range(heap, &(0, 10))?;
+        let inner = CostlyTree::range(heap, &(2, 5))?;
         let calls = [
             Call::Change(Change::New),
             Call::Change(Change::Insert {
@@ -83,27 +69,23 @@ impl Trial for Replay {
 }
 
 #[test]
-fn a_replay_without_room_changes_nothing(rt: HostRuntime) -> Result<(), Fail> {
-    // three lists, the tree and a key of the first pair, the tree and three keys of the clone, and
-    // what a removal inside a pair takes
+fn what_makes_a_map_may_be_refused(rt: HostRuntime) -> Result<(), Fail> {
+    // what an extend takes, and the list through which the array is read
+    assert_eq!(rt; count_refusals(&rt, &From)?, 9);
+    // of a replay, which changes nothing without room, three lists, the tree and a key of the first
+    // pair, the tree and three keys of the clone, and what a removal inside a pair takes
     assert_eq!(rt; count_refusals(&rt, &Replay)?, 14);
     Ok(())
 }
 
 /// Two pairs, and the same once more.
-const TWICE: [(Ends, char); 4] = [
-    (("a", "c"), 'a'),
-    (("f", "k"), 'a'),
-    (("a", "c"), 'a'),
-    (("f", "k"), 'a'),
-];
+const TWICE: [((u8, u8), char); 4] = [((0, 2), 'a'), ((5, 10), 'a'), ((0, 2), 'a'), ((5, 10), 'a')];
 
 // A clone of either end of each pair. There is room for four.
 #[test]
-#[tactic(auto, using(crate::proofs::Texts::clones_tie))]
 fn a_refused_append_leaves_the_list(rt: HostRuntime) -> Result<(), Fail> {
     let heap = Refusing::new(rt.alloc(), MANY);
     let row = (PIECES.as_slice(), TWICE.as_slice());
-    check_append_refusals::<_, TreeNames<'_>>(&rt, &heap, row, &("b", "g"), 4)?;
-    check_append_refusals::<_, Names<'_>>(&rt, &heap, row, &("b", "g"), 4)
+    check_append_refusals::<_, CostlyTree<'_>>(&rt, &heap, row, &(1, 6), 4)?;
+    check_append_refusals::<_, CostlyMap<'_>>(&rt, &heap, row, &(1, 6), 4)
 }

@@ -2,10 +2,10 @@
 //! pairs over.
 
 use super::Map;
-use crate::iterators::check_counted_back;
+use crate::iterators::{check_counted_back, check_three};
 use rangemap::RangeInclusiveMap;
-use rows::{check_made, check_row};
-use std::process::Abort;
+use rows::{check_equal, check_made, check_row};
+use std::alloc::AllocError;
 use std::test::Fail;
 
 #[test]
@@ -23,31 +23,15 @@ fn pairs_are_inserted_in_order(rt: HostRuntime) -> Result<(), Fail> {
 #[test]
 fn equality_forgets_the_calls(rt: HostRuntime) -> Result<(), Fail> {
     let one: Map = RangeInclusiveMap::from(rt.alloc(), [(0..=9, 'a'), (3..=5, 'b'), (3..=5, 'a')])?;
-    check_equal(&rt, &one)?;
-    check_copy(&rt, &one)?;
-    check_shorter(&rt)
-}
-
-/// Compares a map with one that other calls made.
-fn check_equal<R: AllocGlobal + Abort>(rt: &R, one: &Map) -> Result<(), Fail> {
-    let other: Map = RangeInclusiveMap::from(rt.alloc(), [(0..=4, 'a'), (5..=9, 'a')])?;
-    assert!(rt; *one == other);
-    Ok(())
-}
-
-/// Compares a map with a copy of it.
-fn check_copy<R: Abort>(rt: &R, one: &Map) -> Result<(), Fail> {
-    let copy = one.clone()?;
-    assert!(rt; copy == *one);
-    Ok(())
-}
-
-/// Compares a map with a longer one.
-fn check_shorter<R: AllocGlobal + Abort>(rt: &R) -> Result<(), Fail> {
-    let shorter: Map = RangeInclusiveMap::from(rt.alloc(), [(0..=4, 'a')])?;
-    let longer: Map = RangeInclusiveMap::from(rt.alloc(), [(0..=5, 'a')])?;
-    assert!(rt; shorter != longer);
-    Ok(())
+    let joined = RangeInclusiveMap::from(rt.alloc(), [(0..=4, 'a'), (5..=9, 'a')]);
+    check_equal(one.clone(), joined, true)?;
+    check_equal(one.clone(), Ok(one), true)?;
+    let shorter: Result<Map, AllocError> = RangeInclusiveMap::from(rt.alloc(), [(0..=4, 'a')]);
+    check_equal(
+        shorter,
+        RangeInclusiveMap::from(rt.alloc(), [(0..=5, 'a')]),
+        false,
+    )
 }
 
 #[test]
@@ -63,12 +47,12 @@ fn a_chain_is_taken(rt: HostRuntime) -> Result<(), Fail> {
 }
 
 #[test]
-fn a_map_hands_its_pairs_over_from_both_ends(rt: HostRuntime) -> Result<(), Fail> {
+fn a_map_lends_and_hands_its_pairs_over(rt: HostRuntime) -> Result<(), Fail> {
+    let map = RangeInclusiveMap::from(rt.alloc(), [(0..=1u8, 'a'), (4..=5, 'b'), (8..=9, 'c')])?;
+    let pairs = ((&(0..=1), &'a'), (&(4..=5), &'b'), (&(8..=9), &'c'));
+    check_three(&rt, map.iter(), pairs, true);
     let map = RangeInclusiveMap::from(rt.alloc(), [(0..=1u32, 'a'), (4..=5, 'b'), (8..=8, 'c')])?;
-    check_counted_back(
-        &rt,
-        map.into_iter(),
-        ((0..=1, 'a'), (4..=5, 'b'), (8..=8, 'c')),
-    );
+    let pairs = ((0..=1, 'a'), (4..=5, 'b'), (8..=8, 'c'));
+    check_counted_back(&rt, map.into_iter(), pairs);
     Ok(())
 }

@@ -6,7 +6,6 @@ use rows::Call::Insert;
 use rows::tables::{Overlapped, check_free, check_queries};
 use std::alloc::Global;
 use std::ops::RangeInclusive;
-use std::process::Abort;
 use std::test::Fail;
 
 #[test]
@@ -42,25 +41,4 @@ fn what_nothing_covers_is_free(rt: HostRuntime) -> Result<(), Fail> {
             (&all, 0..=255, &[]),
         ],
     )
-}
-
-#[test]
-fn gaps_that_have_ended_stay_ended(rt: HostRuntime) -> Result<(), Fail> {
-    let map: Map = RangeInclusiveMap::new(rt.alloc());
-    take_gaps(&rt, &map)
-}
-
-/// Takes the one gap of an empty map, and asks on.
-fn take_gaps<R: Abort>(rt: &R, map: &Map) -> Result<(), Fail> {
-    let outer_range = 0..=3;
-    let mut gaps = map.gaps(&outer_range);
-    assert_eq!(rt; gaps.size_hint(), (0, None));
-    let taken = (
-        gaps.try_next(),
-        gaps.try_next(),
-        gaps.next(),
-        gaps.try_next(),
-    );
-    assert_eq!(rt; taken, (Ok(Some(0..=3)), Ok(None), None, Ok(None)));
-    Ok(())
 }

@@ -22,21 +22,14 @@ fn ranges_with_no_key_between_are_joined(rt: HostRuntime) -> Result<(), Fail> {
             &[0..=4294967295],
         ),
     ];
-    check_inserts::<Set>(rt.alloc(), &rows)
-}
-
-#[test]
-fn a_removal_cuts_what_it_meets(rt: HostRuntime) -> Result<(), Fail> {
+    check_inserts::<Set>(rt.alloc(), &rows)?;
+    // A removal cuts what it meets.
     let rows: [SetChanged<'_, RangeInclusive<u32>>; 3] = [
         (&[0..=9], 0..=9, &[]),
         (&[0..=9], 3..=5, &[0..=2, 6..=9]),
         (&[0..=2, 6..=9], 4..=4, &[0..=2, 6..=9]),
     ];
-    check_removals::<Set>(rt.alloc(), &rows)
-}
-
-#[test]
-fn a_byte_is_taken_out(rt: HostRuntime) -> Result<(), Fail> {
+    check_removals::<Set>(rt.alloc(), &rows)?;
     let bytes = [0..=255u8];
     let left = [0..=127, 129..=255];
     check_removals::<RangeInclusiveSet<u8, u8, Global>>(rt.alloc(), &[(&bytes, 128..=128, &left)])
@@ -44,8 +37,11 @@ fn a_byte_is_taken_out(rt: HostRuntime) -> Result<(), Fail> {
 
 #[test]
 fn the_range_that_has_a_key_is_found(rt: HostRuntime) -> Result<(), Fail> {
-    let set: Set = make_set(rt.alloc(), &[0..=100, 200..=300])?;
-    check_ranges(&rt, &set)
+    let mut set: Set = make_set(rt.alloc(), &[0..=100, 200..=300])?;
+    check_ranges(&rt, &set)?;
+    set.clear();
+    check_nothing(&set, &5)?;
+    check_set(&set, &[])
 }
 
 /// Looks keys up by the set's own calls.
@@ -58,12 +54,4 @@ fn check_ranges<R: Abort>(rt: &R, set: &Set) -> Result<(), Fail> {
         (Some(&(0..=100)), Some(&(200..=300)))
     );
     Ok(())
-}
-
-#[test]
-fn an_empty_set_has_nothing(rt: HostRuntime) -> Result<(), Fail> {
-    let mut set: Set = make_set(rt.alloc(), &[0..=100])?;
-    set.clear();
-    check_nothing(&set, &5)?;
-    check_set(&set, &[])
 }

@@ -1,7 +1,7 @@
 //! Rows about queries: which stored ranges a range overlaps, and which parts of it are free.
 
 use super::Set;
-use crate::iterators::check_found_three;
+use crate::iterators::check_three;
 use rangemap::RangeInclusiveSet;
 use rows::Call::Insert;
 use rows::make_set;
@@ -68,6 +68,6 @@ fn overlapping_ranges_come_from_both_ends(rt: HostRuntime) -> Result<(), Fail> {
     let set: Set = make_set(rt.alloc(), &[0..=1, 3..=3, 5..=5, 8..=9])?;
     let query = 1..=7;
     let found = set.overlapping(&query);
-    check_found_three(&rt, found, (&(0..=1), &(3..=3), &(5..=5)));
+    check_three(&rt, found, (&(0..=1), &(3..=3), &(5..=5)), false);
     Ok(())
 }

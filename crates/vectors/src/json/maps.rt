@@ -194,11 +194,7 @@ fn the_canonical_form_alone_is_read(rt: HostRuntime) -> Result<(), Fail> {
         Canonical,
         "[[[0,5],\"a\"],[[5,10],\"a\"]]",
         &Uncoalesced { at: 1 },
-    )
-}
-
-#[test]
-fn the_canonical_form_of_closed_ranges_alone_is_read(rt: HostRuntime) -> Result<(), Fail> {
+    )?;
     for text in [
         "[[[0,4],\"a\"],[[6,9],\"a\"]]",
         "[[[0,4],\"a\"],[[5,9],\"b\"]]",

@@ -6,14 +6,6 @@ use rows::{check_equal, check_made, check_row};
 use std::test::Fail;
 
 #[test]
-fn equality_forgets_the_calls(rt: HostRuntime) -> Result<(), Fail> {
-    let one = RangeMap::from(rt.alloc(), [(0u32..10, 'a'), (3..6, 'b'), (3..6, 'a')]);
-    check_equal(one, RangeMap::from(rt.alloc(), [(0u32..10, 'a')]), true)?;
-    let shorter = RangeMap::from(rt.alloc(), [(0u32..5, 'a')]);
-    check_equal(shorter, RangeMap::from(rt.alloc(), [(0u32..6, 'a')]), false)
-}
-
-#[test]
 fn pairs_are_inserted_in_order(rt: HostRuntime) -> Result<(), Fail> {
     let map = RangeMap::from(rt.alloc(), [(0u32..10, 'a'), (3..6, 'b')])?;
     check_row(&map, &[(0..3, 'a'), (3..6, 'b'), (6..10, 'a')])?;
@@ -32,7 +24,12 @@ fn pairs_are_inserted_in_order(rt: HostRuntime) -> Result<(), Fail> {
         ],
     )?;
     let made = RangeMap::from_iter(rt.alloc(), (0u32..3).map(|i| (0..i + 1, 'd')));
-    check_made(made, &[(0..3, 'd')])
+    check_made(made, &[(0..3, 'd')])?;
+    // Equality forgets the calls.
+    let one = RangeMap::from(rt.alloc(), [(0u32..10, 'a'), (3..6, 'b'), (3..6, 'a')]);
+    check_equal(one, RangeMap::from(rt.alloc(), [(0u32..10, 'a')]), true)?;
+    let shorter = RangeMap::from(rt.alloc(), [(0u32..5, 'a')]);
+    check_equal(shorter, RangeMap::from(rt.alloc(), [(0u32..6, 'a')]), false)
 }
 
 #[test]
@@ -46,26 +43,16 @@ fn an_array_and_a_chain_are_taken(rt: HostRuntime) -> Result<(), Fail> {
 }
 
 #[test]
-fn a_map_hands_its_pairs_over_from_both_ends(rt: HostRuntime) -> Result<(), Fail> {
+fn a_map_hands_its_pairs_over(rt: HostRuntime) -> Result<(), Fail> {
     let map = RangeMap::from(rt.alloc(), [(0u32..2, 'a'), (4..6, 'b'), (8..9, 'c')])?;
-    check_counted_back(
-        &rt,
-        map.into_iter(),
-        ((0..2, 'a'), (4..6, 'b'), (8..9, 'c')),
-    );
-    Ok(())
-}
-
-#[test]
-fn a_map_is_gone_through_by_value(rt: HostRuntime) -> Result<(), Fail> {
+    let pairs = ((0..2, 'a'), (4..6, 'b'), (8..9, 'c'));
+    check_counted_back(&rt, map.into_iter(), pairs);
     let map = RangeMap::from(rt.alloc(), [(0u32..10, 'a'), (3..6, 'b')])?;
     let mut starts = Vec::new(rt.alloc());
     for (range, value) in map {
         starts.push((range.start, value))?;
     }
-    assert_eq!(rt;
-        starts.as_slice(),
-        [(0, 'a'), (3, 'b'), (6, 'a')].as_slice()
-    );
+    let expected = [(0, 'a'), (3, 'b'), (6, 'a')];
+    assert_eq!(rt; starts.as_slice(), expected.as_slice());
     Ok(())
 }

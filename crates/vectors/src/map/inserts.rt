@@ -1,5 +1,4 @@
 //! Rows about `insert`, and about what the map then answers.
-ghost use Rattle.rangemap.specs.Clones.{KeysCloneFaithfully, ValuesCloneFaithfully};
 
 use super::{Map, TreeMap};
 use rangemap::{RangeMap, tree_map};
@@ -12,37 +11,47 @@ use std::test::Fail;
 
 #[test]
 fn what_is_covered_is_replaced(rt: HostRuntime) -> Result<(), Fail> {
-    check_replaced::<RangeMap<u32, bool, Global>>(rt.alloc())?;
-    check_replaced::<tree_map::RangeMap<u32, bool, Global>>(rt.alloc())
-}
-
-/// An insert inside a stored range, and one of its own value back.
-fn check_replaced<M>(alloc: Global) -> Result<(), Fail>
-where
-    M: InRows<RowRange = Range<u32>, RowValue = bool, Alloc = Global>,
-    requires faithful_keys { KeysCloneFaithfully M.Key.is_clone M.Key.cmp }
-    requires faithful_values { ValuesCloneFaithfully M.Value.is_clone M.Value.eq }
-{
-    let mut map = M::empty(alloc);
-    make(&mut map, alloc, &[Insert(0..10, false), Insert(3..6, true)])?;
-    check_row(&map, &[(0..3, false), (3..6, true), (6..10, false)])?;
-    make(&mut map, alloc, &[Insert(3..6, false)])?;
-    check_row(&map, &[(0..10, false)])
+    // inside a stored range, and its own value back
+    let rows: [Changed<'_, Range<u32>, bool>; 2] = [
+        (
+            &[Insert(0..10, false), Insert(3..6, true)],
+            &[(0..3, false), (3..6, true), (6..10, false)],
+        ),
+        (
+            &[
+                Insert(0..10, false),
+                Insert(3..6, true),
+                Insert(3..6, false),
+            ],
+            &[(0..10, false)],
+        ),
+    ];
+    check_changes::<RangeMap<u32, bool, Global>>(rt.alloc(), &rows)?;
+    check_changes::<tree_map::RangeMap<u32, bool, Global>>(rt.alloc(), &rows)?;
+    // all of three pairs and parts of two, and all of two that touch, with the value of one
+    let rows: [Changed<'_, Range<u32>, char>; 2] = [
+        (
+            &[
+                Insert(0..2, 'a'),
+                Insert(3..4, 'b'),
+                Insert(5..6, 'c'),
+                Insert(7..8, 'd'),
+                Insert(9..12, 'e'),
+                Insert(1..10, 'f'),
+            ],
+            &[(0..1, 'a'), (1..10, 'f'), (10..12, 'e')],
+        ),
+        (
+            &[Insert(5..8, 'a'), Insert(2..5, 'b'), Insert(2..8, 'b')],
+            &[(2..8, 'b')],
+        ),
+    ];
+    check_changes::<Map>(rt.alloc(), &rows)?;
+    check_changes::<TreeMap>(rt.alloc(), &rows)
 }
 
 #[test]
 fn pieces_are_kept_and_joined(rt: HostRuntime) -> Result<(), Fail> {
-    check_joined::<Map>(rt.alloc())?;
-    check_joined::<TreeMap>(rt.alloc())
-}
-
-/// Inserts that touch, fill what is free and cover what is stored.
-fn check_joined<M>(alloc: Global) -> Result<(), Fail>
-where
-    M: InRows<RowRange = Range<u32>, RowValue = char, Alloc = Global>,
-    requires faithful_keys { KeysCloneFaithfully M.Key.is_clone M.Key.cmp }
-    requires faithful_values { ValuesCloneFaithfully M.Value.is_clone M.Value.eq }
-{
     let rows: [Changed<'_, Range<u32>, char>; 4] = [
         (
             &[Insert(0..5, 'a'), Insert(5..9, 'b'), Insert(5..7, 'a')],
@@ -71,41 +80,8 @@ where
             &[(0..10, 'a')],
         ),
     ];
-    check_changes::<M>(alloc, &rows)
-}
-
-#[test]
-fn an_insert_covers_several(rt: HostRuntime) -> Result<(), Fail> {
-    check_covered::<Map>(rt.alloc())?;
-    check_covered::<TreeMap>(rt.alloc())
-}
-
-/// An insert that covers all of three pairs and parts of two, and one that covers all of two that
-/// touch, of which it has the value of one.
-fn check_covered<M>(alloc: Global) -> Result<(), Fail>
-where
-    M: InRows<RowRange = Range<u32>, RowValue = char, Alloc = Global>,
-    requires faithful_keys { KeysCloneFaithfully M.Key.is_clone M.Key.cmp }
-    requires faithful_values { ValuesCloneFaithfully M.Value.is_clone M.Value.eq }
-{
-    let rows: [Changed<'_, Range<u32>, char>; 2] = [
-        (
-            &[
-                Insert(0..2, 'a'),
-                Insert(3..4, 'b'),
-                Insert(5..6, 'c'),
-                Insert(7..8, 'd'),
-                Insert(9..12, 'e'),
-                Insert(1..10, 'f'),
-            ],
-            &[(0..1, 'a'), (1..10, 'f'), (10..12, 'e')],
-        ),
-        (
-            &[Insert(5..8, 'a'), Insert(2..5, 'b'), Insert(2..8, 'b')],
-            &[(2..8, 'b')],
-        ),
-    ];
-    check_changes::<M>(alloc, &rows)
+    check_changes::<Map>(rt.alloc(), &rows)?;
+    check_changes::<TreeMap>(rt.alloc(), &rows)
 }
 
 /// A number with a note. The number alone decides whether two are equal.

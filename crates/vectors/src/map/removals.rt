@@ -1,27 +1,13 @@
 //! Rows about `remove` and `clear`.
-ghost use Rattle.rangemap.specs.Clones.{KeysCloneFaithfully, ValuesCloneFaithfully};
-
 use super::{Map, TreeMap};
 use rows::Call::{Clear, Insert, Remove};
-use rows::InRows;
 use rows::tables::{Changed, check_changes};
-use std::alloc::Global;
 use std::ops::Range;
 use std::test::Fail;
 
 #[test]
 fn what_is_removed_is_cut_out(rt: HostRuntime) -> Result<(), Fail> {
-    check_removed::<Map>(rt.alloc())?;
-    check_removed::<TreeMap>(rt.alloc())
-}
-
-/// Removals inside one range, over several, of all of one and beside one, and a `clear`.
-fn check_removed<M>(alloc: Global) -> Result<(), Fail>
-where
-    M: InRows<RowRange = Range<u32>, RowValue = char, Alloc = Global>,
-    requires faithful_keys { KeysCloneFaithfully M.Key.is_clone M.Key.cmp }
-    requires faithful_values { ValuesCloneFaithfully M.Value.is_clone M.Value.eq }
-{
+    // inside one range, over several, of all of one and beside one, and a `clear`
     let rows: [Changed<'_, Range<u32>, char>; 6] = [
         (
             &[Insert(0..10, 'a'), Remove(3..6)],
@@ -47,5 +33,6 @@ where
         (&[Insert(0..2, 'a'), Remove(2..6)], &[(0..2, 'a')]),
         (&[Insert(0..10, 'a'), Insert(10..20, 'b'), Clear], &[]),
     ];
-    check_changes::<M>(alloc, &rows)
+    check_changes::<Map>(rt.alloc(), &rows)?;
+    check_changes::<TreeMap>(rt.alloc(), &rows)
 }

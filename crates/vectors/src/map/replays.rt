@@ -39,7 +39,7 @@ fn insert_inside_and_back(rt: HostRuntime) -> Result<(), Fail> {
 }
 
 #[test]
-fn two_that_touch(rt: HostRuntime) -> Result<(), Fail> {
+fn two_that_touch_and_remove_inside(rt: HostRuntime) -> Result<(), Fail> {
     let calls = [
         Call::Change(Change::New),
         Call::Change(Change::Insert {
@@ -66,11 +66,8 @@ fn two_that_touch(rt: HostRuntime) -> Result<(), Fail> {
         &[true; 4],
         maps.as_slice(),
         &[&[(0..7, 'a'), (7..9, 'b')]],
-    )
-}
-
-#[test]
-fn remove_inside(rt: HostRuntime) -> Result<(), Fail> {
+    )?;
+    // remove inside
     let calls = [
         Call::Change(Change::New),
         Call::Change(Change::Insert {

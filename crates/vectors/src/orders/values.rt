@@ -1,20 +1,8 @@
-//! What a map over closed ranges gives of its pairs: their count, and the newest of equal values.
+//! What a map over closed ranges keeps of equal values: the newest.
 
-use crate::iterators::check_counted;
 use crate::map::inserts::Noted;
 use rangemap::RangeInclusiveMap;
 use std::test::Fail;
-
-#[test]
-fn an_iterator_counts_what_is_left(rt: HostRuntime) -> Result<(), Fail> {
-    let map = RangeInclusiveMap::from(rt.alloc(), [(0..=1u8, 'a'), (4..=5, 'b'), (8..=9, 'c')])?;
-    check_counted(
-        &rt,
-        map.iter(),
-        ((&(0..=1), &'a'), (&(4..=5), &'b'), (&(8..=9), &'c')),
-    );
-    Ok(())
-}
 
 #[test]
 fn the_newest_of_equal_values_stays(rt: HostRuntime) -> Result<(), Fail> {

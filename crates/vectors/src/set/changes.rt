@@ -16,11 +16,8 @@ fn ranges_that_overlap_or_touch_are_joined(rt: HostRuntime) -> Result<(), Fail> 
         (&[0..3, 6..9], 3..7, &[0..9]),
         (&[0..10], 3..6, &[0..10]),
     ];
-    check_inserts::<Set>(rt.alloc(), &rows)
-}
-
-#[test]
-fn a_removal_cuts_what_it_meets(rt: HostRuntime) -> Result<(), Fail> {
+    check_inserts::<Set>(rt.alloc(), &rows)?;
+    // A removal cuts what it meets.
     let rows: [SetChanged<'_, Range<u32>>; 4] = [
         (&[0..10], 0..10, &[]),
         (&[0..10], 3..6, &[0..3, 6..10]),
@@ -32,8 +29,11 @@ fn a_removal_cuts_what_it_meets(rt: HostRuntime) -> Result<(), Fail> {
 
 #[test]
 fn the_range_that_has_a_key_is_found(rt: HostRuntime) -> Result<(), Fail> {
-    let set: Set = make_set(rt.alloc(), &[0..100, 200..300])?;
-    check_ranges(&rt, &set)
+    let mut set: Set = make_set(rt.alloc(), &[0..100, 200..300])?;
+    check_ranges(&rt, &set)?;
+    set.clear();
+    check_nothing(&set, &5)?;
+    check_set(&set, &[])
 }
 
 /// Looks keys up by the set's own calls.
@@ -46,12 +46,4 @@ fn check_ranges<R: Abort>(rt: &R, set: &Set) -> Result<(), Fail> {
         (Some(&(0..100)), Some(&(200..300)))
     );
     Ok(())
-}
-
-#[test]
-fn an_empty_set_has_nothing(rt: HostRuntime) -> Result<(), Fail> {
-    let mut set: Set = make_set(rt.alloc(), &[0..100])?;
-    set.clear();
-    check_nothing(&set, &5)?;
-    check_set(&set, &[])
 }

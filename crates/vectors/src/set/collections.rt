@@ -1,7 +1,7 @@
 //! Rows about sets that are made of ranges and of other sets, and that hand their ranges over.
 
 use super::Set;
-use crate::iterators::{check_counted, check_counted_back};
+use crate::iterators::{check_counted_back, check_three};
 use rangemap::{RangeSet, range_set};
 use rows::{check_equality, check_made_set, check_set, make_set};
 use std::alloc::AllocError;
@@ -13,14 +13,9 @@ fn equality_forgets_the_calls(rt: HostRuntime) -> Result<(), Fail> {
     let mut set: Set = make_set(rt.alloc(), &[0..10])?;
     set.remove(3..6)?;
     set.insert(3..6)?;
-    check_others(&rt, &set)
-}
-
-/// Compares a set with equal and with other ones.
-fn check_others<R: AllocGlobal + Abort>(rt: &R, set: &Set) -> Result<(), Fail> {
-    check_equality(rt.alloc(), set, &[0..10], true)?;
-    check_equality(rt.alloc(), set, &[0..9], false)?;
-    check_equality(rt.alloc(), set, &[0..10, 11..12], false)
+    check_equality(rt.alloc(), &set, &[0..10], true)?;
+    check_equality(rt.alloc(), &set, &[0..9], false)?;
+    check_equality(rt.alloc(), &set, &[0..10, 11..12], false)
 }
 
 #[test]
@@ -40,13 +35,9 @@ fn extend_beside_a_copy<R: Abort>(rt: &R, set: &mut Set) -> Result<(), Fail> {
 }
 
 #[test]
-fn a_set_is_made_of_an_iterator(rt: HostRuntime) -> Result<(), Fail> {
+fn an_iterator_and_a_list_make_a_set(rt: HostRuntime) -> Result<(), Fail> {
     let made = RangeSet::from_iter(rt.alloc(), (0u32..3).map(|i| 10 * i..10 * i + 5));
-    check_made_set(made, &[0..5, 10..15, 20..25])
-}
-
-#[test]
-fn a_list_makes_a_set(rt: HostRuntime) -> Result<(), Fail> {
+    check_made_set(made, &[0..5, 10..15, 20..25])?;
     let made = range_set![in rt.alloc(); 0u32..100, 200..300, 400..500];
     check_made_set(made, &[0..100, 200..300, 400..500])?;
     let none: Result<Set, AllocError> = range_set![in rt.alloc();];
@@ -54,15 +45,9 @@ fn a_list_makes_a_set(rt: HostRuntime) -> Result<(), Fail> {
 }
 
 #[test]
-fn an_iterator_counts_what_is_left(rt: HostRuntime) -> Result<(), Fail> {
+fn a_set_lends_and_hands_its_ranges_over(rt: HostRuntime) -> Result<(), Fail> {
     let set: Set = make_set(rt.alloc(), &[0..2, 4..6, 8..9])?;
-    check_counted(&rt, set.iter(), (&(0..2), &(4..6), &(8..9)));
-    Ok(())
-}
-
-#[test]
-fn a_set_hands_its_ranges_over_from_both_ends(rt: HostRuntime) -> Result<(), Fail> {
-    let set: Set = make_set(rt.alloc(), &[0..2, 4..6, 8..9])?;
+    check_three(&rt, set.iter(), (&(0..2), &(4..6), &(8..9)), true);
     check_counted_back(&rt, set.into_iter(), (0..2, 4..6, 8..9));
     Ok(())
 }

@@ -33,7 +33,9 @@ fn both_sets_are_put_together(rt: HostRuntime) -> Result<(), Fail> {
 /// Compares the items and the sets that each row has.
 fn check_rows<R: AllocGlobal + Abort>(rt: &R, rows: &[Row<'_>]) -> Result<(), Fail> {
     for (left, right, hulls, either, common) in rows {
-        check_pair(rt, (*left, *right), (*hulls, *either), *common)?;
+        let left: Set = make_set(rt.alloc(), *left)?;
+        let right: Set = make_set(rt.alloc(), *right)?;
+        check_pair(&left, &right, (*hulls, *either), *common)?;
     }
     Ok(())
 }
@@ -41,59 +43,17 @@ fn check_rows<R: AllocGlobal + Abort>(rt: &R, rows: &[Row<'_>]) -> Result<(), Fa
 /// What a set has, as it stands in a row.
 type Ranges<'a> = &'a [Range<u32>];
 
-/// Makes both sets, and compares what they make.
-fn check_pair<R: AllocGlobal + Abort>(
-    rt: &R,
-    sets: (Ranges<'_>, Ranges<'_>),
-    union: (Ranges<'_>, Ranges<'_>),
+/// Compares the items of the union and the set of `|`, those of the intersection and the set of `&`.
+fn check_pair(
+    left: &Set,
+    right: &Set,
+    (hulls, either): (Ranges<'_>, Ranges<'_>),
     common: Ranges<'_>,
 ) -> Result<(), Fail> {
-    let left: Set = make_set(rt.alloc(), sets.0)?;
-    let right: Set = make_set(rt.alloc(), sets.1)?;
-    check_union(rt, &left, &right, union)?;
-    check_intersection(rt, &left, &right, common)
-}
-
-/// Compares the items of the union, and the set of `|`.
-fn check_union<R: Abort>(
-    rt: &R,
-    left: &Set,
-    right: &Set,
-    row: (Ranges<'_>, Ranges<'_>),
-) -> Result<(), Fail> {
-    check_items::<Set, _>(left.union(right), row.0)?;
-    check_made_set(left | right, row.1)
-}
-
-/// Compares the items of the intersection, and the set of `&`.
-fn check_intersection<R: Abort>(
-    rt: &R,
-    left: &Set,
-    right: &Set,
-    row: Ranges<'_>,
-) -> Result<(), Fail> {
-    check_items::<Set, _>(left.intersection(right), row)?;
-    check_made_set(left & right, row)
-}
-
-#[test]
-fn items_that_have_ended_stay_ended(rt: HostRuntime) -> Result<(), Fail> {
-    let left: Set = make_set(rt.alloc(), &[0..5])?;
-    let right: Set = make_set(rt.alloc(), &[3..10])?;
-    take_items(&rt, &left, &right)
-}
-
-/// Takes the one item of the union and that of the intersection, and asks on.
-fn take_items<R: Abort>(rt: &R, left: &Set, right: &Set) -> Result<(), Fail> {
-    let mut items = left.union(right);
-    assert_eq!(rt; items.size_hint(), (0, None));
-    let taken = (items.try_next(), items.try_next(), items.next());
-    assert_eq!(rt; taken, (Ok(Some(0..10)), Ok(None), None));
-    let mut items = left.intersection(right);
-    assert_eq!(rt; items.size_hint(), (0, None));
-    let taken = (items.try_next(), items.try_next(), items.next());
-    assert_eq!(rt; taken, (Ok(Some(3..5)), Ok(None), None));
-    Ok(())
+    check_items::<Set, _>(left.union(right), hulls)?;
+    check_made_set(left | right, either)?;
+    check_items::<Set, _>(left.intersection(right), common)?;
+    check_made_set(left & right, common)
 }
 
 #[test]
@@ -112,8 +72,8 @@ fn without_the_first<R: Abort>(
     right: &Set,
 ) -> Result<(), Fail> {
     assert_eq!(rt; (one.next(), other.next()), (Some(&(0..2)), Some(&(0..2))));
-    check_common(rt, one, right, &[5..6, 8..9])?;
-    check_either(rt, other, right, &[4..10])
+    check_items::<Set, _>(Intersection::new(one, right.iter()), &[5..6, 8..9])?;
+    check_items::<Set, _>(Union::new(other, right.iter()), &[4..10])
 }
 
 /// Takes the last range of each iterator, and compares what the rest and a set make.
@@ -127,66 +87,23 @@ fn without_the_last<R: Abort>(
         (one.next_back(), other.next_back()),
         (Some(&(8..10)), Some(&(8..10)))
     );
-    check_either(rt, one, right, &[0..2, 4..9])?;
-    check_common(rt, other, right, &[5..6])
-}
-
-/// Compares what the rest of a set and another set have in common.
-fn check_common<R: Abort>(
-    rt: &R,
-    rest: Iter<'_, u32>,
-    right: &Set,
-    row: Ranges<'_>,
-) -> Result<(), Fail> {
-    check_items::<Set, _>(Intersection::new(rest, right.iter()), row)
-}
-
-/// Compares what either the rest of a set or another set has.
-fn check_either<R: Abort>(
-    rt: &R,
-    rest: Iter<'_, u32>,
-    right: &Set,
-    row: Ranges<'_>,
-) -> Result<(), Fail> {
-    check_items::<Set, _>(Union::new(rest, right.iter()), row)
+    check_items::<Set, _>(Union::new(one, right.iter()), &[0..2, 4..9])?;
+    check_items::<Set, _>(Intersection::new(other, right.iter()), &[5..6])
 }
 
 #[test]
 fn what_is_common_distributes(rt: HostRuntime) -> Result<(), Fail> {
     let first: Set = make_set(rt.alloc(), &[0..5])?;
     let second: Set = make_set(rt.alloc(), &[5..10])?;
-    check_distributed(&rt, &first, &second)
-}
-
-/// Compares what either set has in common with a third, and what each has in common with it.
-fn check_distributed<R: AllocGlobal + Abort>(
-    rt: &R,
-    first: &Set,
-    second: &Set,
-) -> Result<(), Fail> {
     let third: Set = make_set(rt.alloc(), &[3..7])?;
-    check_common_of_either(rt, first, second, &third)?;
-    check_either_of_common(rt, first, second, &third)
+    check_distributed(&first, &second, &third)
 }
 
-/// Compares what either of two sets has in common with a third.
-fn check_common_of_either<R: Abort>(
-    rt: &R,
-    first: &Set,
-    second: &Set,
-    third: &Set,
-) -> Result<(), Fail> {
+/// Compares what either of two sets has in common with a third, and what each has in common with
+/// it, put together.
+fn check_distributed(first: &Set, second: &Set, third: &Set) -> Result<(), Fail> {
     let either = (first | second)?;
-    check_made_set(&either & third, &[3..7])
-}
-
-/// Compares what each of two sets has in common with a third, put together.
-fn check_either_of_common<R: Abort>(
-    rt: &R,
-    first: &Set,
-    second: &Set,
-    third: &Set,
-) -> Result<(), Fail> {
+    check_made_set(&either & third, &[3..7])?;
     let left = (first & third)?;
     let right = (second & third)?;
     check_made_set(&left | &right, &[3..7])

@@ -1,11 +1,10 @@
 //! Rows about queries: which stored ranges a range overlaps, and which parts of it are free.
 
 use super::Set;
-use crate::iterators::check_found_three;
+use crate::iterators::check_three;
 use rows::Call::Insert;
 use rows::make_set;
 use rows::tables::{check_free, check_queries};
-use std::process::Abort;
 use std::test::Fail;
 
 #[test]
@@ -29,22 +28,6 @@ fn what_nothing_covers_is_free(rt: HostRuntime) -> Result<(), Fail> {
 }
 
 #[test]
-fn gaps_that_have_ended_stay_ended(rt: HostRuntime) -> Result<(), Fail> {
-    let set: Set = make_set(rt.alloc(), &[1..3])?;
-    take_gaps(&rt, &set)
-}
-
-/// Takes the one gap, and asks on.
-fn take_gaps<R: Abort>(rt: &R, set: &Set) -> Result<(), Fail> {
-    let outer_range = 0..3;
-    let mut gaps = set.gaps(&outer_range);
-    assert_eq!(rt; gaps.size_hint(), (0, None));
-    let taken = (gaps.try_next(), gaps.try_next(), gaps.next());
-    assert_eq!(rt; taken, (Ok(Some(0..1)), Ok(None), None));
-    Ok(())
-}
-
-#[test]
 fn a_query_may_be_empty_or_reversed(rt: HostRuntime) -> Result<(), Fail> {
     let (early, late) = ([Insert(3..8, ())], [Insert(5..8, ())]);
     let stored = [(3..8, ())];
@@ -65,6 +48,6 @@ fn overlapping_ranges_come_from_both_ends(rt: HostRuntime) -> Result<(), Fail> {
     let set: Set = make_set(rt.alloc(), &[0..2, 3..4, 5..6, 8..9])?;
     let query = 1..8;
     let found = set.overlapping(&query);
-    check_found_three(&rt, found, (&(0..2), &(3..4), &(5..6)));
+    check_three(&rt, found, (&(0..2), &(3..4), &(5..6)), false);
     Ok(())
 }

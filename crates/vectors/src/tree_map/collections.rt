@@ -11,7 +11,6 @@ use rows::Call::{Clear, Insert};
 use rows::tables::{Changed, check_changes};
 use rows::{check_equal, check_made, check_row, make};
 use std::ops::Range;
-use std::process::Abort;
 use std::test::Fail;
 
 #[test]
@@ -22,19 +21,20 @@ fn a_map_is_made_of_pairs_and_of_a_map(rt: HostRuntime) -> Result<(), Fail> {
     check_made(made, &[(0..3, 'd')])?;
     let map: Map = RangeMap::from(rt.alloc(), [(0..2, 'a'), (4..6, 'b')])?;
     check_made(map.clone(), &[(0..2, 'a'), (4..6, 'b')])?;
+    let mut map: Map = RangeMap::from(rt.alloc(), [(0..10, 'a')])?;
+    map.extend((1u32..3).map(|i| (10 * i..10 * i + 5, 'c')))?;
+    check_row(&map, &[(0..10, 'a'), (10..15, 'c'), (20..25, 'c')])?;
+    // Equality forgets the calls.
+    let one = RangeMap::from(rt.alloc(), [(0u32..10, 'a'), (3..6, 'b'), (3..6, 'a')]);
+    check_equal(one, RangeMap::from(rt.alloc(), [(0u32..10, 'a')]), true)?;
+    let shorter = RangeMap::from(rt.alloc(), [(0u32..5, 'a')]);
+    check_equal(shorter, RangeMap::from(rt.alloc(), [(0u32..6, 'a')]), false)?;
     // One that was cleared takes pairs again.
     let rows: [Changed<'_, Range<u32>, char>; 1] = [(
         &[Insert(0..10, 'a'), Clear, Insert(1..2, 'b')],
         &[(1..2, 'b')],
     )];
     check_changes::<Map>(rt.alloc(), &rows)
-}
-
-#[test]
-fn an_extend_keeps_what_was_there(rt: HostRuntime) -> Result<(), Fail> {
-    let mut map: Map = RangeMap::from(rt.alloc(), [(0..10, 'a')])?;
-    map.extend((1u32..3).map(|i| (10 * i..10 * i + 5, 'c')))?;
-    check_row(&map, &[(0..10, 'a'), (10..15, 'c'), (20..25, 'c')])
 }
 
 #[test]
@@ -48,20 +48,16 @@ fn a_map_hands_its_pairs_over_from_both_ends(rt: HostRuntime) -> Result<(), Fail
     Ok(())
 }
 
+// Greater are one that goes on, one of fewer pairs whose first range is longer, and one with another
+// value.
 #[test]
 fn maps_lie_by_their_first_difference(rt: HostRuntime) -> Result<(), Fail> {
-    let map: Map = RangeMap::from(rt.alloc(), [(0..2, 'a'), (4..6, 'b')])?;
-    check_greater(&rt, &map)
-}
-
-/// Compares a map with greater ones: one that goes on, one of fewer pairs whose first range is
-/// longer, and one with another value.
-fn check_greater<R: AllocGlobal + Abort>(rt: &R, map: &Map) -> Result<(), Fail> {
     let alloc = rt.alloc();
+    let map: Map = RangeMap::from(alloc, [(0..2, 'a'), (4..6, 'b')])?;
     let more = RangeMap::from(alloc, [(0..2, 'a'), (4..6, 'b'), (8..9, 'c')]);
-    assert_less_than(rt, map, more)?;
-    assert_less_than(rt, map, RangeMap::from(alloc, [(0..3, 'a')]))?;
-    assert_less_than(rt, map, RangeMap::from(alloc, [(0..2, 'a'), (4..6, 'c')]))
+    assert_less_than(&rt, &map, more)?;
+    assert_less_than(&rt, &map, RangeMap::from(alloc, [(0..3, 'a')]))?;
+    assert_less_than(&rt, &map, RangeMap::from(alloc, [(0..2, 'a'), (4..6, 'c')]))
 }
 
 #[test]
@@ -78,23 +74,6 @@ fn each_part_of_a_pair_is_fed(rt: HostRuntime) -> Result<(), Fail> {
 }
 
 #[test]
-fn the_long_form_gives_each_pair_a_line(rt: HostRuntime) -> Result<(), Fail> {
-    assert_long_text(
-        &rt,
-        RangeMap::from(rt.alloc(), [(0u32..100, 'a'), (200..300, 'g')]),
-        "{\n    0..100: 'a',\n    200..300: 'g',\n}",
-    )
-}
-
-#[test]
-fn equality_forgets_the_calls(rt: HostRuntime) -> Result<(), Fail> {
-    let one = RangeMap::from(rt.alloc(), [(0u32..10, 'a'), (3..6, 'b'), (3..6, 'a')]);
-    check_equal(one, RangeMap::from(rt.alloc(), [(0u32..10, 'a')]), true)?;
-    let shorter = RangeMap::from(rt.alloc(), [(0u32..5, 'a')]);
-    check_equal(shorter, RangeMap::from(rt.alloc(), [(0u32..6, 'a')]), false)
-}
-
-#[test]
 fn maps_are_written_in_braces(rt: HostRuntime) -> Result<(), Fail> {
     let mut map: Map = RangeMap::new(rt.alloc());
     assert_text(&rt, &map, "{}")?;
@@ -105,5 +84,11 @@ fn maps_are_written_in_braces(rt: HostRuntime) -> Result<(), Fail> {
     )?;
     assert_text(&rt, &map, "{0..100: 'a', 200..300: 'g'}")?;
     let signed = RangeMap::from(rt.alloc(), [(-3..0i8, 7u16)])?;
-    assert_text(&rt, &signed, "{-3..0: 7}")
+    assert_text(&rt, &signed, "{-3..0: 7}")?;
+    // The long form gives each pair a line.
+    assert_long_text(
+        &rt,
+        RangeMap::from(rt.alloc(), [(0u32..100, 'a'), (200..300, 'g')]),
+        "{\n    0..100: 'a',\n    200..300: 'g',\n}",
+    )
 }

@@ -73,14 +73,10 @@ fn check_answers<R: AllocGlobal + Abort>(
 }
 
 #[test]
-fn commands_are_answered_by_a_vector(rt: HostRuntime) -> Result<(), Fail> {
+fn commands_are_answered_by_a_vector_and_a_tree(rt: HostRuntime) -> Result<(), Fail> {
     let mut map: Map = RangeMap::new(rt.alloc());
     let answers = run(rt.alloc(), &mut map, commands(rt.alloc())?)?;
-    check_answers(&rt, answers.as_slice(), ANSWERS)
-}
-
-#[test]
-fn commands_are_answered_by_a_tree(rt: HostRuntime) -> Result<(), Fail> {
+    check_answers(&rt, answers.as_slice(), ANSWERS)?;
     let mut map: TreeMap = tree_map::RangeMap::new(rt.alloc());
     let answers = run(rt.alloc(), &mut map, commands(rt.alloc())?)?;
     check_answers(&rt, answers.as_slice(), ANSWERS)
