@@ -41,10 +41,8 @@ impl<R: Drop, A: Allocator> Iterator for IntoIter<R, A> {
     ghost remaining = { λ s. at_most (length s) };
 
     fn next(&mut self) -> Option<R> {
-        match self.pairs.next() {
-            Some((range, _)) => Some(range),
-            None => None,
-        }
+        let (range, ()) = self.pairs.next()?;
+        Some(range)
     }
 
     fn size_hint(&self) -> (usize, Option<usize>)
@@ -60,9 +58,7 @@ impl<R: Drop, A: Allocator> DoubleEndedIterator for IntoIter<R, A> {
     ghost next_back_gives = { TakesLast (λ range. range) };
 
     fn next_back(&mut self) -> Option<R> {
-        match self.pairs.next_back() {
-            Some((range, _)) => Some(range),
-            None => None,
-        }
+        let (range, ()) = self.pairs.next_back()?;
+        Some(range)
     }
 }

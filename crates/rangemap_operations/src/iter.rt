@@ -54,10 +54,8 @@ impl<'a, R: SetRange> Iterator for Iter<'a, R> {
     ghost remaining = { λ s. at_most (length s) };
 
     fn next(&mut self) -> Option<&'a R> {
-        match self.pairs.next() {
-            Some((range, _)) => Some(range),
-            None => None,
-        }
+        let (range, ()) = self.pairs.next()?;
+        Some(range)
     }
 
     fn size_hint(&self) -> (usize, Option<usize>)
@@ -73,9 +71,7 @@ impl<'a, R: SetRange> DoubleEndedIterator for Iter<'a, R> {
     ghost next_back_gives = { TakesLast deref };
 
     fn next_back(&mut self) -> Option<&'a R> {
-        match self.pairs.next_back() {
-            Some((range, _)) => Some(range),
-            None => None,
-        }
+        let (range, ()) = self.pairs.next_back()?;
+        Some(range)
     }
 }

@@ -91,16 +91,13 @@ impl<'a, O: Operation<R>, R: SetRange> Iterator for Combined<'a, O, R> {
     ghost remaining = { λ s. at_most (length s) };
 
     fn next(&mut self) -> Option<Result<R, AllocError>> {
-        match self.try_next() {
-            Ok(None) => None,
-            Ok(Some(item)) => Some(Ok(item)),
-            Err(error) => {
-                // a refusal is the last answer
-                self.left = &self.left[..0];
-                self.right = &self.right[..0];
-                Some(Err(error))
-            }
+        let item = self.try_next();
+        if item.is_err() {
+            // a refusal is the last answer
+            self.left = &self.left[..0];
+            self.right = &self.right[..0];
         }
+        item.transpose()
     }
 
     fn size_hint(&self) -> (usize, Option<usize>)

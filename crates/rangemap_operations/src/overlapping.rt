@@ -40,10 +40,8 @@ impl<'a, R: SetRange> Iterator for Overlapping<'a, R> {
     ghost remaining = { λ s. at_most (length s) };
 
     fn next(&mut self) -> Option<&'a R> {
-        match self.pairs.next() {
-            Some((range, _)) => Some(range),
-            None => None,
-        }
+        let (range, ()) = self.pairs.next()?;
+        Some(range)
     }
 
     fn size_hint(&self) -> (usize, Option<usize>)
@@ -59,9 +57,7 @@ impl<'a, R: SetRange> DoubleEndedIterator for Overlapping<'a, R> {
     ghost next_back_gives = { TakesLast deref };
 
     fn next_back(&mut self) -> Option<&'a R> {
-        match self.pairs.next_back() {
-            Some((range, _)) => Some(range),
-            None => None,
-        }
+        let (range, ()) = self.pairs.next_back()?;
+        Some(range)
     }
 }

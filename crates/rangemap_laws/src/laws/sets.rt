@@ -16,6 +16,9 @@ use rangemap_core::std_ext::StepFns;
 use rangemap_operations::combine::Combine;
 use std::alloc::AllocError;
 
+/// Both sides of a law, left and right.
+pub type Sides<M> = Result<(M, M), AllocError>;
+
 /// One of the two operators.
 pub enum Operator {
     /// `|`, the keys of either set.
@@ -48,11 +51,7 @@ impl Operator {
 }
 
 /// `a | b` equals `b | a`, and `a & b` equals `b & a`.
-pub fn commutes<M: Combine>(
-    operator: &Operator,
-    first: &M,
-    second: &M,
-) -> Result<(M, M), AllocError>
+pub fn commutes<M: Combine>(operator: &Operator, first: &M, second: &M) -> Sides<M>
     requires faithful_keys { KeysCloneFaithfully M.Key.is_clone M.Key.cmp }
     ensures left { IfOk result (λ sets. IsCanonOf M.Kind.kind M.Value.eq (joined operator.now (value_at M.Kind.kind (M.pairs first.now)) (value_at M.Kind.kind (M.pairs second.now))) (M.pairs sets.0)) }
     ensures right { IfOk result (λ sets. IsCanonOf M.Kind.kind M.Value.eq (joined operator.now (value_at M.Kind.kind (M.pairs second.now)) (value_at M.Kind.kind (M.pairs first.now))) (M.pairs sets.1)) }
@@ -64,12 +63,7 @@ pub fn commutes<M: Combine>(
 }
 
 /// `(a | b) | c` equals `a | (b | c)`, and `(a & b) & c` equals `a & (b & c)`.
-pub fn associates<M: Combine>(
-    operator: &Operator,
-    first: &M,
-    second: &M,
-    third: &M,
-) -> Result<(M, M), AllocError>
+pub fn associates<M: Combine>(operator: &Operator, first: &M, second: &M, third: &M) -> Sides<M>
     requires faithful_keys { KeysCloneFaithfully M.Key.is_clone M.Key.cmp }
     ensures left { IfOk result (λ sets. IsCanonOf M.Kind.kind M.Value.eq (joined operator.now (joined operator.now (value_at M.Kind.kind (M.pairs first.now)) (value_at M.Kind.kind (M.pairs second.now))) (value_at M.Kind.kind (M.pairs third.now))) (M.pairs sets.0)) }
     ensures right { IfOk result (λ sets. IsCanonOf M.Kind.kind M.Value.eq (joined operator.now (value_at M.Kind.kind (M.pairs first.now)) (joined operator.now (value_at M.Kind.kind (M.pairs second.now)) (value_at M.Kind.kind (M.pairs third.now)))) (M.pairs sets.1)) }
@@ -109,12 +103,7 @@ pub fn absorbs<M: Combine>(operator: &Operator, first: &M, second: &M) -> Result
 
 /// `a | (b & c)` equals `(a | b) & (a | c)`, and `a & (b | c)` equals `(a & b) | (a & c)`. The operator
 /// is the outer one of the left side.
-pub fn distributes<M: Combine>(
-    operator: &Operator,
-    first: &M,
-    second: &M,
-    third: &M,
-) -> Result<(M, M), AllocError>
+pub fn distributes<M: Combine>(operator: &Operator, first: &M, second: &M, third: &M) -> Sides<M>
     requires faithful_keys { KeysCloneFaithfully M.Key.is_clone M.Key.cmp }
     ensures left { IfOk result (λ sets. IsCanonOf M.Kind.kind M.Value.eq (joined operator.now (value_at M.Kind.kind (M.pairs first.now)) (joined (other_of operator.now) (value_at M.Kind.kind (M.pairs second.now)) (value_at M.Kind.kind (M.pairs third.now)))) (M.pairs sets.0)) }
     ensures right { IfOk result (λ sets. IsCanonOf M.Kind.kind M.Value.eq (joined (other_of operator.now) (joined operator.now (value_at M.Kind.kind (M.pairs first.now)) (value_at M.Kind.kind (M.pairs second.now))) (joined operator.now (value_at M.Kind.kind (M.pairs first.now)) (value_at M.Kind.kind (M.pairs third.now)))) (M.pairs sets.1)) }

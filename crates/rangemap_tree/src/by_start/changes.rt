@@ -20,28 +20,6 @@ impl<K: Ord + Drop, V: Drop, A: Allocator> ByStart<K, V, A> {
         self.tree = None;
     }
 
-    // Puts a pair in, in the place of one that starts where it does. `key` is a clone of its start.
-    // Where the memory or a clone of the allocator is refused, the range is given back.
-    fn put(&mut self, key: K, range: Range<K>, value: V) -> Result<(), Range<K>>
-    where
-        A: Clone,
-        requires { K.cmp key range.start ≡ Equal }
-        ensures ok { OnOk result (self.new ≡ before K.cmp key self.old ++ (range, value) ∷ past K.cmp key self.old) }
-        ensures err { OnErr result (self.new ≡ self.old) }
-        ensures given_back { IfErr result (λ refused. refused ≡ range) }
-    {
-        if let Some(tree) = &mut self.tree {
-            return insert(tree, key, range, value);
-        }
-        let Ok(alloc) = self.alloc.clone() else {
-            return Err(range);
-        };
-        let mut tree = BTreeMap::new(alloc);
-        insert(&mut tree, key, range, value)?;
-        self.tree = Some(tree);
-        Ok(())
-    }
-
     // Takes the pair out that starts at `key`, if one does.
     fn take(&mut self, key: &K)
         ensures { self.new ≡ without K.cmp key.now self.old }
@@ -74,11 +52,31 @@ impl<K: Ord + Drop, V: Drop, A: Allocator> ByStart<K, V, A> {
             set_range(tree, range);
         }
     }
+}
+
+impl<K: Ord + Drop, V: Drop, A: Allocator + Clone> ByStart<K, V, A> {
+    // Puts a pair in, in the place of one that starts where it does. `key` is a clone of its start.
+    // Where the memory or a clone of the allocator is refused, the range is given back.
+    fn put(&mut self, key: K, range: Range<K>, value: V) -> Result<(), Range<K>>
+        requires { K.cmp key range.start ≡ Equal }
+        ensures ok { OnOk result (self.new ≡ before K.cmp key self.old ++ (range, value) ∷ past K.cmp key self.old) }
+        ensures err { OnErr result (self.new ≡ self.old) }
+        ensures given_back { IfErr result (λ refused. refused ≡ range) }
+    {
+        if let Some(tree) = &mut self.tree {
+            return insert(tree, key, range, value);
+        }
+        let Ok(alloc) = self.alloc.clone() else {
+            return Err(range);
+        };
+        let mut tree = BTreeMap::new(alloc);
+        insert(&mut tree, key, range, value)?;
+        self.tree = Some(tree);
+        Ok(())
+    }
 
     // Puts the piece in, if there is one.
     fn put_piece(&mut self, piece: Option<(K, (Range<K>, V))>) -> Result<(), AllocError>
-    where
-        A: Clone,
         requires { IsKeyed K.cmp piece }
         ensures ok { OnOk result (self.new ≡ with_piece K.cmp piece self.old) }
         ensures err { OnErr result (self.new ≡ self.old) }
@@ -102,8 +100,6 @@ impl<K: Ord + Drop, V: Drop, A: Allocator> ByStart<K, V, A> {
         value: V,
         piece: Option<(K, (Range<K>, V))>,
     ) -> Result<(), AllocError>
-    where
-        A: Clone,
         requires key { K.cmp key range.start ≡ Equal }
         requires piece { IsNewAt K.cmp range.end piece self.old }
         ensures ok { OnOk result (self.new ≡ before K.cmp key (with_piece K.cmp piece self.old) ++ (range, value) ∷ past K.cmp key (with_piece K.cmp piece self.old)) }
@@ -138,8 +134,6 @@ impl<K: Ord + Drop, V: Drop, A: Allocator> ByStart<K, V, A> {
         piece: Option<(K, (Range<K>, V))>,
         starts: &[K],
     ) -> Result<(), AllocError>
-    where
-        A: Clone,
         requires key { K.cmp key range.start ≡ Equal }
         requires non_empty { K.cmp range.start range.end ≡ Less }
         requires cut { IsCutThere K.cmp range.start cut self.old }
@@ -168,8 +162,6 @@ impl<K: Ord + Drop, V: Drop, A: Allocator> ByStart<K, V, A> {
         piece: Option<(K, (Range<K>, V))>,
         starts: &[K],
     ) -> Result<(), AllocError>
-    where
-        A: Clone,
         requires non_empty { K.cmp range.start range.end ≡ Less }
         requires in_order { before K.cmp range.start self.old ++ from K.cmp range.start self.old ≡ self.old }
         requires cut { IsCutThere K.cmp range.start cut self.old }
