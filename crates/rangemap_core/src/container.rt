@@ -25,10 +25,10 @@ mod inserts;
 pub use appends::{append_clones, append_gaps};
 pub use inserts::insert_pairs;
 
-/// A map of disjoint ranges to values, two of which are equal where their pairs are.
+/// A container of disjoint ranges to values, two of which are equal where their pairs are.
 ///
-/// Each method is the map's own public call, at its cost. Code that is generic over maps, as the
-/// replay and the laws, is so proved of the calls that users make.
+/// Each method is the container's own public call, at its cost. Code that is generic over
+/// containers, as the replay and the laws, is so proved of the calls that users make.
 pub trait Container: PartialEq + Drop {
     /// What the ranges are over.
     type Key: Ord + Clone;
@@ -48,18 +48,18 @@ pub trait Container: PartialEq + Drop {
     /// The stored pairs, in order.
     ghost pairs: { Self → List (Self.Range × Self.Value) };
 
-    /// Does nothing, and tells that the list of a map at hand is canonical.
+    /// Does nothing, and tells that the list of a container at hand is canonical.
     fn known(&self)
         ensures { IsCanonical Self.Kind.kind Self.Value.eq (pairs self.now) };
 
-    /// Makes an empty map, whose memory will come from `alloc`: by `new`, or by `new_with_step_fns`
-    /// where there is one.
+    /// Makes an empty container, whose memory will come from `alloc`: by `new`, or by
+    /// `new_with_step_fns` where there is one.
     fn empty(alloc: Self::Alloc) -> Self
         ensures { pairs result ≡ [] };
 
     /// Gives every key of `range`, which is not empty, the `value`, whatever it had before. The
     /// caller sees to it that a clone of a key or value equals its original. `Err` says that memory
-    /// or a clone was refused: then the map is as it was.
+    /// or a clone was refused: then the container is as it was.
     fn insert(&mut self, range: Self::Range, value: Self::Value) -> Result<(), AllocError>
         requires non_empty { Self.Kind.kind.IsNonEmpty range }
         requires faithful_keys { KeysCloneFaithfully Self.Key.is_clone Self.Key.cmp }
@@ -169,9 +169,9 @@ pub trait TryClone: Container {
         ensures canon { IfOk result (λ copy. IsCanonOf Self.Kind.kind Self.Value.eq (value_at Self.Kind.kind (Self.pairs self.now)) (Self.pairs copy)) };
 }
 
-/// A map that also takes the pairs of an iterator, one after another.
+/// A container that also takes the pairs of an iterator, one after another.
 pub trait Collect: Container {
-    /// Makes an empty map by `new`. It takes no memory yet.
+    /// Makes an empty container by `new`. It takes no memory yet.
     fn new(alloc: Self::Alloc) -> Self
         ensures { Self.pairs result ≡ [] };
 
@@ -188,7 +188,7 @@ pub trait Collect: Container {
         requires faithful_values { ValuesCloneFaithfully Self.Value.is_clone Self.Value.eq }
         ensures { ExtendsWithItems I.into_iter_gives I.IntoIter.next_gives (λ old items new. Overrides Self.Kind.kind Self.Value.eq (Self.pairs old) items (Self.pairs new)) iter self.old self.new result };
 
-    /// The map of the items of `iter`, inserted in the order in which they come, in memory of
+    /// The container of the items of `iter`, inserted in the order in which they come, in memory of
     /// `alloc`. The conditions are those of `extend`. `Err` says that an insert was refused;
     /// nothing is made then.
     fn from_iter<I: IntoIterator<Item = (Self::Range, Self::Value)>>(
