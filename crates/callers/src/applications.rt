@@ -1,6 +1,7 @@
 //! What the crate `uses` stands for: each use once, at an example.
 ghost use Rattle.std.specs.Prelude.{◌≡◌};
 
+use crate::same::assert_same;
 use rangemap::range_inclusive_set;
 use std::ops::Range;
 use std::test::Fail;
@@ -20,7 +21,7 @@ fn only_what_is_missing_is_fetched(rt: HostRuntime) -> Result<(), Fail> {
     cache.fetched(1024..2048)?;
     let parts = cache.missing(rt.alloc(), &(256..4096))?;
     let wanted: [Range<u64>; 2] = [512..1024, 2048..4096];
-    assert_eq!(rt; parts.as_slice(), wanted.as_slice());
+    assert_same(&rt, parts.as_slice(), wanted.as_slice());
     cache.fetched(256..4096)?;
     assert!(rt; cache.missing(rt.alloc(), &(0..4096))?.is_empty());
     Ok(())
@@ -43,7 +44,7 @@ fn words_and_what_is_none(rt: HostRuntime) -> Result<(), Fail> {
 #[test]
 fn digits_by_the_macro(rt: HostRuntime) -> Result<(), Fail> {
     let digits = range_inclusive_set![in rt.alloc(); '0'..='4', '5'..='9']?;
-    assert_eq!(rt; digits.len(), 1);
+    assert_same(&rt, digits.len(), 1);
     assert!(rt; digits.contains(&'7') && !digits.contains(&'a'));
     Ok(())
 }
@@ -63,11 +64,11 @@ fn blocks_are_mapped_once(rt: HostRuntime) -> Result<(), Fail> {
     assert!(rt; extents.map(0, 1000, 8)?);
     assert!(rt; !extents.map(20, 1007, 2)?);
     assert!(rt; extents.map(20, 4, 2)?);
-    assert_eq!(rt; extents.physical(7), Some(1007));
-    assert_eq!(rt; extents.physical(21), Some(5));
+    assert_same(&rt, extents.physical(7), Some(1007));
+    assert_same(&rt, extents.physical(21), Some(5));
     extents.punch(2, 5)?;
-    assert_eq!(rt; extents.physical(5), None);
-    assert_eq!(rt; extents.physical(6), Some(1006));
+    assert_same(&rt, extents.physical(5), None);
+    assert_same(&rt, extents.physical(6), Some(1006));
     assert!(rt; extents.map(30, 1002, 4)?);
     Ok(())
 }
@@ -80,30 +81,30 @@ const LAST: u32 = 167772175;
 #[test]
 fn blocks_are_reserved_and_released(rt: HostRuntime) -> Result<(), Fail> {
     let mut planner = Planner::new(rt.alloc());
-    assert_eq!(rt; planner.reserve(FIRST, LAST, 7)?, true);
-    assert_eq!(rt; planner.reserve(LAST, LAST + 1, 8)?, false);
-    assert_eq!(rt; planner.owner(LAST), Some(7));
-    assert_eq!(rt; planner.first_free(FIRST)?, Some(0));
-    assert_eq!(rt; planner.first_free(FIRST + 1)?, Some(LAST + 1));
-    assert_eq!(rt; planner.first_free(u32::MAX)?, None);
+    assert_same(&rt, planner.reserve(FIRST, LAST, 7)?, true);
+    assert_same(&rt, planner.reserve(LAST, LAST + 1, 8)?, false);
+    assert_same(&rt, planner.owner(LAST), Some(7));
+    assert_same(&rt, planner.first_free(FIRST)?, Some(0));
+    assert_same(&rt, planner.first_free(FIRST + 1)?, Some(LAST + 1));
+    assert_same(&rt, planner.first_free(u32::MAX)?, None);
     planner.release(FIRST, LAST)?;
-    assert_eq!(rt; planner.first_free(u32::MAX)?, Some(0));
+    assert_same(&rt, planner.first_free(u32::MAX)?, Some(0));
     Ok(())
 }
 
 #[test]
 fn numbers_come_out_of_order(rt: HostRuntime) -> Result<(), Fail> {
     let mut received = Received::new(rt.alloc());
-    assert_eq!(rt; received.acknowledged(), None);
-    assert_eq!(rt; received.receive(0)?, true);
-    assert_eq!(rt; received.receive(2)?, true);
-    assert_eq!(rt; received.receive(2)?, false);
-    assert_eq!(rt; received.acknowledged(), Some(0));
-    assert_eq!(rt; received.lowest_missing(2), Some(3));
-    assert_eq!(rt; received.receive(1)?, true);
-    assert_eq!(rt; received.acknowledged(), Some(2));
-    assert_eq!(rt; received.receive(u64::MAX)?, true);
-    assert_eq!(rt; received.lowest_missing(u64::MAX), None);
+    assert_same(&rt, received.acknowledged(), None);
+    assert_same(&rt, received.receive(0)?, true);
+    assert_same(&rt, received.receive(2)?, true);
+    assert_same(&rt, received.receive(2)?, false);
+    assert_same(&rt, received.acknowledged(), Some(0));
+    assert_same(&rt, received.lowest_missing(2), Some(3));
+    assert_same(&rt, received.receive(1)?, true);
+    assert_same(&rt, received.acknowledged(), Some(2));
+    assert_same(&rt, received.receive(u64::MAX)?, true);
+    assert_same(&rt, received.lowest_missing(u64::MAX), None);
     Ok(())
 }
 
@@ -112,16 +113,16 @@ fn two_shifts_are_swapped(rt: HostRuntime) -> Result<(), Fail> {
     let mut rota = Rota::new(rt.alloc());
     rota.assign(8..16, 1)?;
     rota.assign(16..20, 2)?;
-    assert_eq!(rt; rota.on_at(15), Some(1));
-    assert_eq!(rt; rota.swap(9, 20)?, false);
-    assert_eq!(rt; rota.swap(9, 19)?, true);
-    assert_eq!(rt; rota.on_at(15), Some(2));
-    assert_eq!(rt; rota.on_at(16), Some(1));
+    assert_same(&rt, rota.on_at(15), Some(1));
+    assert_same(&rt, rota.swap(9, 20)?, false);
+    assert_same(&rt, rota.swap(9, 19)?, true);
+    assert_same(&rt, rota.on_at(15), Some(2));
+    assert_same(&rt, rota.on_at(16), Some(1));
     let day = 0..24;
     let mut free = rota.uncovered(&day);
-    assert_eq!(rt; free.try_next()?, Some(0..8));
-    assert_eq!(rt; free.try_next()?, Some(20..24));
-    assert_eq!(rt; free.try_next()?, None);
+    assert_same(&rt, free.try_next()?, Some(0..8));
+    assert_same(&rt, free.try_next()?, Some(20..24));
+    assert_same(&rt, free.try_next()?, None);
     Ok(())
 }
 
@@ -154,11 +155,11 @@ fn addresses_are_split_into_few_blocks(rt: HostRuntime) -> Result<(), Fail> {
     ];
     let first = u64::from(FIRST);
     let blocks = split(rt.alloc(), first + 5, first + 17)?;
-    assert_eq!(rt; blocks.as_slice(), wanted.as_slice());
+    assert_same(&rt, blocks.as_slice(), wanted.as_slice());
     let all = split(rt.alloc(), 0, 4_294_967_296)?;
     let whole = block(0, 0);
-    assert_eq!(rt; all.as_slice(), [whole].as_slice());
-    assert_eq!(rt; whole.size(), 4_294_967_296);
+    assert_same(&rt, all.as_slice(), [whole].as_slice());
+    assert_same(&rt, whole.size(), 4_294_967_296);
     assert!(rt; split(rt.alloc(), first, first)?.is_empty());
     Ok(())
 }
@@ -168,10 +169,10 @@ fn numbers_wait_until_they_are_delivered(rt: HostRuntime) -> Result<(), Fail> {
     let mut window = Window::new(rt.alloc());
     window.receive(4, 8)?;
     window.receive(0, 2)?;
-    assert_eq!(rt; window.next(), 0);
+    assert_same(&rt, window.next(), 0);
     assert!(rt; window.is_waiting(1) && !window.is_waiting(2) && window.is_waiting(4));
     window.deliver(6)?;
-    assert_eq!(rt; window.next(), 6);
+    assert_same(&rt, window.next(), 6);
     assert!(rt; !window.is_waiting(1) && !window.is_waiting(5) && window.is_waiting(7));
     Ok(())
 }

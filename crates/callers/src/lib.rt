@@ -4,4 +4,6 @@
 #[cfg(test)]
 mod applications;
 #[cfg(test)]
+mod same;
+#[cfg(test)]
 mod workloads;

@@ -1,5 +1,6 @@
 //! Each workload of the bench once, over two pairs.
 
+use crate::same::assert_same;
 use bench_workloads::digest::followed_by;
 use bench_workloads::input::{Entry, Query};
 use bench_workloads::store::{ClosedStore, HalfOpenStore, Store, TextStore, TreeStore};
@@ -44,15 +45,15 @@ fn assert_whole_map<S: Store, R: AllocGlobal + Abort>(rt: &R, values: Values) ->
     let first = FIRST + u64::from(values.0);
     let second = SECOND + u64::from(values.1);
     let digest = workloads::contents::<S>(rt.alloc(), &TWO, 1)?;
-    assert_eq!(rt; digest, followed_by(first, second));
+    assert_same(rt, digest, followed_by(first, second));
     let digest = workloads::iterations::<S>(rt.alloc(), &TWO, 1)?;
-    assert_eq!(rt; digest, first ^ second);
+    assert_same(rt, digest, first ^ second);
     let len = workloads::inserts::<S>(rt.alloc(), &TWO, 1)?;
-    assert_eq!(rt; len, 2);
+    assert_same(rt, len, 2);
     let len = workloads::clones::<S>(rt.alloc(), &TWO, 1)?;
-    assert_eq!(rt; len, 2);
+    assert_same(rt, len, 2);
     let equal = workloads::comparisons::<S>(rt.alloc(), &TWO, 1)?;
-    assert_eq!(rt; equal, 1);
+    assert_same(rt, equal, 1);
     Ok(())
 }
 
@@ -68,13 +69,13 @@ fn assert_queries<S: Store, R: AllocGlobal + Abort>(rt: &R, values: Values) -> R
     let first = u64::from(values.0);
     let second = u64::from(values.1);
     let value = workloads::lookups::<S>(rt.alloc(), &TWO, &ACROSS, 1)?;
-    assert_eq!(rt; value, first);
+    assert_same(rt, value, first);
     let digest = workloads::overlaps::<S>(rt.alloc(), &TWO, &ACROSS, 1)?;
-    assert_eq!(rt; digest, (FIRST + first) ^ (SECOND + second));
+    assert_same(rt, digest, (FIRST + first) ^ (SECOND + second));
     let gap = workloads::gaps::<S>(rt.alloc(), &TWO, &ACROSS, 1)?;
-    assert_eq!(rt; gap, 70);
+    assert_same(rt, gap, 70);
     let digest = workloads::removals::<S>(rt.alloc(), &TWO, &ACROSS, 1)?;
-    assert_eq!(rt; digest, followed_by(15 + first, 115 + second));
+    assert_same(rt, digest, followed_by(15 + first, 115 + second));
     Ok(())
 }
 

@@ -4,6 +4,7 @@
 //! less than its pairs would still hash alike where it is equal.
 ghost use Rattle.std.specs.Prelude.{◌≡◌, ◌+◌, ◌*◌, ◌%◌, ◌^◌, fold};
 
+use crate::same::assert_same;
 use rangemap::laws::comparisons::{equal_maps_hash_alike, equality_agrees_with_order};
 use rangemap::{RangeMap, range_inclusive_map, range_map};
 use std::alloc::{AllocError, Global};
@@ -81,11 +82,15 @@ fn the_laws_of_comparisons_make_their_calls(rt: HostRuntime) -> Result<(), Fail>
 /// Runs the laws on a map and a copy of it.
 fn check_same<R: Abort>(rt: &R, one: &RangeMap<u32, char, Global>) -> Result<(), Fail> {
     let same = one.clone()?;
-    assert!(rt; equality_agrees_with_order(one, &same) == (true, Ordering::Equal));
+    assert_same(
+        rt,
+        equality_agrees_with_order(one, &same),
+        (true, Ordering::Equal),
+    );
     let mut left = Folding(7);
     let mut right = Folding(7);
     equal_maps_hash_alike(one, &same, &mut left, &mut right);
-    assert!(rt; left.finish() == right.finish());
+    assert_same(rt, left.finish(), right.finish());
     assert!(rt; left.finish() != 7);
     Ok(())
 }
@@ -96,6 +101,10 @@ fn check_greater<R: AllocGlobal + Abort>(
     one: &RangeMap<u32, char, Global>,
 ) -> Result<(), Fail> {
     let greater = range_map! { in rt.alloc(); 0..6u32 => 'a' }?;
-    assert!(rt; equality_agrees_with_order(one, &greater) == (false, Ordering::Less));
+    assert_same(
+        rt,
+        equality_agrees_with_order(one, &greater),
+        (false, Ordering::Less),
+    );
     Ok(())
 }

@@ -1,5 +1,6 @@
 //! Rows over closed ranges.
 
+use crate::same::assert_same;
 use rangemap::RangeInclusiveMap;
 use rows::Call::{Clear, Insert, Remove};
 use rows::tables::{Changed, check_changes};
@@ -101,16 +102,18 @@ fn the_range_that_has_a_key_is_found(rt: HostRuntime) -> Result<(), Fail> {
 
 /// Looks keys up by the map's own calls.
 fn check_pairs<R: Abort>(rt: &R, map: &Map) -> Result<(), Fail> {
-    assert_eq!(rt;
+    assert_same(
+        rt,
         (map.get(&2), map.get(&5), map.get(&10)),
-        (Some(&'a'), Some(&'b'), None)
+        (Some(&'a'), Some(&'b'), None),
     );
-    assert_eq!(rt; map.get_key_value(&6), Some((&(6..=9), &'a')));
-    assert_eq!(rt;
+    assert_same(rt, map.get_key_value(&6), Some((&(6..=9), &'a')));
+    assert_same(
+        rt,
         (map.contains_key(&9), map.contains_key(&10)),
-        (true, false)
+        (true, false),
     );
     let ends = (map.first_range_value(), map.last_range_value());
-    assert_eq!(rt; ends, (Some((&(0..=2), &'a')), Some((&(6..=9), &'a'))));
+    assert_same(rt, ends, (Some((&(0..=2), &'a')), Some((&(6..=9), &'a'))));
     Ok(())
 }

@@ -2,6 +2,7 @@
 //!
 //! The items are taken by the laws of iterators, which make the calls of their names.
 
+use crate::same::assert_same;
 use rangemap::laws::iterators::{
     StaysEndedAtBack, StaysEndedByTries, next_back_ends_both_ends, next_ends_both_ends,
     next_ends_tries, next_stays_ended, try_next_ends_tries,
@@ -21,13 +22,17 @@ pub fn check_three<I: StaysEndedAtBack, R: Abort>(
 where
     I::Item: PartialEq + Debug + Drop,
 {
-    assert_eq!(rt; items.size_hint(), hint(3, is_counted));
-    assert_eq!(rt; next_ends_both_ends(&mut items), (Some(first), Some(last)));
-    assert_eq!(rt; items.size_hint(), hint(1, is_counted));
-    assert_eq!(rt; next_ends_both_ends(&mut items), (Some(middle), None));
-    assert_eq!(rt; items.size_hint(), hint(0, is_counted));
-    assert_eq!(rt; next_ends_both_ends(&mut items), (None, None));
-    assert_eq!(rt; items.size_hint(), hint(0, is_counted));
+    assert_same(rt, items.size_hint(), hint(3, is_counted));
+    assert_same(
+        rt,
+        next_ends_both_ends(&mut items),
+        (Some(first), Some(last)),
+    );
+    assert_same(rt, items.size_hint(), hint(1, is_counted));
+    assert_same(rt, next_ends_both_ends(&mut items), (Some(middle), None));
+    assert_same(rt, items.size_hint(), hint(0, is_counted));
+    assert_same(rt, next_ends_both_ends(&mut items), (None, None));
+    assert_same(rt, items.size_hint(), hint(0, is_counted));
 }
 
 /// What `size_hint` says where so many items are left.
@@ -48,13 +53,18 @@ pub fn check_counted_back<I: StaysEndedAtBack, R: Abort>(
 where
     I::Item: PartialEq + Debug + Drop,
 {
-    assert_eq!(rt; items.size_hint(), (3, Some(3)));
-    assert_eq!(rt; next_ends_both_ends(&mut items), (Some(first), Some(last)));
-    assert_eq!(rt;
-        next_back_ends_both_ends(&mut items),
-        (Some(middle), None, None)
+    assert_same(rt, items.size_hint(), (3, Some(3)));
+    assert_same(
+        rt,
+        next_ends_both_ends(&mut items),
+        (Some(first), Some(last)),
     );
-    assert_eq!(rt; items.size_hint(), (0, Some(0)));
+    assert_same(
+        rt,
+        next_back_ends_both_ends(&mut items),
+        (Some(middle), None, None),
+    );
+    assert_same(rt, items.size_hint(), (0, Some(0)));
 }
 
 /// Takes the one item of three iterators that are alike, by `next`, by `try_next`, and by calls
@@ -72,18 +82,20 @@ where
 {
     let (mut taken, mut tried, mut asked) = iterators;
     let (item, same, again) = items;
-    assert_eq!(rt; asked.size_hint(), (0, None));
-    assert_eq!(rt;
+    assert_same(rt, asked.size_hint(), (0, None));
+    assert_same(
+        rt,
         next_ends_tries(&mut taken),
-        (Some(Ok(item)), Ok(None), None)
+        (Some(Ok(item)), Ok(None), None),
     );
-    assert_eq!(rt;
+    assert_same(
+        rt,
         try_next_ends_tries(&mut tried),
-        (Ok(Some(same)), Ok(None), None)
+        (Ok(Some(same)), Ok(None), None),
     );
     let (first, second) = (asked.try_next(), asked.try_next());
-    assert_eq!(rt; (first, second), (Ok(Some(again)), Ok(None)));
-    assert_eq!(rt; (asked.next(), asked.try_next()), (None, Ok(None)));
+    assert_same(rt, (first, second), (Ok(Some(again)), Ok(None)));
+    assert_same(rt, (asked.next(), asked.try_next()), (None, Ok(None)));
 }
 
 /// An iterator that has one item gives it, and none from then on, whichever end is asked.
@@ -92,9 +104,10 @@ where
     I::Item: Drop,
 {
     let (item, again) = next_stays_ended(&mut front);
-    assert!(rt; item.is_some() && again.is_none());
+    assert_same(rt, (item.is_some(), again.is_some()), (true, false));
     let (item, last) = next_ends_both_ends(&mut front);
-    assert!(rt; item.is_none() && last.is_none());
+    assert_same(rt, (item.is_some(), last.is_some()), (false, false));
     let (item, again, first) = next_back_ends_both_ends(&mut back);
-    assert!(rt; item.is_some() && again.is_none() && first.is_none());
+    let found = (item.is_some(), again.is_some(), first.is_some());
+    assert_same(rt, found, (true, false, false));
 }

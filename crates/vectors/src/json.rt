@@ -5,6 +5,7 @@ ghost use Rattle.std.specs.Prelude.{◌≡◌, ◌<◌, ◌^◌, ℕ, IfOk, Ok a
 ghost use Rattle.serde_json.specs.Data.{number, unsigned};
 ghost use Rattle.serde_json.specs.View.{view};
 
+use crate::same::assert_same;
 use rangemap::{Form, ReadError, WriteError};
 use serde_json::Value;
 use std::alloc::{AllocError, AllocGlobal, Global};
@@ -90,7 +91,7 @@ pub fn check_written<M: InJson, R: AllocGlobal + Abort>(
     let Ok(value) = all.write(rt.alloc()) else {
         return Err(Fail::new("a container was not written"));
     };
-    assert_eq!(rt; value.to_string(rt.alloc())?.as_str(), text);
+    assert_same(rt, value.to_string(rt.alloc())?.as_str(), text);
     Ok(())
 }
 

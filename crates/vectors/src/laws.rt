@@ -4,6 +4,7 @@
 ghost use Rattle.std.specs.Prelude.{◌≡◌, ◌&&◌, false};
 ghost use Rattle.rangemap.specs.Clones.{KeysCloneFaithfully, ValuesCloneFaithfully};
 
+use crate::same::assert_same;
 use rangemap::laws;
 use rows::{Call, InRows, check_row, make};
 use std::alloc::{AllocGlobal, Global};
@@ -37,9 +38,17 @@ pub fn check_alike<M: InRows<Alloc = Global>, R: AllocGlobal + Abort>(
     requires faithful_values { ValuesCloneFaithfully M.Value.is_clone M.Value.eq }
 {
     let (left, mut right) = pair_of::<M, R>(rt, calls)?;
-    assert!(rt; laws::equal_exactly_when_alike(&left, &right) == (true, false));
+    assert_same(
+        rt,
+        laws::equal_exactly_when_alike(&left, &right),
+        (true, false),
+    );
     right.insert(range, value)?;
-    assert!(rt; laws::equal_exactly_when_alike(&left, &right) == (false, true));
+    assert_same(
+        rt,
+        laws::equal_exactly_when_alike(&left, &right),
+        (false, true),
+    );
     Ok(())
 }
 
@@ -91,7 +100,11 @@ pub fn check_twice<M: InRows<Alloc = Global>, R: AllocGlobal + Abort>(
     requires faithful_values { ValuesCloneFaithfully M.Value.is_clone M.Value.eq }
 {
     let (mut once, mut twice) = pair_of::<M, R>(rt, calls)?;
-    assert!(rt; laws::equal_exactly_when_alike(&once, &twice) == (true, false));
+    assert_same(
+        rt,
+        laws::equal_exactly_when_alike(&once, &twice),
+        (true, false),
+    );
     laws::insert_twice_equals_once(&mut once, &mut twice, range, value)?;
     check_row(&once, pairs)?;
     check_row(&twice, pairs)
@@ -112,7 +125,11 @@ pub fn check_commute<M: InRows<Alloc = Global>, R: AllocGlobal + Abort>(
     requires faithful_values { ValuesCloneFaithfully M.Value.is_clone M.Value.eq }
 {
     let (mut forth, mut back) = pair_of::<M, R>(rt, calls)?;
-    assert!(rt; laws::equal_exactly_when_alike(&forth, &back) == (true, false));
+    assert_same(
+        rt,
+        laws::equal_exactly_when_alike(&forth, &back),
+        (true, false),
+    );
     laws::inserts_commute(&mut forth, &mut back, first, second)?;
     check_row(&forth, pairs)?;
     check_row(&back, pairs)
@@ -131,7 +148,11 @@ pub fn check_taken_back<M: InRows<Alloc = Global>, R: AllocGlobal + Abort>(
     requires faithful_values { ValuesCloneFaithfully M.Value.is_clone M.Value.eq }
 {
     let (mut changed, mut removed) = pair_of::<M, R>(rt, calls)?;
-    assert!(rt; laws::equal_exactly_when_alike(&changed, &removed) == (true, false));
+    assert_same(
+        rt,
+        laws::equal_exactly_when_alike(&changed, &removed),
+        (true, false),
+    );
     laws::remove_after_insert_equals_remove(&mut changed, &mut removed, range, value)?;
     check_row(&changed, pairs)?;
     check_row(&removed, pairs)
@@ -150,7 +171,7 @@ pub fn check_parted<M: InRows<Alloc = Global>, R: AllocGlobal + Abort>(
     let mut map = M::empty(rt.alloc());
     make(&mut map, rt.alloc(), calls)?;
     let gaps = laws::gaps_and_covered_keys_make_up_a_range(rt.alloc(), &map, outer_range)?;
-    assert_eq!(rt; gaps.len(), expected.len());
+    assert_same(rt, gaps.len(), expected.len());
     for (gap, row) in gaps.iter().zip(expected) {
         assert!(rt; M::is_range(gap, row));
     }

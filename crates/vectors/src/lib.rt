@@ -29,6 +29,8 @@ mod order;
 #[cfg(test)]
 mod orders;
 #[cfg(test)]
+mod same;
+#[cfg(test)]
 mod searches;
 #[cfg(test)]
 mod segments;

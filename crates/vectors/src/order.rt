@@ -1,5 +1,6 @@
 //! Rows about the order of maps.
 
+use crate::same::assert_same;
 use rangemap::{RangeInclusiveMap, RangeMap, range_inclusive_map, range_map};
 use std::alloc::{AllocError, Global};
 use std::cmp::Ordering;
@@ -8,11 +9,10 @@ use std::test::Fail;
 
 /// Shows that one is less than the other, by `cmp`, by the operators and by `==`.
 fn assert_less<M: Ord, R: Abort>(rt: &R, less: &M, greater: &M) -> Result<(), Fail> {
-    assert!(rt; less.cmp(greater) == Ordering::Less);
-    assert!(rt; greater.cmp(less) == Ordering::Greater);
-    assert!(rt; less.partial_cmp(greater) == Some(Ordering::Less));
-    assert!(rt; less < greater);
-    assert!(rt; less != greater);
+    let both_ways = (less.cmp(greater), greater.cmp(less));
+    assert_same(rt, both_ways, (Ordering::Less, Ordering::Greater));
+    assert_same(rt, less.partial_cmp(greater), Some(Ordering::Less));
+    assert_same(rt, (less < greater, less == greater), (true, false));
     Ok(())
 }
 
@@ -42,7 +42,8 @@ fn maps_lie_by_their_first_difference(rt: HostRuntime) -> Result<(), Fail> {
     )?;
     assert_less_than(&rt, &first, range_map! { in alloc; 1..2 => 'a' })?;
     assert_less_than(&rt, &first, range_map! { in alloc; 0..5 => 'b' })?;
-    assert!(rt; first.cmp(&range_map! { in alloc; 0..5 => 'a' }?) == Ordering::Equal);
+    let same = range_map! { in alloc; 0..5 => 'a' }?;
+    assert_same(&rt, first.cmp(&same), Ordering::Equal);
     // A difference weighs more than the lengths.
     let longer = range_map! { in alloc; 0..5 => 'a', 7..8 => 'a' }?;
     assert_less_than(&rt, &longer, range_map! { in alloc; 0..6 => 'a' })
@@ -62,6 +63,7 @@ fn closed_maps_lie_by_their_first_difference(rt: HostRuntime) -> Result<(), Fail
     assert_less_than(&rt, &first, longer)?;
     assert_less_than(&rt, &first, range_inclusive_map! { in alloc; 1..=2 => 'a' })?;
     assert_less_than(&rt, &first, range_inclusive_map! { in alloc; 0..=5 => 'b' })?;
-    assert!(rt; first.cmp(&range_inclusive_map! { in alloc; 0..=5 => 'a' }?) == Ordering::Equal);
+    let same = range_inclusive_map! { in alloc; 0..=5 => 'a' }?;
+    assert_same(&rt, first.cmp(&same), Ordering::Equal);
     Ok(())
 }

@@ -1,4 +1,5 @@
 //! How many starts a search asks for.
+use crate::same::assert_same;
 use rangemap::RangeMap;
 use rangemap_core::entries::covering;
 use rangemap_core::half_open::HalfOpen;
@@ -32,16 +33,13 @@ fn covering_asks_by_halving(rt: HostRuntime) -> Result<(), Fail> {
     ];
     for (len, most) in table {
         let map = spread(rt.alloc(), len)?;
-        assert_eq!(rt; map.len(), usize::from(len));
+        assert_same(&rt, map.len(), usize::from(len));
         let pairs = map.iter().as_slice();
         for key in 0..3 * u32::from(len) + 1 {
             let (pair, asked) = covering::<HalfOpen, u32, Range<u32>, u8>(pairs, &key);
             assert!(rt; asked <= most, "{asked} asks for {key} among {len}");
-            assert_eq!(rt;
-                pair.is_some(),
-                key % 3 < 2 && key < 3 * u32::from(len),
-                "{key} among {len}"
-            );
+            let is_stored = key % 3 < 2 && key < 3 * u32::from(len);
+            assert_same(&rt, (key, len, pair.is_some()), (key, len, is_stored));
         }
     }
     Ok(())

@@ -3,6 +3,7 @@ ghost use Rattle.std.specs.Prelude.{◌≡◌, Some, ◌<◌, ◌+◌, ◌^◌, 
 ghost use Rattle.std.specs.declared.cmp.Ordering.TheVariants.{Less};
 ghost use Rattle.rangemap.specs.StepLaws.{nat_after, nat_before, nat_follows, nat_precedes};
 
+use crate::same::assert_same;
 use rangemap::{StepFns, StepLite};
 
 /// The key after one that has a greater.
@@ -97,16 +98,16 @@ impl StepFns<u8> for ByteSteps {
 
 #[test]
 fn one_step_leads_to_the_nearest_key(rt: HostRuntime) {
-    assert_eq!(rt; step_up(&254u8, &255), 255);
-    assert_eq!(rt; step_down(&1u8, &0), 0);
-    assert_eq!(rt; step_up(&126i8, &127), 127);
-    assert_eq!(rt; step_down(&-127i8, &-128), -128);
-    assert_eq!(rt; step_up(&0u8, &255), 1);
-    assert_eq!(rt; step_down(&255u8, &0), 254);
-    assert_eq!(rt; step_up(&-1i8, &127), 0);
-    assert_eq!(rt; step_down(&1i8, &-128), 0);
-    assert_eq!(rt; next_byte(99, 255), 100);
-    assert_eq!(rt; previous_signed_byte(0, -128), -1);
+    assert_same(&rt, step_up(&254u8, &255), 255);
+    assert_same(&rt, step_down(&1u8, &0), 0);
+    assert_same(&rt, step_up(&126i8, &127), 127);
+    assert_same(&rt, step_down(&-127i8, &-128), -128);
+    assert_same(&rt, step_up(&0u8, &255), 1);
+    assert_same(&rt, step_down(&255u8, &0), 254);
+    assert_same(&rt, step_up(&-1i8, &127), 0);
+    assert_same(&rt, step_down(&1i8, &-128), 0);
+    assert_same(&rt, next_byte(99, 255), 100);
+    assert_same(&rt, previous_signed_byte(0, -128), -1);
 }
 
 #[test]
@@ -161,8 +162,8 @@ fn characters_step_over_the_surrogates(rt: HostRuntime) {
         ('\u{10FFFE}', '\u{10FFFF}'),
     ];
     assert!(rt; are_neighbours(&pairs));
-    assert_eq!(rt; step_up(&'\u{D7FF}', &'\u{10FFFF}'), '\u{E000}');
-    assert_eq!(rt; step_down(&'\u{E000}', &'\u{0}'), '\u{D7FF}');
+    assert_same(&rt, step_up(&'\u{D7FF}', &'\u{10FFFF}'), '\u{E000}');
+    assert_same(&rt, step_down(&'\u{E000}', &'\u{0}'), '\u{D7FF}');
 }
 
 #[test]

@@ -1,5 +1,6 @@
 //! Rows about the debug text of maps.
 
+use crate::same::assert_same;
 use rangemap::laws::texts::{ascii_text, signed_text, unsigned_text};
 use rangemap::{RangeInclusiveMap, RangeMap, range_inclusive_map, range_map};
 use std::alloc::{AllocError, Global};
@@ -13,7 +14,7 @@ pub fn assert_text<M: Debug, R: AllocGlobal + Abort>(
     map: &M,
     text: &str,
 ) -> Result<(), Fail> {
-    assert_eq!(rt; format!(in rt.alloc(); "{map:?}")?.as_str(), text);
+    assert_same(rt, format!(in rt.alloc(); "{map:?}")?.as_str(), text);
     Ok(())
 }
 
@@ -50,7 +51,7 @@ pub fn assert_long_text<M: Debug + Drop, R: AllocGlobal + Abort>(
     text: &str,
 ) -> Result<(), Fail> {
     let map = made?;
-    assert_eq!(rt; format!(in rt.alloc(); "{map:#?}")?.as_str(), text);
+    assert_same(rt, format!(in rt.alloc(); "{map:#?}")?.as_str(), text);
     Ok(())
 }
 
@@ -75,11 +76,12 @@ fn the_long_form_gives_each_pair_a_line(rt: HostRuntime) -> Result<(), Fail> {
 fn the_laws_of_texts_write_them(rt: HostRuntime) -> Result<(), Fail> {
     let alloc = rt.alloc();
     let unsigned = range_map! { in alloc; 0..5u32 => 7u16 }?;
-    assert_eq!(rt; unsigned_text(alloc, &unsigned)?.as_str(), "{0..5: 7}");
+    assert_same(&rt, unsigned_text(alloc, &unsigned)?.as_str(), "{0..5: 7}");
     let signed = range_inclusive_map! { in alloc; -128..=-1i8 => 7u64, 5..=127 => 8 }?;
-    assert_eq!(rt;
+    assert_same(
+        &rt,
         signed_text(alloc, &signed)?.as_str(),
-        "{-128..=-1: 7, 5..=127: 8}"
+        "{-128..=-1: 7, 5..=127: 8}",
     );
     Ok(())
 }
@@ -89,9 +91,13 @@ fn the_law_of_ascii_texts_writes_them(rt: HostRuntime) -> Result<(), Fail> {
     let alloc = rt.alloc();
     let texts = range_map! { in alloc; 0..5u32 => "a\"b" }?;
     // what the law asks for
-    assert_eq!(rt; texts.len(), 1);
+    assert_same(&rt, texts.len(), 1);
     let (_, text) = texts.first_range_value().expect(&rt, "a pair");
     assert!(rt; text.is_ascii());
-    assert_eq!(rt; ascii_text(alloc, &texts)?.as_str(), "{0..5: \"a\\\"b\"}");
+    assert_same(
+        &rt,
+        ascii_text(alloc, &texts)?.as_str(),
+        "{0..5: \"a\\\"b\"}",
+    );
     Ok(())
 }

@@ -1,6 +1,7 @@
 //! Each workload over two sets once: {0..10, 20..30} and {5..25}.
 
 use super::{ACROSS, FIRST, SECOND, TWO};
+use crate::same::assert_same;
 use bench_workloads::digest::followed_by;
 use bench_workloads::input::Query;
 use bench_workloads::set_store::SetStore;
@@ -23,17 +24,17 @@ const KEYS: [Query; 3] = [
 
 fn assert_two_sets<S: SetStore, R: AllocGlobal + Abort>(rt: &R) -> Result<(), Fail> {
     let digest = workloads::contents::<S>(rt.alloc(), &TWO, 1)?;
-    assert_eq!(rt; digest, followed_by(FIRST, SECOND));
+    assert_same(rt, digest, followed_by(FIRST, SECOND));
     let digest = sets::unions::<S>(rt.alloc(), &TWO, &ACROSS, 1)?;
-    assert_eq!(rt; digest, EITHER);
+    assert_same(rt, digest, EITHER);
     let digest = sets::intersections::<S>(rt.alloc(), &TWO, &ACROSS, 1)?;
-    assert_eq!(rt; digest, BOTH.0 ^ BOTH.1);
+    assert_same(rt, digest, BOTH.0 ^ BOTH.1);
     let digest = sets::joined_sets::<S>(rt.alloc(), &TWO, &ACROSS, 1)?;
-    assert_eq!(rt; digest, EITHER);
+    assert_same(rt, digest, EITHER);
     let digest = sets::common_sets::<S>(rt.alloc(), &TWO, &ACROSS, 1)?;
-    assert_eq!(rt; digest, followed_by(BOTH.0, BOTH.1));
+    assert_same(rt, digest, followed_by(BOTH.0, BOTH.1));
     let count = sets::members::<S>(rt.alloc(), &TWO, &KEYS, 1)?;
-    assert_eq!(rt; count, 2);
+    assert_same(rt, count, 2);
     Ok(())
 }
 

@@ -1,6 +1,7 @@
 //! Rows about unions and intersections.
 
 use super::Set;
+use crate::same::assert_same;
 use rangemap::RangeInclusiveSet;
 use rangemap::inclusive_set::{Intersection, Iter, Union};
 use rows::{SignedSteps, check_items, check_made_set, make_set};
@@ -73,9 +74,10 @@ fn take_in_part<R: Abort>(
     mut other: Iter<'_, u32>,
     right: &Set,
 ) -> Result<(), Fail> {
-    assert_eq!(rt;
+    assert_same(
+        rt,
         (one.next(), other.next_back()),
-        (Some(&(0..=1)), Some(&(8..=9)))
+        (Some(&(0..=1)), Some(&(8..=9))),
     );
     check_items::<Set, _>(Intersection::new(one, right.iter()), &[5..=5, 8..=8])?;
     check_items::<Set, _>(Union::new(other, right.iter()), &[0..=1, 4..=8])

@@ -2,6 +2,7 @@
 
 use super::Set;
 use crate::iterators::check_three;
+use crate::same::assert_same;
 use rangemap::RangeInclusiveSet;
 use rows::Call::Insert;
 use rows::make_set;
@@ -39,11 +40,12 @@ fn gaps_lie_between_the_ranges(rt: HostRuntime) -> Result<(), Fail> {
 fn take_gaps<R: Abort>(rt: &R, set: &Set) -> Result<(), Fail> {
     let outer_range = 0..=500;
     let mut gaps = set.gaps(&outer_range);
-    assert_eq!(rt; gaps.size_hint(), (0, None));
+    assert_same(rt, gaps.size_hint(), (0, None));
     let taken = (gaps.try_next(), gaps.next(), gaps.try_next(), gaps.next());
-    assert_eq!(rt;
+    assert_same(
+        rt,
         taken,
-        (Ok(Some(101..=199)), Some(Ok(301..=399)), Ok(None), None)
+        (Ok(Some(101..=199)), Some(Ok(301..=399)), Ok(None), None),
     );
     Ok(())
 }

@@ -1,6 +1,7 @@
 //! Values that are long or deep.
 
 use super::{Fault, read_number};
+use crate::same::assert_same;
 use rangemap::{Form, Part, RangeMap, ReadError};
 use serde_json::Value;
 use std::alloc::Global;
@@ -46,7 +47,7 @@ fn a_long_list_is_read_in_time(rt: HostRuntime) -> Result<(), Fail> {
     let value = spread(alloc, COUNT)?;
     for form in [Form::Any, Form::Canonical] {
         match Map::from_value(alloc, form, &value, read_number, read_number) {
-            Ok(map) => assert_eq!(rt; map.len(), 100_000),
+            Ok(map) => assert_same(&rt, map.len(), 100_000),
             Err(_) => return Err(Fail::new("a long list was not read")),
         }
         let answer = Map::from_value(alloc, form, &value, read_but_the_last, read_number);

@@ -1,6 +1,7 @@
 //! What is made again of what maps hand over.
 
 use super::{Fault, read_number, write_number};
+use crate::same::assert_same;
 use rangemap::laws::round_trips::{
     from_iter_of_into_iter_is_equal, reading_what_was_written_is_equal,
 };
@@ -27,10 +28,10 @@ fn maps_are_made_again(rt: HostRuntime) -> Result<(), Fail> {
             return Err(Fail::new("a map was not read again"));
         };
         assert!(rt; again == map);
-        assert_eq!(rt; again.len(), 3);
+        assert_same(&rt, again.len(), 3);
     }
     let again = from_iter_of_into_iter_is_equal(alloc, map)?;
-    assert_eq!(rt; again.len(), 3);
+    assert_same(&rt, again.len(), 3);
     Ok(())
 }
 
@@ -53,9 +54,9 @@ fn closed_maps_are_made_again(rt: HostRuntime) -> Result<(), Fail> {
             return Err(Fail::new("a map was not read again"));
         };
         assert!(rt; again == map);
-        assert_eq!(rt; again.len(), 3);
+        assert_same(&rt, again.len(), 3);
     }
     let again = from_iter_of_into_iter_is_equal(alloc, map)?;
-    assert_eq!(rt; again.len(), 3);
+    assert_same(&rt, again.len(), 3);
     Ok(())
 }

@@ -1,6 +1,7 @@
 //! Rows about sets over both kinds of range.
 
 use super::{Fault, InJson, check_read, check_refused, check_written, read_number, write_number};
+use crate::same::assert_same;
 use rangemap::Form::{Any, Canonical};
 use rangemap::ReadError::{BadEntry, BadKey, EmptyRange, NotAList, OutOfOrder, Uncoalesced};
 use rangemap::laws::set_round_trips::{
@@ -121,7 +122,7 @@ fn sets_are_made_again(rt: HostRuntime) -> Result<(), Fail> {
         };
         assert!(rt; again == set && again.len() == 2);
     }
-    assert_eq!(rt; from_iter_of_into_iter_is_equal(alloc, set)?.len(), 2);
+    assert_same(&rt, from_iter_of_into_iter_is_equal(alloc, set)?.len(), 2);
     Ok(())
 }
 
@@ -143,6 +144,6 @@ fn closed_sets_are_made_again(rt: HostRuntime) -> Result<(), Fail> {
         };
         assert!(rt; again == set && again.len() == 2);
     }
-    assert_eq!(rt; from_iter_of_into_iter_is_equal(alloc, set)?.len(), 2);
+    assert_same(&rt, from_iter_of_into_iter_is_equal(alloc, set)?.len(), 2);
     Ok(())
 }

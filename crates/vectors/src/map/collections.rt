@@ -1,6 +1,7 @@
 //! Rows about maps that are made of pairs and of other maps, and that hand their pairs over.
 
 use crate::iterators::check_counted_back;
+use crate::same::assert_same;
 use rangemap::RangeMap;
 use rows::{check_equal, check_made, check_row};
 use std::test::Fail;
@@ -38,7 +39,7 @@ fn an_array_and_a_chain_are_taken(rt: HostRuntime) -> Result<(), Fail> {
     map.extend([(0u32..5, 'a'), (5..9, 'b')])?;
     check_row(&map, &[(0..5, 'a'), (5..9, 'b')])?;
     map.extend((1..100u32).map(|i| (10 * i..10 * i + 5, 'c')))?;
-    assert_eq!(rt; map.len(), 101);
+    assert_same(&rt, map.len(), 101);
     Ok(())
 }
 
@@ -53,6 +54,6 @@ fn a_map_hands_its_pairs_over(rt: HostRuntime) -> Result<(), Fail> {
         starts.push((range.start, value))?;
     }
     let expected = [(0, 'a'), (3, 'b'), (6, 'a')];
-    assert_eq!(rt; starts.as_slice(), expected.as_slice());
+    assert_same(&rt, starts.as_slice(), expected.as_slice());
     Ok(())
 }

@@ -1,6 +1,7 @@
 //! Rows about calls that only ask.
 
 use super::{Map, TreeMap};
+use crate::same::assert_same;
 use rangemap::{RangeMap, tree_map};
 use rows::Call::{Insert, Remove};
 use rows::{InRows, check_nothing, check_row, make};
@@ -34,16 +35,18 @@ where
     check_nothing(map, &5)?;
     check_row(map, &[])?;
     make(map, rt.alloc(), &[Insert(0..10, 'a'), Insert(20..30, 'b')])?;
-    assert_eq!(rt;
+    assert_same(
+        rt,
         (map.get(&9), map.get(&10), map.get(&20)),
-        (Some(&'a'), None, Some(&'b'))
+        (Some(&'a'), None, Some(&'b')),
     );
-    assert_eq!(rt; map.get_key_value(&29), Some((&(20..30), &'b')));
-    assert_eq!(rt;
+    assert_same(rt, map.get_key_value(&29), Some((&(20..30), &'b')));
+    assert_same(
+        rt,
         (map.contains_key(&0), map.contains_key(&30)),
-        (true, false)
+        (true, false),
     );
     let ends = (map.first_range_value(), map.last_range_value());
-    assert_eq!(rt; ends, (Some((&(0..10), &'a')), Some((&(20..30), &'b'))));
+    assert_same(rt, ends, (Some((&(0..10), &'a')), Some((&(20..30), &'b'))));
     Ok(())
 }

@@ -2,6 +2,7 @@
 ghost use Rattle.rangemap.specs.Clones.{KeysCloneFaithfully};
 
 use super::down::Down;
+use crate::same::assert_same;
 use rangemap::{RangeInclusiveSet, StepLite};
 use rows::closed;
 use std::alloc::Global;
@@ -78,8 +79,8 @@ fn check_end_gaps<K: StepLite + Clone + Copy + Debug, R: Abort>(
 {
     let whole = ends.min..=ends.max;
     let mut gaps = set.gaps(&whole);
-    assert_eq!(rt; gaps.try_next()?, Some(ends.min..=ends.min));
-    assert_eq!(rt; gaps.try_next()?, Some(ends.max..=ends.max));
+    assert_same(rt, gaps.try_next()?, Some(ends.min..=ends.min));
+    assert_same(rt, gaps.try_next()?, Some(ends.max..=ends.max));
     assert!(rt; gaps.try_next()?.is_none());
     Ok(())
 }
@@ -105,8 +106,8 @@ fn assert_whole<K: StepLite + Clone + Copy + Debug, R: Abort>(
     set: &Set<K>,
     range: &RangeInclusive<K>,
 ) -> Result<(), Fail> {
-    assert_eq!(rt; set.len(), 1);
-    assert_eq!(rt; set.first(), Some(range));
+    assert_same(rt, set.len(), 1);
+    assert_same(rt, set.first(), Some(range));
     Ok(())
 }
 

@@ -1,5 +1,6 @@
 //! Maps over half-open ranges of keys that are no integers.
 
+use crate::same::assert_same;
 use rangemap::RangeMap;
 use rows::filled;
 use std::alloc::{AllocError, AllocGlobal, Global};
@@ -43,12 +44,12 @@ fn check_texts<R: AllocGlobal + Abort>(rt: &R, map: &mut Texts) -> Result<(), Fa
     let alloc = rt.alloc();
     insert_texts(map, alloc, ("a", "m"), 1)?;
     insert_texts(map, alloc, ("m", "z"), 1)?;
-    assert_eq!(rt; map.len(), 1);
+    assert_same(rt, map.len(), 1);
     insert_texts(map, alloc, ("fig", "figs"), 2)?;
-    assert_eq!(rt; map.len(), 3);
+    assert_same(rt, map.len(), 3);
     let inner = (at_text(map, alloc, "fi")?, at_text(map, alloc, "fig")?);
     let outer = (at_text(map, alloc, "figs")?, at_text(map, alloc, "z")?);
-    assert_eq!(rt; (inner, outer), ((Some(1), Some(2)), (Some(1), None)));
+    assert_same(rt, (inner, outer), ((Some(1), Some(2)), (Some(1), None)));
     Ok(())
 }
 
@@ -97,9 +98,9 @@ fn check_pairs<R: AllocGlobal + Abort>(rt: &R, map: &mut Pairs) -> Result<(), Fa
     let alloc = rt.alloc();
     insert_pairs(map, alloc, (("a", 5), ("b", 0)), 'x')?;
     insert_pairs(map, alloc, (("b", 0), ("b", 7)), 'x')?;
-    assert_eq!(rt; map.len(), 1);
+    assert_same(rt, map.len(), 1);
     remove_pairs(map, alloc, (("a", 9), ("a", 10)))?;
-    assert_eq!(rt; map.len(), 2);
+    assert_same(rt, map.len(), 2);
     let before = (
         at_pair(map, alloc, ("a", 4))?,
         at_pair(map, alloc, ("a", 9))?,
@@ -108,6 +109,6 @@ fn check_pairs<R: AllocGlobal + Abort>(rt: &R, map: &mut Pairs) -> Result<(), Fa
         at_pair(map, alloc, ("a", 10))?,
         at_pair(map, alloc, ("b", 6))?,
     );
-    assert_eq!(rt; (before, behind), ((None, None), (Some('x'), Some('x'))));
+    assert_same(rt, (before, behind), ((None, None), (Some('x'), Some('x'))));
     Ok(())
 }

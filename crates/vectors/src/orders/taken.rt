@@ -1,5 +1,6 @@
 //! A range that is given to a map where it wasn't iterated to its end.
 
+use crate::same::assert_same;
 use rangemap::RangeInclusiveMap;
 use std::alloc::{AllocError, Global};
 use std::ops::RangeInclusive;
@@ -21,9 +22,9 @@ pub fn insert_rest(
 #[test]
 fn the_rest_of_a_range_is_inserted(rt: HostRuntime) -> Result<(), Fail> {
     let mut map = RangeInclusiveMap::new(rt.alloc());
-    assert_eq!(rt; insert_rest(&mut map, 3..=7)?, Some(3));
-    assert_eq!(rt; map.first_range_value(), Some((&(4..=7), &true)));
-    assert_eq!(rt; insert_rest(&mut map, 9..=9)?, Some(9));
-    assert_eq!(rt; map.len(), 1);
+    assert_same(&rt, insert_rest(&mut map, 3..=7)?, Some(3));
+    assert_same(&rt, map.first_range_value(), Some((&(4..=7), &true)));
+    assert_same(&rt, insert_rest(&mut map, 9..=9)?, Some(9));
+    assert_same(&rt, map.len(), 1);
     Ok(())
 }

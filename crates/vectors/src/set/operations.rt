@@ -1,6 +1,7 @@
 //! Rows about unions and intersections.
 
 use super::Set;
+use crate::same::assert_same;
 use rangemap::set::{Intersection, Iter, Union};
 use rows::{check_items, check_made_set, make_set};
 use std::ops::Range;
@@ -71,7 +72,11 @@ fn without_the_first<R: Abort>(
     mut other: Iter<'_, u32>,
     right: &Set,
 ) -> Result<(), Fail> {
-    assert_eq!(rt; (one.next(), other.next()), (Some(&(0..2)), Some(&(0..2))));
+    assert_same(
+        rt,
+        (one.next(), other.next()),
+        (Some(&(0..2)), Some(&(0..2))),
+    );
     check_items::<Set, _>(Intersection::new(one, right.iter()), &[5..6, 8..9])?;
     check_items::<Set, _>(Union::new(other, right.iter()), &[4..10])
 }
@@ -83,9 +88,10 @@ fn without_the_last<R: Abort>(
     mut other: Iter<'_, u32>,
     right: &Set,
 ) -> Result<(), Fail> {
-    assert_eq!(rt;
+    assert_same(
+        rt,
         (one.next_back(), other.next_back()),
-        (Some(&(8..10)), Some(&(8..10)))
+        (Some(&(8..10)), Some(&(8..10))),
     );
     check_items::<Set, _>(Union::new(one, right.iter()), &[0..2, 4..9])?;
     check_items::<Set, _>(Intersection::new(other, right.iter()), &[5..6])

@@ -7,6 +7,7 @@ ghost use Rattle.rangemap.specs.Ranges.{half_open};
 ghost use Rattle.rangemap.specs.Runs.{IsAllowed};
 
 use crate::map::{Map, TreeMap};
+use crate::same::assert_same;
 use rangemap::RangeMap;
 use rangemap::tree_map::{self, Answer, Command, Outcome, run};
 use std::alloc::{AllocError, AllocGlobal, Allocator, Global};
@@ -68,7 +69,7 @@ fn check_answers<R: AllocGlobal + Abort>(
 ) -> Result<(), Fail> {
     let mut text = String::new(rt.alloc());
     write_answers(&mut text, answers)?;
-    assert_eq!(rt; text.as_str(), row);
+    assert_same(rt, text.as_str(), row);
     Ok(())
 }
 
