@@ -12,12 +12,10 @@ use std::ops::Range;
 
 impl<Q: Stored<K, R>, K: Ord + Clone, R: Drop, V: Eq + Clone, A: Allocator + Clone> Told
     for Map<Q, K, R, V, A> {
-    #[inline(always)]
     fn read_all<U: ReadsPairs<R, V>>(&self, reader: &mut U) -> Result<(), AllocError> {
         tell_pairs(self.iter(), reader)
     }
 
-    #[inline(always)]
     fn read_overlapping<U: ReadsPairs<R, V>>(
         &self,
         range: &R,
@@ -26,7 +24,6 @@ impl<Q: Stored<K, R>, K: Ord + Clone, R: Drop, V: Eq + Clone, A: Allocator + Clo
         tell_pairs(self.overlapping(range), reader)
     }
 
-    #[inline(always)]
     fn read_gaps<U: ReadsGaps<R>>(
         &self,
         outer_range: &R,
@@ -37,12 +34,10 @@ impl<Q: Stored<K, R>, K: Ord + Clone, R: Drop, V: Eq + Clone, A: Allocator + Clo
 }
 
 impl<K: Ord + Clone, V: Eq + Clone, A: Allocator + Clone> Told for tree_map::RangeMap<K, V, A> {
-    #[inline(always)]
     fn read_all<U: ReadsPairs<Range<K>, V>>(&self, reader: &mut U) -> Result<(), AllocError> {
         tell_pairs(self.iter(), reader)
     }
 
-    #[inline(always)]
     fn read_overlapping<U: ReadsPairs<Range<K>, V>>(
         &self,
         range: &Range<K>,
@@ -51,7 +46,6 @@ impl<K: Ord + Clone, V: Eq + Clone, A: Allocator + Clone> Told for tree_map::Ran
         tell_pairs(self.overlapping(range), reader)
     }
 
-    #[inline(always)]
     fn read_gaps<U: ReadsGaps<Range<K>>>(
         &self,
         outer_range: &Range<K>,
@@ -63,12 +57,10 @@ impl<K: Ord + Clone, V: Eq + Clone, A: Allocator + Clone> Told for tree_map::Ran
 
 impl<Q: SetKind<T, R>, T: Ord + Clone, R: SetRange<Key = T>, A: Allocator + Clone> Told
     for Set<Q, T, R, A> {
-    #[inline(always)]
     fn read_all<U: ReadsPairs<R, ()>>(&self, reader: &mut U) -> Result<(), AllocError> {
         tell_ranges(self.iter(), reader)
     }
 
-    #[inline(always)]
     fn read_overlapping<U: ReadsPairs<R, ()>>(
         &self,
         range: &R,
@@ -77,7 +69,6 @@ impl<Q: SetKind<T, R>, T: Ord + Clone, R: SetRange<Key = T>, A: Allocator + Clon
         tell_ranges(self.overlapping(range), reader)
     }
 
-    #[inline(always)]
     fn read_gaps<U: ReadsGaps<R>>(
         &self,
         outer_range: &R,
