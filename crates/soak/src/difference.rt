@@ -1,10 +1,9 @@
 //! What a container may do otherwise than its model.
 
 use std::alloc::AllocError;
-use std::fmt;
 
 /// What differs from the model.
-#[derive(Clone, Copy, Debug, PartialEq, Eq)]
+#[derive(Drop)]
 pub enum Difference {
     /// A call was refused though no request for memory was, or was accepted though one was.
     Acceptance,
@@ -28,9 +27,10 @@ pub enum Difference {
     Blocks,
 }
 
-impl fmt::Display for Difference {
-    fn fmt<W: fmt::Write>(&self, f: &mut fmt::Formatter<W>) -> fmt::Result {
-        f.write_str(match self {
+impl Difference {
+    /// Returns what it is in words.
+    pub fn text(&self) -> &'static str {
+        match self {
             Difference::Acceptance => "whether it was refused",
             Difference::List => "the stored list",
             Difference::Length => "the number of stored ranges",
@@ -41,12 +41,12 @@ impl fmt::Display for Difference {
             Difference::Equality => "whether two containers are equal",
             Difference::Made => "the list that was made",
             Difference::Blocks => "the number of blocks held",
-        })
+        }
     }
 }
 
 /// Why the calls on a container stopped.
-#[derive(Clone, Copy, Debug, PartialEq, Eq)]
+#[derive(Drop)]
 pub enum Stop {
     /// It differs from the model.
     Differs(Difference),

@@ -12,13 +12,12 @@ mod compared;
 mod difference;
 mod pairs;
 mod points;
-mod random;
 mod session;
 mod soaked;
 
 use refusing::Refusing;
 use session::soak;
-use soaked::{Heap, InclusiveMap, InclusiveSet, Map, Set, Soaked, TreeMap};
+use soaked::{Heap, InclusiveMap, InclusiveSet, Map, Profile, Set, Soaked, TreeMap};
 use std::process::ExitCode;
 use std::{env, io};
 
@@ -35,14 +34,15 @@ fn arguments(rt: &HostRuntime) -> io::Result<Option<(u64, u64)>> {
 }
 
 /// Makes the calls on a container, and prints how they went. Answers whether nothing differed.
-fn soak_one<'a, S: Soaked<Alloc = &'a Heap>>(
+fn soak_one<'a, S: Soaked<'a>>(
     rt: &HostRuntime,
     heap: &'a Heap,
+    profile: Profile<'a>,
     seed: u64,
     calls: u64,
 ) -> io::Result<bool> {
-    let report = soak::<S>(heap, rt.alloc(), seed, calls)?;
-    let name = S::name();
+    let report = soak::<S>(heap, rt.alloc(), profile, seed, calls)?;
+    let name = profile.name;
     match report.difference {
         None => {
             let refused = report.refused;
@@ -50,21 +50,55 @@ fn soak_one<'a, S: Soaked<Alloc = &'a Heap>>(
             Ok(true)
         }
         Some(difference) => {
-            println!(rt; "{name}: at call {}, {difference} differs", report.calls)?;
+            let text = difference.text();
+            println!(rt; "{name}: at call {}, {text} differs", report.calls)?;
             Ok(false)
         }
     }
 }
 
-/// Makes the calls on every container, until one differs. Answers whether none did.
-fn soak_all(rt: &HostRuntime, seed: u64, calls: u64) -> io::Result<bool> {
-    let heap = Refusing::new(rt.alloc(), u64::MAX);
+/// Makes the calls on every map, until one differs. Answers whether none did.
+fn soak_maps(rt: &HostRuntime, heap: &Heap, seed: u64, calls: u64) -> io::Result<bool> {
+    let map = Profile {
+        name: "map",
+        has_marks: true,
+        blocks_of_each: 1,
+        is_tree: false,
+    };
+    let inclusive_map = Profile {
+        name: "inclusive_map",
+        blocks_of_each: 0,
+        ..map
+    };
+    let tree_map = Profile {
+        name: "tree_map",
+        blocks_of_each: 4,
+        is_tree: true,
+        ..map
+    };
     Ok(
-        soak_one::<Map<'_>>(rt, &heap, seed, calls)?
-            && soak_one::<InclusiveMap<'_>>(rt, &heap, seed, calls)?
-            && soak_one::<TreeMap<'_>>(rt, &heap, seed, calls)?
-            && soak_one::<Set<'_>>(rt, &heap, seed, calls)?
-            && soak_one::<InclusiveSet<'_>>(rt, &heap, seed, calls)?,
+        soak_one::<Map<'_>>(rt, heap, map, seed, calls)?
+            && soak_one::<InclusiveMap<'_>>(rt, heap, inclusive_map, seed, calls)?
+            && soak_one::<TreeMap<'_>>(rt, heap, tree_map, seed, calls)?,
+    )
+}
+
+/// Makes the calls on every set, until one differs. Answers whether none did.
+fn soak_sets(rt: &HostRuntime, heap: &Heap, seed: u64, calls: u64) -> io::Result<bool> {
+    let set = Profile {
+        name: "set",
+        has_marks: false,
+        blocks_of_each: 2,
+        is_tree: false,
+    };
+    let inclusive_set = Profile {
+        name: "inclusive_set",
+        blocks_of_each: 0,
+        ..set
+    };
+    Ok(
+        soak_one::<Set<'_>>(rt, heap, set, seed, calls)?
+            && soak_one::<InclusiveSet<'_>>(rt, heap, inclusive_set, seed, calls)?,
     )
 }
 
@@ -73,7 +107,8 @@ fn serve(rt: &HostRuntime) -> io::Result<ExitCode> {
         eprintln!(rt; "soak SEED CALLS: both are numbers")?;
         return Ok(ExitCode::from(2));
     };
-    if soak_all(rt, seed, calls)? {
+    let heap = Refusing::new(rt.alloc(), u64::MAX);
+    if soak_maps(rt, &heap, seed, calls)? && soak_sets(rt, &heap, seed, calls)? {
         Ok(ExitCode::SUCCESS)
     } else {
         Ok(ExitCode::FAILURE)

@@ -5,16 +5,16 @@ mod copies;
 mod gaps;
 mod questions;
 
-use crate::chance::{Call, Chance};
+use crate::chance::Chance;
 use crate::compared::is_list;
 use crate::difference::{Difference, Stop, check};
 use crate::points::{Points, Run};
-use crate::soaked::{Heap, Soaked};
+use crate::soaked::{Heap, Profile, Soaked};
 pub use gaps::ask_for_gaps;
 use std::alloc::{AllocError, Global};
 
 /// How a run ended.
-#[derive(Clone, Copy, Debug)]
+#[derive(Drop)]
 pub struct Report {
     /// The number of calls that were made.
     pub calls: u64,
@@ -26,9 +26,10 @@ pub struct Report {
 
 /// Makes so many calls of a seed on a container whose memory comes from `heap`, of which nothing
 /// else holds memory. Stops at the first difference.
-pub fn soak<'a, S: Soaked<Alloc = &'a Heap>>(
+pub fn soak<'a, S: Soaked<'a>>(
     heap: &'a Heap,
     alloc: Global,
+    profile: Profile<'a>,
     seed: u64,
     calls: u64,
 ) -> Result<Report, AllocError> {
@@ -37,7 +38,7 @@ pub fn soak<'a, S: Soaked<Alloc = &'a Heap>>(
         refused: 0,
         difference: None,
     };
-    let answer = run::<S>(heap, alloc, seed, calls, &mut report);
+    let answer = run::<S>(heap, alloc, profile, seed, calls, &mut report);
     match answer.and(check(heap.held() == 0, Difference::Blocks)) {
         Ok(()) => Ok(report),
         Err(Stop::Differs(difference)) => {
@@ -49,14 +50,22 @@ pub fn soak<'a, S: Soaked<Alloc = &'a Heap>>(
 }
 
 /// Makes the calls, and counts them.
-fn run<'a, S: Soaked<Alloc = &'a Heap>>(
+fn run<'a, S: Soaked<'a>>(
     heap: &'a Heap,
     alloc: Global,
+    profile: Profile<'a>,
     seed: u64,
     calls: u64,
     report: &mut Report,
 ) -> Result<(), Stop> {
-    let mut session: Session<'a, S> = Session::new(heap, alloc, seed);
+    let mut session: Session<'a, S> = Session {
+        alloc,
+        profile,
+        chance: Chance::new(heap, seed),
+        subject: S::new(heap),
+        points: Points::new(),
+        has_grown: false,
+    };
     for number in 1..=calls {
         report.calls = number;
         if session.step()? {
@@ -68,9 +77,10 @@ fn run<'a, S: Soaked<Alloc = &'a Heap>>(
 
 /// A container and its model.
 #[derive(Drop)]
-struct Session<'a, S: Soaked<Alloc = &'a Heap>> {
+struct Session<'a, S: Soaked<'a>> {
     // What the model's lists are made of.
     alloc: Global,
+    profile: Profile<'a>,
     chance: Chance<'a>,
     subject: S,
     points: Points,
@@ -78,32 +88,21 @@ struct Session<'a, S: Soaked<Alloc = &'a Heap>> {
     has_grown: bool,
 }
 
-impl<'a, S: Soaked<Alloc = &'a Heap>> Session<'a, S> {
-    /// An empty container, and a model without marks.
-    fn new(heap: &'a Heap, alloc: Global, seed: u64) -> Self {
-        Session {
-            alloc,
-            chance: Chance::new(heap, seed),
-            subject: S::new(heap),
-            points: Points::new(),
-            has_grown: false,
-        }
-    }
-
+impl<'a, S: Soaked<'a>> Session<'a, S> {
     /// Makes a call, and compares what it leaves. Answers whether it was refused.
     fn step(&mut self) -> Result<bool, Stop> {
-        let is_refused = match self.chance.call() {
-            Call::Insert => self.insert()?,
-            Call::Remove => self.remove()?,
-            Call::Clear => self.clear(),
-            Call::Extend => self.extend()?,
-            Call::FromIter => self.collect()?,
-            Call::Clone => self.clone()?,
-            Call::Combine => self.combine()?,
-            Call::Get => self.get()?,
-            Call::Ends => self.ends()?,
-            Call::Overlapping => self.overlapping()?,
-            Call::Gaps => self.gaps()?,
+        let is_refused = match self.chance.below(100) {
+            0..=29 => self.insert()?,
+            30..=47 => self.remove()?,
+            48 => self.clear(),
+            49..=54 => self.extend()?,
+            55..=59 => self.collect()?,
+            60..=65 => self.clone()?,
+            66..=71 => self.combine()?,
+            72..=79 => self.get()?,
+            80..=83 => self.ends()?,
+            84..=91 => self.overlapping()?,
+            _ => self.gaps()?,
         };
         self.compare()?;
         Ok(is_refused)
@@ -122,7 +121,8 @@ impl<'a, S: Soaked<Alloc = &'a Heap>> Session<'a, S> {
         check(stored == runs.len(), Difference::Length)?;
         self.has_grown |= 0 < stored;
         let held = self.chance.heap.held();
-        check(S::needs(held, stored, self.has_grown), Difference::Blocks)
+        let is_needed = self.profile.needs(held, stored, self.has_grown);
+        check(is_needed, Difference::Blocks)
     }
 
     /// Compares the number of blocks with that before a call, where it was refused. Answers whether

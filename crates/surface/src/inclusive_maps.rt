@@ -7,6 +7,7 @@ ghost use Rattle.rangemap.specs.Clones.{KeysCloneFaithfully, ValuesCloneFaithful
 ghost use Rattle.rangemap.specs.NonEmptyPairs.{GivesNonEmpty};
 ghost use Rattle.rangemap.specs.Ranges.{AreNonEmpty, closed};
 
+use crate::root::is_eq;
 use rangemap::inclusive_map::{Gaps, IntoIter, Iter, Overlapping, RangeInclusiveMap};
 use rangemap::{Form, ReadError, StepFns, StepLite, WriteError};
 use serde_json::Value;
@@ -36,11 +37,11 @@ pub fn ask<'a, K: Ord + Clone, V: Eq + Clone, S: StepFns<K>, A: Allocator>(
 }
 
 pub fn change<K: Ord + Clone, V: Eq + Clone, S: StepFns<K>, A: Allocator>(
-    map: &mut RangeInclusiveMap<K, V, S, A>,
+    alloc: A,
     given: RangeInclusive<K>,
     value: V,
     taken: RangeInclusive<K>,
-) -> Result<(), AllocError>
+) -> Result<RangeInclusiveMap<K, V, S, A>, AllocError>
     requires given_non_empty { IsTrue (is_le (K.cmp (range_inclusive_start given) (range_inclusive_end given))) }
     requires given_not_exhausted { range_inclusive_exhausted given ≡ false }
     requires taken_non_empty { IsTrue (is_le (K.cmp (range_inclusive_start taken) (range_inclusive_end taken))) }
@@ -48,10 +49,11 @@ pub fn change<K: Ord + Clone, V: Eq + Clone, S: StepFns<K>, A: Allocator>(
     requires faithful_keys { KeysCloneFaithfully K.is_clone K.cmp }
     requires faithful_values { ValuesCloneFaithfully V.is_clone V.eq }
 {
+    let mut map: RangeInclusiveMap<K, V, S, A> = RangeInclusiveMap::new_with_step_fns(alloc);
     map.insert(given, value)?;
     map.remove(taken)?;
     map.clear();
-    Ok(())
+    Ok(map)
 }
 
 pub fn copy<K: Ord + Clone, V: Eq + Clone, S: StepFns<K>, A: Allocator + Clone>(
@@ -79,38 +81,25 @@ pub fn collect<
     V: Eq + Clone,
     A: Allocator,
     I: IntoIterator<Item = (RangeInclusive<K>, V)>,
->(alloc: A, iter: I) -> Result<RangeInclusiveMap<K, V, K, A>, AllocError>
+>(
+    alloc: A,
+    other: A,
+    iter: I,
+    more: I,
+) -> Result<(IntoIter<K, V, A>, RangeInclusiveMap<K, V, K, A>), AllocError>
     requires ends { IsFiniteIterable I.into_iter_gives I.IntoIter.can_next I.IntoIter.remaining iter }
     requires non_empty { (it : I.IntoIter) → I.into_iter_gives iter it → GivesNonEmpty (closed K.StepLite.is_key K.cmp) I.IntoIter.next_gives it }
+    requires more_ends { IsFiniteIterable I.into_iter_gives I.IntoIter.can_next I.IntoIter.remaining more }
+    requires more_non_empty { (it : I.IntoIter) → I.into_iter_gives more it → GivesNonEmpty (closed K.StepLite.is_key K.cmp) I.IntoIter.next_gives it }
     requires faithful_keys { KeysCloneFaithfully K.is_clone K.cmp }
     requires faithful_values { ValuesCloneFaithfully V.is_clone V.eq }
 {
-    RangeInclusiveMap::from_iter(alloc, iter)
+    let mut extended: RangeInclusiveMap<K, V, K, A> = RangeInclusiveMap::new(other);
+    let answer = extended.extend(more);
+    let collected = RangeInclusiveMap::from_iter(alloc, iter)?;
+    answer?;
+    Ok((collected.into_iter(), extended))
 }
-
-pub fn extend<
-    K: StepLite + Clone,
-    V: Eq + Clone,
-    A: Allocator,
-    I: IntoIterator<Item = (RangeInclusive<K>, V)>,
->(alloc: A, iter: I) -> Result<RangeInclusiveMap<K, V, K, A>, AllocError>
-    requires ends { IsFiniteIterable I.into_iter_gives I.IntoIter.can_next I.IntoIter.remaining iter }
-    requires non_empty { (it : I.IntoIter) → I.into_iter_gives iter it → GivesNonEmpty (closed K.StepLite.is_key K.cmp) I.IntoIter.next_gives it }
-    requires faithful_keys { KeysCloneFaithfully K.is_clone K.cmp }
-    requires faithful_values { ValuesCloneFaithfully V.is_clone V.eq }
-{
-    let mut map: RangeInclusiveMap<K, V, K, A> = RangeInclusiveMap::new(alloc);
-    map.extend(iter)?;
-    Ok(map)
-}
-
-pub fn hand_over<K: StepLite + Clone, V: Eq + Clone, A: Allocator>(
-    map: RangeInclusiveMap<K, V, K, A>,
-) -> IntoIter<K, V, A> {
-    map.into_iter()
-}
-
-fn is_eq<M: Eq>(_map: &M) {}
 
 pub fn compare<
     K: Ord + Clone + Hash,
@@ -135,12 +124,6 @@ pub fn text<K: StepLite + Clone + Debug, V: Eq + Clone + Debug, A: Allocator>(
     map: &RangeInclusiveMap<K, V, K, A>,
 ) -> Result<String, AllocError> {
     format!(in alloc; "{map:?}")
-}
-
-pub fn new_with_step_fns<K: Ord + Clone, V: Eq + Clone, S: StepFns<K>, A: Allocator>(
-    alloc: A,
-) -> RangeInclusiveMap<K, V, S, A> {
-    RangeInclusiveMap::new_with_step_fns(alloc)
 }
 
 pub fn write<

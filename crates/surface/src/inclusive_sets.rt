@@ -7,6 +7,7 @@ ghost use Rattle.rangemap.specs.Clones.{KeysCloneFaithfully};
 ghost use Rattle.rangemap.specs.Ranges.{closed};
 ghost use Rattle.rangemap.specs.Sets.{AreNonEmptyRanges, GivesNonEmptyRanges};
 
+use crate::root::is_eq;
 use rangemap::inclusive_set::{
     Gaps, Intersection, IntoIter, Iter, Overlapping, RangeInclusiveSet, Union,
 };
@@ -23,6 +24,7 @@ pub fn ask<'a, T: Ord + Clone, S: StepFns<T>, A: Allocator>(
     set: &'a RangeInclusiveSet<T, S, A>,
     value: &T,
     range: &'a RangeInclusive<T>,
+    other: &'a RangeInclusiveSet<T, S, A>,
 ) {
     let _: Option<&'a RangeInclusive<T>> = set.get(value);
     let _: bool = set.contains(value);
@@ -34,44 +36,28 @@ pub fn ask<'a, T: Ord + Clone, S: StepFns<T>, A: Allocator>(
     let _: Iter<'a, T> = set.iter();
     let _: Overlapping<'a, T> = set.overlapping(range);
     let _: Gaps<'a, T, S> = set.gaps(range);
-}
-
-pub fn combine<'a, T: Ord + Clone, S: StepFns<T>, A: Allocator>(
-    left: &'a RangeInclusiveSet<T, S, A>,
-    right: &'a RangeInclusiveSet<T, S, A>,
-) {
-    let _: Union<'a, T> = left.union(right);
-    let _: Intersection<'a, T> = left.intersection(right);
-    let _: Union<'a, T> = Union::new(left.iter(), right.iter());
-    let _: Intersection<'a, T> = Intersection::new(left.iter(), right.iter());
-}
-
-pub fn either_and_both<T: StepLite + Clone, A: Allocator + Clone>(
-    left: &RangeInclusiveSet<T, T, A>,
-    right: &RangeInclusiveSet<T, T, A>,
-) -> Result<(RangeInclusiveSet<T, T, A>, RangeInclusiveSet<T, T, A>), AllocError>
-    requires faithful_keys { KeysCloneFaithfully T.is_clone T.cmp }
-{
-    let either = (left | right)?;
-    let both = (left & right)?;
-    Ok((either, both))
+    let _: Union<'a, T> = set.union(other);
+    let _: Intersection<'a, T> = set.intersection(other);
+    let _: Union<'a, T> = Union::new(set.iter(), other.iter());
+    let _: Intersection<'a, T> = Intersection::new(set.iter(), other.iter());
 }
 
 pub fn change<T: Ord + Clone, S: StepFns<T>, A: Allocator>(
-    set: &mut RangeInclusiveSet<T, S, A>,
+    alloc: A,
     given: RangeInclusive<T>,
     taken: RangeInclusive<T>,
-) -> Result<(), AllocError>
+) -> Result<RangeInclusiveSet<T, S, A>, AllocError>
     requires given_non_empty { IsTrue (is_le (T.cmp (range_inclusive_start given) (range_inclusive_end given))) }
     requires given_not_exhausted { range_inclusive_exhausted given ≡ false }
     requires taken_non_empty { IsTrue (is_le (T.cmp (range_inclusive_start taken) (range_inclusive_end taken))) }
     requires taken_not_exhausted { range_inclusive_exhausted taken ≡ false }
     requires faithful_keys { KeysCloneFaithfully T.is_clone T.cmp }
 {
+    let mut set: RangeInclusiveSet<T, S, A> = RangeInclusiveSet::new_with_step_fns(alloc);
     set.insert(given)?;
     set.remove(taken)?;
     set.clear();
-    Ok(())
+    Ok(set)
 }
 
 pub fn copy<T: Ord + Clone, S: StepFns<T>, A: Allocator + Clone>(
@@ -85,44 +71,35 @@ pub fn copy<T: Ord + Clone, S: StepFns<T>, A: Allocator + Clone>(
 pub fn from<T: StepLite + Clone, A: Allocator + Clone, const N: usize>(
     alloc: A,
     value: [RangeInclusive<T>; N],
-) -> Result<RangeInclusiveSet<T, T, A>, AllocError>
+    other: &RangeInclusiveSet<T, T, A>,
+) -> Result<[RangeInclusiveSet<T, T, A>; 2], AllocError>
     requires non_empty { AreNonEmptyRanges (closed T.StepLite.is_key T.cmp) value }
     requires faithful_keys { KeysCloneFaithfully T.is_clone T.cmp }
 {
-    RangeInclusiveSet::from(alloc, value)
+    let set = RangeInclusiveSet::from(alloc, value)?;
+    let either = (&set | other)?;
+    let both = (&set & other)?;
+    Ok([either, both])
 }
 
 pub fn collect<T: StepLite + Clone, A: Allocator, I: IntoIterator<Item = RangeInclusive<T>>>(
     alloc: A,
+    other: A,
     iter: I,
-) -> Result<RangeInclusiveSet<T, T, A>, AllocError>
+    more: I,
+) -> Result<(IntoIter<T, A>, RangeInclusiveSet<T, T, A>), AllocError>
     requires ends { IsFiniteIterable I.into_iter_gives I.IntoIter.can_next I.IntoIter.remaining iter }
     requires non_empty { (it : I.IntoIter) → I.into_iter_gives iter it → GivesNonEmptyRanges (closed T.StepLite.is_key T.cmp) I.IntoIter.next_gives it }
+    requires more_ends { IsFiniteIterable I.into_iter_gives I.IntoIter.can_next I.IntoIter.remaining more }
+    requires more_non_empty { (it : I.IntoIter) → I.into_iter_gives more it → GivesNonEmptyRanges (closed T.StepLite.is_key T.cmp) I.IntoIter.next_gives it }
     requires faithful_keys { KeysCloneFaithfully T.is_clone T.cmp }
 {
-    RangeInclusiveSet::from_iter(alloc, iter)
+    let mut extended: RangeInclusiveSet<T, T, A> = RangeInclusiveSet::new(other);
+    let answer = extended.extend(more);
+    let collected = RangeInclusiveSet::from_iter(alloc, iter)?;
+    answer?;
+    Ok((collected.into_iter(), extended))
 }
-
-pub fn extend<T: StepLite + Clone, A: Allocator, I: IntoIterator<Item = RangeInclusive<T>>>(
-    alloc: A,
-    iter: I,
-) -> Result<RangeInclusiveSet<T, T, A>, AllocError>
-    requires ends { IsFiniteIterable I.into_iter_gives I.IntoIter.can_next I.IntoIter.remaining iter }
-    requires non_empty { (it : I.IntoIter) → I.into_iter_gives iter it → GivesNonEmptyRanges (closed T.StepLite.is_key T.cmp) I.IntoIter.next_gives it }
-    requires faithful_keys { KeysCloneFaithfully T.is_clone T.cmp }
-{
-    let mut set: RangeInclusiveSet<T, T, A> = RangeInclusiveSet::new(alloc);
-    set.extend(iter)?;
-    Ok(set)
-}
-
-pub fn hand_over<T: StepLite + Clone, A: Allocator>(
-    set: RangeInclusiveSet<T, T, A>,
-) -> IntoIter<T, A> {
-    set.into_iter()
-}
-
-fn is_eq<S: Eq>(_set: &S) {}
 
 pub fn compare<T: Ord + Clone + Hash, S: StepFns<T>, A: Allocator, H: Hasher>(
     left: &RangeInclusiveSet<T, S, A>,
@@ -141,12 +118,6 @@ pub fn text<T: StepLite + Clone + Debug, A: Allocator>(
     set: &RangeInclusiveSet<T, T, A>,
 ) -> Result<String, AllocError> {
     format!(in alloc; "{set:?}")
-}
-
-pub fn new_with_step_fns<T: Ord + Clone, S: StepFns<T>, A: Allocator>(
-    alloc: A,
-) -> RangeInclusiveSet<T, S, A> {
-    RangeInclusiveSet::new_with_step_fns(alloc)
 }
 
 pub fn write<T: StepLite + Clone, A: Allocator, E, WK: Fn(&T) -> Result<Value, E>>(

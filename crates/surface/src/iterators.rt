@@ -63,28 +63,23 @@ pub fn of_sets<'a, T: Ord + Clone, A: Allocator>(
     into_iter: set::IntoIter<T, A>,
     overlapping: set::Overlapping<'a, T>,
     mut gaps: set::Gaps<'a, T>,
-) -> Result<Option<Range<T>>, AllocError>
+    mut union: set::Union<'a, T>,
+    mut intersection: set::Intersection<'a, T>,
+) -> Result<[Option<Range<T>>; 3], AllocError>
     requires { KeysCloneFaithfully T.is_clone T.cmp }
 {
     both_ends::<&'a Range<T>, _>(iter);
     both_ends::<Range<T>, _>(into_iter);
     both_ends::<&'a Range<T>, _>(overlapping);
-    let first = gaps.try_next()?;
+    let firsts = [
+        gaps.try_next()?,
+        union.try_next()?,
+        intersection.try_next()?,
+    ];
     front::<Result<Range<T>, AllocError>, _>(gaps);
-    Ok(first)
-}
-
-pub fn of_sets_combined<'a, T: Ord + Clone>(
-    mut union: set::Union<'a, T>,
-    mut intersection: set::Intersection<'a, T>,
-) -> Result<Option<Range<T>>, AllocError>
-    requires { KeysCloneFaithfully T.is_clone T.cmp }
-{
-    let _ = union.try_next()?;
-    let first = intersection.try_next()?;
     front::<Result<Range<T>, AllocError>, _>(union);
     front::<Result<Range<T>, AllocError>, _>(intersection);
-    Ok(first)
+    Ok(firsts)
 }
 
 pub fn of_closed_sets<'a, T: Ord + Clone, S: StepFns<T>, A: Allocator>(
@@ -92,26 +87,21 @@ pub fn of_closed_sets<'a, T: Ord + Clone, S: StepFns<T>, A: Allocator>(
     into_iter: inclusive_set::IntoIter<T, A>,
     overlapping: inclusive_set::Overlapping<'a, T>,
     mut gaps: inclusive_set::Gaps<'a, T, S>,
-) -> Result<Option<RangeInclusive<T>>, AllocError>
+    mut union: inclusive_set::Union<'a, T>,
+    mut intersection: inclusive_set::Intersection<'a, T>,
+) -> Result<[Option<RangeInclusive<T>>; 3], AllocError>
     requires { KeysCloneFaithfully T.is_clone T.cmp }
 {
     both_ends::<&'a RangeInclusive<T>, _>(iter);
     both_ends::<RangeInclusive<T>, _>(into_iter);
     both_ends::<&'a RangeInclusive<T>, _>(overlapping);
-    let first = gaps.try_next()?;
+    let firsts = [
+        gaps.try_next()?,
+        union.try_next()?,
+        intersection.try_next()?,
+    ];
     front::<Result<RangeInclusive<T>, AllocError>, _>(gaps);
-    Ok(first)
-}
-
-pub fn of_closed_sets_combined<'a, T: Ord + Clone>(
-    mut union: inclusive_set::Union<'a, T>,
-    mut intersection: inclusive_set::Intersection<'a, T>,
-) -> Result<Option<RangeInclusive<T>>, AllocError>
-    requires { KeysCloneFaithfully T.is_clone T.cmp }
-{
-    let _ = union.try_next()?;
-    let first = intersection.try_next()?;
     front::<Result<RangeInclusive<T>, AllocError>, _>(union);
     front::<Result<RangeInclusive<T>, AllocError>, _>(intersection);
-    Ok(first)
+    Ok(firsts)
 }

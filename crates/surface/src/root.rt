@@ -9,102 +9,80 @@ use rangemap::{
 use std::alloc::{AllocError, Global};
 use std::fmt::Debug;
 
-fn lite_known<T: StepLite>(x: &T) {
-    x.known()
-}
-
-fn lite_up<T: StepLite>(x: &T) -> T
-    requires { HasGreater T.is_key T.cmp x.now }
+pub fn lite_steps<T: StepLite>(x: &T) -> (T, T)
+    requires greater { HasGreater T.is_key T.cmp x.now }
+    requires smaller { HasSmaller T.is_key T.cmp x.now }
 {
-    x.add_one()
-}
-
-fn lite_down<T: StepLite>(x: &T) -> T
-    requires { HasSmaller T.is_key T.cmp x.now }
-{
-    x.sub_one()
+    (x.add_one(), x.sub_one())
 }
 
 fn fns_known<T: Ord, S: StepFns<T>>(x: &T) {
     S::known(x)
 }
 
-fn fns_up<T: Ord, S: StepFns<T>>(x: &T) -> T
-    requires { HasGreater S.is_key T.cmp x.now }
+pub fn fns_steps<T: Ord, S: StepFns<T>>(x: &T) -> (T, T)
+    requires greater { HasGreater S.is_key T.cmp x.now }
+    requires smaller { HasSmaller S.is_key T.cmp x.now }
 {
-    S::add_one(x)
+    (S::add_one(x), S::sub_one(x))
 }
-
-fn fns_down<T: Ord, S: StepFns<T>>(x: &T) -> T
-    requires { HasSmaller S.is_key T.cmp x.now }
-{
-    S::sub_one(x)
-}
-
-fn is_ord<T: Ord>(_x: &T) {}
 
 // every StepLite is Ord, and StepFns over itself
 fn over_itself<T: StepLite>(x: &T) {
-    is_ord(x);
+    x.known();
     fns_known::<T, T>(x)
 }
 
-pub fn unsigned(a: &u8, b: &u16, c: &u32, d: &u64, e: &u128, f: &usize) {
-    lite_known(a);
-    lite_known(b);
-    lite_known(c);
-    lite_known(d);
-    lite_known(e);
-    lite_known(f);
+pub fn integers(
+    unsigned: (&u8, &u16, &u32, &u64, &u128, &usize),
+    signed: (&i8, &i16, &i32, &i64, &i128, &isize),
+    character: &char,
+) {
+    over_itself(unsigned.0);
+    over_itself(unsigned.1);
+    over_itself(unsigned.2);
+    over_itself(unsigned.3);
+    over_itself(unsigned.4);
+    over_itself(unsigned.5);
+    over_itself(signed.0);
+    over_itself(signed.1);
+    over_itself(signed.2);
+    over_itself(signed.3);
+    over_itself(signed.4);
+    over_itself(signed.5);
+    over_itself(character);
 }
 
-pub fn signed(a: &i8, b: &i16, c: &i32, d: &i64, e: &i128, f: &isize, g: &char) {
-    lite_known(a);
-    lite_known(b);
-    lite_known(c);
-    lite_known(d);
-    lite_known(e);
-    lite_known(f);
-    lite_known(g);
-}
+pub fn is_eq<C: Eq>(_container: &C) {}
 
 fn derives_part<P: Clone + Copy + Debug + PartialEq + Eq>(_p: P) {}
 
 fn derives_error<P: Debug + PartialEq + Eq + Drop>(_p: P) {}
 
-pub fn parts() {
+pub fn errors<E: Debug + PartialEq + Eq + Drop>(fault: E) -> ReadError<E> {
     derives_part(Part::Start);
     derives_part(Part::End);
     derives_part(Form::Any);
     derives_part(Form::Canonical);
-}
-
-pub fn errors<E: Debug + PartialEq + Eq + Drop>(fault: E) -> ReadError<E> {
     derives_error(ReadError::<u8>::NotAList);
+    derives_error(WriteError::<u8>::OutOfMemory);
     ReadError::BadValue { at: 0, fault }
 }
 
-pub fn number_of<E: Drop>(error: ReadError<E>) -> u8 {
+pub fn number_and_place<E: Drop>(error: ReadError<E>) -> (u8, usize) {
     match error {
-        ReadError::NotAList => 1,
-        ReadError::BadEntry { at: _ } => 2,
+        ReadError::NotAList => (1, 0),
+        ReadError::BadEntry { at } => (2, at),
         ReadError::BadKey {
-            at: _,
+            at,
             part: _,
             fault: _,
-        } => 3,
-        ReadError::BadValue { at: _, fault: _ } => 4,
-        ReadError::EmptyRange { at: _ } => 5,
-        ReadError::OutOfMemory => 6,
-        ReadError::OutOfOrder { at: _ } => 7,
-        ReadError::Uncoalesced { at: _ } => 8,
-    }
-}
-
-pub fn place_of<E: Drop>(error: &ReadError<E>) -> usize {
-    match error {
-        ReadError::BadEntry { at } => *at,
-        _ => 0,
+        } => (3, at),
+        ReadError::BadValue { at, fault: _ } => (4, at),
+        ReadError::EmptyRange { at } => (5, at),
+        ReadError::OutOfMemory => (6, 0),
+        ReadError::OutOfOrder { at } => (7, at),
+        ReadError::Uncoalesced { at } => (8, at),
     }
 }
 
@@ -113,10 +91,6 @@ pub fn writes<E: Debug + PartialEq + Eq + Drop>(error: WriteError<E>) -> Option<
         WriteError::Caller(fault) => Some(fault),
         WriteError::OutOfMemory => None,
     }
-}
-
-fn writes_derive() {
-    derives_error(WriteError::<u8>::OutOfMemory);
 }
 
 pub fn macros_of_maps(alloc: Global) -> Result<usize, AllocError> {

@@ -4,6 +4,7 @@ ghost use Rattle.rangemap.specs.Clones.{KeysCloneFaithfully};
 ghost use Rattle.rangemap.specs.Ranges.{half_open};
 ghost use Rattle.rangemap.specs.Sets.{AreNonEmptyRanges, GivesNonEmptyRanges};
 
+use crate::root::is_eq;
 use rangemap::set::{Gaps, Intersection, IntoIter, Iter, Overlapping, RangeSet, Union};
 use rangemap::{Form, ReadError, WriteError};
 use serde_json::Value;
@@ -18,6 +19,7 @@ pub fn ask<'a, T: Ord + Clone, A: Allocator>(
     set: &'a RangeSet<T, A>,
     value: &T,
     range: &'a Range<T>,
+    other: &'a RangeSet<T, A>,
 ) {
     let _: Option<&'a Range<T>> = set.get(value);
     let _: bool = set.contains(value);
@@ -29,27 +31,10 @@ pub fn ask<'a, T: Ord + Clone, A: Allocator>(
     let _: Iter<'a, T> = set.iter();
     let _: Overlapping<'a, T> = set.overlapping(range);
     let _: Gaps<'a, T> = set.gaps(range);
-}
-
-pub fn combine<'a, T: Ord + Clone, A: Allocator>(
-    left: &'a RangeSet<T, A>,
-    right: &'a RangeSet<T, A>,
-) {
-    let _: Union<'a, T> = left.union(right);
-    let _: Intersection<'a, T> = left.intersection(right);
-    let _: Union<'a, T> = Union::new(left.iter(), right.iter());
-    let _: Intersection<'a, T> = Intersection::new(left.iter(), right.iter());
-}
-
-pub fn either_and_both<T: Ord + Clone, A: Allocator + Clone>(
-    left: &RangeSet<T, A>,
-    right: &RangeSet<T, A>,
-) -> Result<(RangeSet<T, A>, RangeSet<T, A>), AllocError>
-    requires faithful_keys { KeysCloneFaithfully T.is_clone T.cmp }
-{
-    let either = (left | right)?;
-    let both = (left & right)?;
-    Ok((either, both))
+    let _: Union<'a, T> = set.union(other);
+    let _: Intersection<'a, T> = set.intersection(other);
+    let _: Union<'a, T> = Union::new(set.iter(), other.iter());
+    let _: Intersection<'a, T> = Intersection::new(set.iter(), other.iter());
 }
 
 pub fn change<T: Ord + Clone, A: Allocator>(
@@ -67,53 +52,38 @@ pub fn change<T: Ord + Clone, A: Allocator>(
     Ok(())
 }
 
-pub fn copy<T: Ord + Clone, A: Allocator + Clone>(
-    set: &RangeSet<T, A>,
-) -> Result<RangeSet<T, A>, AllocError>
-    requires faithful_keys { KeysCloneFaithfully T.is_clone T.cmp }
-{
-    set.clone()
-}
-
 pub fn from<T: Ord + Clone, A: Allocator + Clone, const N: usize>(
     alloc: A,
     value: [Range<T>; N],
-) -> Result<RangeSet<T, A>, AllocError>
+    other: &RangeSet<T, A>,
+) -> Result<[RangeSet<T, A>; 3], AllocError>
     requires non_empty { AreNonEmptyRanges (half_open T.cmp) value }
     requires faithful_keys { KeysCloneFaithfully T.is_clone T.cmp }
 {
-    RangeSet::from(alloc, value)
+    let set = RangeSet::from(alloc, value)?;
+    let either = (&set | other)?;
+    let both = (&set & other)?;
+    Ok([set.clone()?, either, both])
 }
 
 pub fn collect<T: Ord + Clone, A: Allocator, I: IntoIterator<Item = Range<T>>>(
     alloc: A,
+    other: A,
     iter: I,
-) -> Result<RangeSet<T, A>, AllocError>
+    more: I,
+) -> Result<(IntoIter<T, A>, RangeSet<T, A>), AllocError>
     requires ends { IsFiniteIterable I.into_iter_gives I.IntoIter.can_next I.IntoIter.remaining iter }
     requires non_empty { (it : I.IntoIter) → I.into_iter_gives iter it → GivesNonEmptyRanges (half_open T.cmp) I.IntoIter.next_gives it }
+    requires more_ends { IsFiniteIterable I.into_iter_gives I.IntoIter.can_next I.IntoIter.remaining more }
+    requires more_non_empty { (it : I.IntoIter) → I.into_iter_gives more it → GivesNonEmptyRanges (half_open T.cmp) I.IntoIter.next_gives it }
     requires faithful_keys { KeysCloneFaithfully T.is_clone T.cmp }
 {
-    RangeSet::from_iter(alloc, iter)
+    let mut extended: RangeSet<T, A> = RangeSet::new(other);
+    let answer = extended.extend(more);
+    let collected = RangeSet::from_iter(alloc, iter)?;
+    answer?;
+    Ok((collected.into_iter(), extended))
 }
-
-pub fn extend<T: Ord + Clone, A: Allocator, I: IntoIterator<Item = Range<T>>>(
-    alloc: A,
-    iter: I,
-) -> Result<RangeSet<T, A>, AllocError>
-    requires ends { IsFiniteIterable I.into_iter_gives I.IntoIter.can_next I.IntoIter.remaining iter }
-    requires non_empty { (it : I.IntoIter) → I.into_iter_gives iter it → GivesNonEmptyRanges (half_open T.cmp) I.IntoIter.next_gives it }
-    requires faithful_keys { KeysCloneFaithfully T.is_clone T.cmp }
-{
-    let mut set: RangeSet<T, A> = RangeSet::new(alloc);
-    set.extend(iter)?;
-    Ok(set)
-}
-
-pub fn hand_over<T: Ord + Clone, A: Allocator>(set: RangeSet<T, A>) -> IntoIter<T, A> {
-    set.into_iter()
-}
-
-fn is_eq<S: Eq>(_set: &S) {}
 
 pub fn compare<T: Ord + Clone + Hash, A: Allocator, H: Hasher>(
     left: &RangeSet<T, A>,

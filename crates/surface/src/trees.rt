@@ -4,6 +4,7 @@ ghost use Rattle.rangemap.specs.Clones.{KeysCloneFaithfully, ValuesCloneFaithful
 ghost use Rattle.rangemap.specs.NonEmptyPairs.{GivesNonEmpty};
 ghost use Rattle.rangemap.specs.Ranges.{AreNonEmpty, half_open};
 
+use crate::root::is_eq;
 use rangemap::tree_map::{Gaps, IntoIter, Iter, Overlapping, RangeMap};
 use std::alloc::{AllocError, Allocator, Global};
 use std::cmp::Ordering;
@@ -47,24 +48,17 @@ pub fn change<K: Ord + Clone, V: Eq + Clone, A: Allocator + Clone>(
     Ok(())
 }
 
-pub fn copy<K: Ord + Clone, V: Eq + Clone, A: Allocator + Clone>(
-    map: &RangeMap<K, V, A>,
-) -> Result<RangeMap<K, V, A>, AllocError>
-    requires faithful_keys { KeysCloneFaithfully K.is_clone K.cmp }
-    requires faithful_values { ValuesCloneFaithfully V.is_clone V.eq }
-{
-    map.clone()
-}
-
 pub fn from<K: Ord + Clone, V: Eq + Clone, A: Allocator + Clone, const N: usize>(
     alloc: A,
     value: [(Range<K>, V); N],
-) -> Result<RangeMap<K, V, A>, AllocError>
+) -> Result<(RangeMap<K, V, A>, RangeMap<K, V, A>), AllocError>
     requires non_empty { AreNonEmpty (half_open K.cmp) value }
     requires faithful_keys { KeysCloneFaithfully K.is_clone K.cmp }
     requires faithful_values { ValuesCloneFaithfully V.is_clone V.eq }
 {
-    RangeMap::from(alloc, value)
+    let map = RangeMap::from(alloc, value)?;
+    let copy = map.clone()?;
+    Ok((map, copy))
 }
 
 pub fn collect<
@@ -72,38 +66,25 @@ pub fn collect<
     V: Eq + Clone,
     A: Allocator + Clone,
     I: IntoIterator<Item = (Range<K>, V)>,
->(alloc: A, iter: I) -> Result<RangeMap<K, V, A>, AllocError>
+>(
+    alloc: A,
+    other: A,
+    iter: I,
+    more: I,
+) -> Result<(IntoIter<K, V, A>, RangeMap<K, V, A>), AllocError>
     requires ends { IsFiniteIterable I.into_iter_gives I.IntoIter.can_next I.IntoIter.remaining iter }
     requires non_empty { (it : I.IntoIter) → I.into_iter_gives iter it → GivesNonEmpty (half_open K.cmp) I.IntoIter.next_gives it }
+    requires more_ends { IsFiniteIterable I.into_iter_gives I.IntoIter.can_next I.IntoIter.remaining more }
+    requires more_non_empty { (it : I.IntoIter) → I.into_iter_gives more it → GivesNonEmpty (half_open K.cmp) I.IntoIter.next_gives it }
     requires faithful_keys { KeysCloneFaithfully K.is_clone K.cmp }
     requires faithful_values { ValuesCloneFaithfully V.is_clone V.eq }
 {
-    RangeMap::from_iter(alloc, iter)
+    let mut extended: RangeMap<K, V, A> = RangeMap::new(other);
+    let answer = extended.extend(more);
+    let collected = RangeMap::from_iter(alloc, iter)?;
+    answer?;
+    Ok((collected.into_iter(), extended))
 }
-
-pub fn extend<
-    K: Ord + Clone,
-    V: Eq + Clone,
-    A: Allocator + Clone,
-    I: IntoIterator<Item = (Range<K>, V)>,
->(alloc: A, iter: I) -> Result<RangeMap<K, V, A>, AllocError>
-    requires ends { IsFiniteIterable I.into_iter_gives I.IntoIter.can_next I.IntoIter.remaining iter }
-    requires non_empty { (it : I.IntoIter) → I.into_iter_gives iter it → GivesNonEmpty (half_open K.cmp) I.IntoIter.next_gives it }
-    requires faithful_keys { KeysCloneFaithfully K.is_clone K.cmp }
-    requires faithful_values { ValuesCloneFaithfully V.is_clone V.eq }
-{
-    let mut map: RangeMap<K, V, A> = RangeMap::new(alloc);
-    map.extend(iter)?;
-    Ok(map)
-}
-
-pub fn hand_over<K: Ord + Clone, V: Eq + Clone, A: Allocator + Clone>(
-    map: RangeMap<K, V, A>,
-) -> IntoIter<K, V, A> {
-    map.into_iter()
-}
-
-fn is_eq<M: Eq>(_map: &M) {}
 
 pub fn compare<K: Ord + Clone + Hash, V: Ord + Clone + Hash, A: Allocator + Clone, H: Hasher>(
     left: &RangeMap<K, V, A>,

@@ -70,35 +70,29 @@ pub fn is_letter(letters: &RangeInclusiveSet<char, char, Global>, character: cha
     letters.contains(&character)
 }
 
-/// Each item of the half-open set at `u64`, once.
+/// Each item of the half-open set at `u64`, and of the closed set at `usize`, once.
 pub fn walk(
     left: &RangeSet<u64, Global>,
     right: &RangeSet<u64, Global>,
     query: &Range<u64>,
+    left_closed: &RangeInclusiveSet<usize, usize, Global>,
+    right_closed: &RangeInclusiveSet<usize, usize, Global>,
+    query_closed: &RangeInclusive<usize>,
 ) -> Result<(), AllocError> {
     let _: Option<&Range<u64>> = left.iter().next();
     let _: Option<&Range<u64>> = left.overlapping(query).next();
     let _: Option<Range<u64>> = left.gaps(query).try_next()?;
     let _: Option<Range<u64>> = left.union(right).try_next()?;
     let _: Option<Range<u64>> = left.intersection(right).try_next()?;
+    let _: Option<&RangeInclusive<usize>> = left_closed.iter().next();
+    let _: Option<&RangeInclusive<usize>> = left_closed.overlapping(query_closed).next();
+    let _: Option<RangeInclusive<usize>> = left_closed.gaps(query_closed).try_next()?;
+    let _: Option<RangeInclusive<usize>> = left_closed.union(right_closed).try_next()?;
+    let _: Option<RangeInclusive<usize>> = left_closed.intersection(right_closed).try_next()?;
     Ok(())
 }
 
-/// The same of the closed set at `usize`.
-pub fn walk_closed(
-    left: &RangeInclusiveSet<usize, usize, Global>,
-    right: &RangeInclusiveSet<usize, usize, Global>,
-    query: &RangeInclusive<usize>,
-) -> Result<(), AllocError> {
-    let _: Option<&RangeInclusive<usize>> = left.iter().next();
-    let _: Option<&RangeInclusive<usize>> = left.overlapping(query).next();
-    let _: Option<RangeInclusive<usize>> = left.gaps(query).try_next()?;
-    let _: Option<RangeInclusive<usize>> = left.union(right).try_next()?;
-    let _: Option<RangeInclusive<usize>> = left.intersection(right).try_next()?;
-    Ok(())
-}
-
-pub fn name_sets(
+pub fn name_iterators(
     _u64: (
         set::Iter<'_, u64>,
         set::IntoIter<u64, Global>,
@@ -114,15 +108,12 @@ pub fn name_sets(
         set::Union<'_, usize>,
         set::Intersection<'_, usize>,
     ),
-) {}
-
-pub fn name_closed_sets(
-    _u64: (
+    _closed: (
         inclusive_set::Iter<'_, u64>,
         inclusive_set::IntoIter<u64, Global>,
         inclusive_set::Overlapping<'_, u64>,
     ),
-    _usize: (
+    _closed_made: (
         inclusive_set::Gaps<'_, u64, u64>,
         inclusive_set::Union<'_, u64>,
         inclusive_set::Intersection<'_, u64>,

@@ -7,7 +7,7 @@ use crate::pairs::{collect, pairs};
 use crate::points::Points;
 use crate::soaked::{Heap, Soaked};
 
-impl<'a, S: Soaked<Alloc = &'a Heap>> Session<'a, S> {
+impl<'a, S: Soaked<'a>> Session<'a, S> {
     /// `clone`, the copy of which takes the container's place.
     pub(super) fn clone(&mut self) -> Result<bool, Stop> {
         let held = self.chance.heap.held();
@@ -26,7 +26,7 @@ impl<'a, S: Soaked<Alloc = &'a Heap>> Session<'a, S> {
     /// `from_iter`
     pub(super) fn collect(&mut self) -> Result<bool, Stop> {
         let held = self.chance.heap.held();
-        let puts = self.chance.puts(S::HAS_MARKS);
+        let puts = self.chance.puts(self.profile.has_marks);
         let pairs = pairs::<S>(self.chance.heap, self.alloc, &puts)?;
         self.chance.refuse_one();
         let made = collect::<S>(self.chance.heap, pairs);
@@ -41,13 +41,13 @@ impl<'a, S: Soaked<Alloc = &'a Heap>> Session<'a, S> {
 
     /// `|` or `&` with a set that is made for it; of a map, a lookup.
     pub(super) fn combine(&mut self) -> Result<bool, Stop> {
-        let puts = self.chance.puts(S::HAS_MARKS);
+        let puts = self.chance.puts(self.profile.has_marks);
         let pairs = pairs::<S>(self.chance.heap, self.alloc, &puts)?;
         let other = collect::<S>(self.chance.heap, pairs)?;
         let held = self.chance.heap.held();
-        let operator = self.chance.operator();
+        let is_union = self.chance.is_heads();
         self.chance.refuse_one();
-        let Some(made) = self.subject.combined(&other, operator) else {
+        let Some(made) = self.subject.combined(&other, is_union) else {
             self.chance.refuse_none();
             return self.get();
         };
@@ -55,7 +55,7 @@ impl<'a, S: Soaked<Alloc = &'a Heap>> Session<'a, S> {
         if let Ok(made) = made {
             let mut points = Points::new();
             points.put_all(&puts);
-            self.check_made(&made, &operator.of(&self.points, &points), held)?;
+            self.check_made(&made, &self.points.combined(&points, is_union), held)?;
         }
         Ok(is_refused)
     }
@@ -65,9 +65,10 @@ impl<'a, S: Soaked<Alloc = &'a Heap>> Session<'a, S> {
         let runs = points.runs(self.alloc)?;
         check(is_list(self.alloc, made, &runs)?, Difference::Made)?;
         let are_equal = *made == self.subject;
-        check(are_equal == (runs == self.runs()?), Difference::Equality)?;
+        let are_alike = points.marks == self.points.marks;
+        check(are_equal == are_alike, Difference::Equality)?;
         let blocks = self.chance.heap.held().wrapping_sub(held);
-        let is_needed = S::needs(blocks, made.len(), !made.is_empty());
+        let is_needed = self.profile.needs(blocks, made.len(), !made.is_empty());
         check(is_needed, Difference::Blocks)
     }
 }

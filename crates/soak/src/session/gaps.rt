@@ -1,79 +1,52 @@
 //! `gaps`, which takes memory for each gap.
+ghost use Rattle.rangemap.specs.Clones.{KeysCloneFaithfully};
 
 use super::Session;
 use crate::chance::Chance;
 use crate::difference::{Difference, Stop, check};
 use crate::points::Run;
-use crate::soaked::{AskedGaps, Heap, OverPoints, Soaked};
+use crate::soaked::gaps::AskedGaps;
+use crate::soaked::{PointRange, Soaked};
 
-impl<'a, S: Soaked<Alloc = &'a Heap>> Session<'a, S> {
+impl<'a, S: Soaked<'a>> Session<'a, S> {
     /// `gaps`, by `try_next` or by `next`.
     pub(super) fn gaps(&mut self) -> Result<bool, Stop> {
-        let query = self.chance.query();
-        let outer = S::query(self.chance.heap, query)?;
-        let runs = self.points.free(query).runs(self.alloc)?;
+        let (first, last) = (self.chance.byte(), self.chance.byte());
+        let outer = S::Range::between(self.chance.heap, first, last)?;
+        let runs = self.points.free(first, last).runs(self.alloc)?;
         self.subject.ask_for_gaps(&outer, &runs, &mut self.chance)
     }
 }
 
-/// Asks for gaps by `try_next` or by `next`, and compares them with runs of the model. Answers
-/// whether one was refused.
-pub fn ask_for_gaps<S: OverPoints, G: AskedGaps<S::Key, S::Range>>(
-    gaps: G,
-    runs: &[Run],
-    chance: &mut Chance<'_>,
-) -> Result<bool, Stop> {
-    if chance.is_heads() {
-        try_gaps::<S, G>(gaps, runs, chance)
-    } else {
-        take_gaps::<S, G>(gaps, runs, chance)
-    }
-}
-
-/// Asks for the gaps by `try_next`. One that is refused is asked for again.
-fn try_gaps<S: OverPoints, G: AskedGaps<S::Key, S::Range>>(
+/// Asks for gaps by `try_next` or by `next`, and compares them with runs of the model. One that is
+/// refused is asked for again by `try_next`; by `next` none comes after it. Answers whether one was
+/// refused.
+pub fn ask_for_gaps<'a, K: Ord + Clone, R: PointRange<'a>, G: AskedGaps<K, R>>(
     mut gaps: G,
     runs: &[Run],
     chance: &mut Chance<'_>,
-) -> Result<bool, Stop> {
+) -> Result<bool, Stop>
+    requires { KeysCloneFaithfully K.is_clone K.cmp }
+{
+    let by_next = !chance.is_heads();
     let mut is_refused = false;
     for run in runs {
         chance.refuse_one();
-        let mut answer = gaps.try_next_gap();
+        let mut answer = gaps.ask(by_next);
         if chance.answer(answer.is_ok())? {
             is_refused = true;
-            answer = gaps.try_next_gap();
+            if by_next {
+                break;
+            }
+            answer = gaps.ask(false);
         }
-        check_gap::<S>(answer?, run)?;
+        let is_run = match answer? {
+            Some(gap) => gap.is_between(run.first, run.last),
+            None => false,
+        };
+        check(is_run, Difference::Gaps)?;
     }
-    check(gaps.try_next_gap()?.is_none(), Difference::Gaps)?;
+    check(matches!(gaps.ask(by_next), Ok(None)), Difference::Gaps)?;
+    check(matches!(gaps.ask(false), Ok(None)), Difference::Gaps)?;
     Ok(is_refused)
-}
-
-/// Asks for the gaps by `next`. Where one is refused, none comes after that.
-fn take_gaps<S: OverPoints, G: AskedGaps<S::Key, S::Range>>(
-    mut gaps: G,
-    runs: &[Run],
-    chance: &mut Chance<'_>,
-) -> Result<bool, Stop> {
-    for run in runs {
-        chance.refuse_one();
-        let item = gaps.next_gap().transpose();
-        if chance.answer(item.is_ok())? {
-            check(gaps.next_gap().is_none(), Difference::Gaps)?;
-            check(gaps.try_next_gap()?.is_none(), Difference::Gaps)?;
-            return Ok(true);
-        }
-        check_gap::<S>(item?, run)?;
-    }
-    check(gaps.next_gap().is_none(), Difference::Gaps)?;
-    Ok(false)
-}
-
-/// Compares a gap with a run of the model.
-fn check_gap<S: OverPoints>(gap: Option<S::Range>, run: &Run) -> Result<(), Stop> {
-    match gap {
-        Some(gap) => check(S::is_range(&gap, run.span), Difference::Gaps),
-        None => Err(Stop::Differs(Difference::Gaps)),
-    }
 }

@@ -1,7 +1,7 @@
 //! Keys each of which holds a block of memory.
-ghost use Rattle.std.specs.Prelude.{◌≡◌, ◌+◌, IfOk};
+ghost use Rattle.std.specs.Prelude.{◌≡◌, IfOk};
 
-use super::Heap;
+use super::{Heap, PointRange};
 use std::alloc::AllocError;
 use std::ops::Range;
 
@@ -16,7 +16,7 @@ pub struct Boxed<'a> {
 
 impl<'a> Boxed<'a> {
     /// Returns the number in a block of its own.
-    pub fn new(heap: &'a Heap, number: u16) -> Result<Boxed<'a>, AllocError>
+    fn new(heap: &'a Heap, number: u16) -> Result<Boxed<'a>, AllocError>
         ensures { IfOk result (λ key. key.number.value ≡ number) }
     {
         let number = Box::new(heap, number)?;
@@ -33,16 +33,18 @@ impl<'a> Clone for Boxed<'a> {
     }
 }
 
-/// Makes the range from one point up to another, which is in it.
-pub fn range<'a>(heap: &'a Heap, first: u8, last: u8) -> Result<Range<Boxed<'a>>, AllocError>
-    ensures { IfOk result (λ range. (range.start.number.value ≡ first) × (range.end.number.value ≡ last + 1)) }
-{
-    let start = Boxed::new(heap, u16::from(first))?;
-    let end = Boxed::new(heap, u16::from(last) + 1)?;
-    Ok(start..end)
-}
+impl<'a> PointRange<'a> for Range<Boxed<'a>> {
+    ghost use Rattle.std.specs.Prelude.{◌<◌};
 
-/// Returns whether a range has the points from one up to another, and no others.
-pub fn is_range(range: &Range<Boxed<'_>>, first: u8, last: u8) -> bool {
-    *range.start.number == u16::from(first) && *range.end.number == u16::from(last) + 1
+    ghost IsNonEmpty = { λ range. range.start.number.value < range.end.number.value };
+
+    fn between(heap: &'a Heap, first: u8, last: u8) -> Result<Range<Boxed<'a>>, AllocError> {
+        let start = Boxed::new(heap, u16::from(first))?;
+        let end = Boxed::new(heap, u16::from(last) + 1)?;
+        Ok(start..end)
+    }
+
+    fn is_between(&self, first: u8, last: u8) -> bool {
+        *self.start.number == u16::from(first) && *self.end.number == u16::from(last) + 1
+    }
 }

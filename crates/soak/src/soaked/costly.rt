@@ -1,10 +1,9 @@
 //! Keys with steps, whose clones take memory.
-ghost use Rattle.std.specs.Prelude.{◌≡◌, ◌<◌, ◌^◌, false, option_map, refl};
+ghost use Rattle.std.specs.Prelude.{◌≡◌, ◌<◌, ◌^◌, option_map, refl};
 ghost use Rattle.std.specs.Ordering.{nat_cmp};
-ghost use Rattle.std.specs.Range.{range_inclusive_start, range_inclusive_end, range_inclusive_exhausted};
 ghost use Rattle.rangemap.specs.StepLaws.{held_follows, held_precedes, nat_after, nat_before, nat_follows, nat_precedes};
 
-use super::Heap;
+use super::{Heap, PointRange};
 use rangemap::StepLite;
 use std::alloc::AllocError;
 use std::ops::RangeInclusive;
@@ -13,21 +12,11 @@ use std::ops::RangeInclusive;
 #[derive(Drop)]
 #[derive_where(PartialEq, Eq, PartialOrd, Ord)]
 pub struct Costly<'a> {
-    /// The byte, by which keys are compared.
-    pub byte: u8,
-    /// Where the block is taken from.
+    // The byte, by which keys are compared.
+    byte: u8,
+    // Where the block is taken from.
     #[derive_where(skip)]
-    pub heap: &'a Heap,
-}
-
-impl<'a> Costly<'a> {
-    /// Returns the range from one byte to another, both of which are in it.
-    pub fn range(heap: &'a Heap, first: u8, last: u8) -> RangeInclusive<Costly<'a>>
-        ensures ends { ((range_inclusive_start result).byte ≡ first) × ((range_inclusive_end result).byte ≡ last) }
-        ensures not_exhausted { range_inclusive_exhausted result ≡ false }
-    {
-        Costly { byte: first, heap }..=Costly { byte: last, heap }
-    }
+    heap: &'a Heap,
 }
 
 impl<'a> Clone for Costly<'a> {
@@ -69,5 +58,24 @@ impl<'a> StepLite for Costly<'a> {
             byte: self.byte - 1,
             heap: self.heap,
         }
+    }
+}
+
+impl<'a> PointRange<'a> for RangeInclusive<Costly<'a>> {
+    ghost use Rattle.std.specs.Prelude.{◌≡◌, ◌≤◌, false};
+    ghost use Rattle.std.specs.Range.{range_inclusive_start, range_inclusive_end, range_inclusive_exhausted};
+
+    ghost IsNonEmpty = { λ range. ((range_inclusive_start range).byte ≤ (range_inclusive_end range).byte) × (range_inclusive_exhausted range ≡ false) };
+
+    fn between(
+        heap: &'a Heap,
+        first: u8,
+        last: u8,
+    ) -> Result<RangeInclusive<Costly<'a>>, AllocError> {
+        Ok(Costly { byte: first, heap }..=Costly { byte: last, heap })
+    }
+
+    fn is_between(&self, first: u8, last: u8) -> bool {
+        self.start().byte == first && self.end().byte == last
     }
 }

@@ -1,0 +1,35 @@
+//! The values: numbers, numbers in blocks of their own, and those of sets.
+
+use super::{Heap, Mark};
+use std::alloc::AllocError;
+
+impl<'a> Mark<'a> for u8 {
+    fn of(_heap: &'a Heap, mark: u8) -> Result<u8, AllocError> {
+        Ok(mark)
+    }
+
+    fn mark(&self) -> u8 {
+        *self
+    }
+}
+
+impl<'a> Mark<'a> for Box<u8, &'a Heap> {
+    fn of(heap: &'a Heap, mark: u8) -> Result<Box<u8, &'a Heap>, AllocError> {
+        Ok(Box::new(heap, mark)?)
+    }
+
+    fn mark(&self) -> u8 {
+        **self
+    }
+}
+
+/// It stands for the mark 1.
+impl<'a> Mark<'a> for () {
+    fn of(_heap: &'a Heap, _mark: u8) -> Result<(), AllocError> {
+        Ok(())
+    }
+
+    fn mark(&self) -> u8 {
+        1
+    }
+}
