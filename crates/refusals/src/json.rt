@@ -1,6 +1,7 @@
 //! Reading where a request for memory is refused. `to_value` takes memory of the `Global` that the
 //! JSON value is made in, and of no other; `from_value` takes that of the container.
 
+use crate::same::assert_same;
 use crate::trials::{Answer, Trial, count_refusals};
 use rangemap::container::Container;
 use rangemap::{Form, RangeInclusiveMap, RangeInclusiveSet, RangeMap, RangeSet, ReadError};
@@ -40,11 +41,11 @@ fn is_read<R: Abort, M: Container>(
 ) -> bool {
     match read {
         Ok(all) => {
-            assert_eq!(rt; all.len(), len);
+            assert_same(rt, all.len(), len);
             true
         }
         Err(error) => {
-            assert_eq!(rt; error, ReadError::OutOfMemory);
+            assert_same(rt, error, ReadError::OutOfMemory);
             false
         }
     }
@@ -62,14 +63,14 @@ impl Trial for Read {
         let is_made = is_read(rt, map, 13);
         heap.refuse_after(left);
         let map = RangeInclusiveMap::from_value(heap, self.0, &pairs, read_number, read_number);
-        assert_eq!(rt; is_read(rt, map, 13), is_made);
+        assert_same(rt, is_read(rt, map, 13), is_made);
         let ranges = Value::from_str(rt.alloc(), RANGES)?;
         heap.refuse_after(left);
         let set = RangeSet::from_value(heap, self.0, &ranges, read_number);
-        assert_eq!(rt; is_read(rt, set, 13), is_made);
+        assert_same(rt, is_read(rt, set, 13), is_made);
         heap.refuse_after(left);
         let set = RangeInclusiveSet::from_value(heap, self.0, &ranges, read_number);
-        assert_eq!(rt; is_read(rt, set, 13), is_made);
+        assert_same(rt, is_read(rt, set, 13), is_made);
         Ok(is_made)
     }
 }
@@ -100,10 +101,10 @@ fn read_costly<'a>(heap: &'a Heap, part: &Value) -> Result<Costly<'a>, NoNumber>
 #[test]
 fn what_is_read_may_be_refused(rt: HostRuntime) -> Result<(), Fail> {
     // both growths
-    assert_eq!(rt; count_refusals(&rt, &Read(Form::Any))?, 2);
-    assert_eq!(rt; count_refusals(&rt, &Read(Form::Canonical))?, 2);
+    assert_same(&rt, count_refusals(&rt, &Read(Form::Any))?, 2);
+    assert_same(&rt, count_refusals(&rt, &Read(Form::Canonical))?, 2);
     // the growth; of each of the two pieces that the second range leaves a key and a value; and
     // both ends of the third range, which is joined with the piece before it
-    assert_eq!(rt; count_refusals(&rt, &ReadCostly)?, 7);
+    assert_same(&rt, count_refusals(&rt, &ReadCostly)?, 7);
     Ok(())
 }

@@ -18,6 +18,8 @@ mod macros;
 #[cfg(test)]
 mod map;
 #[cfg(test)]
+mod same;
+#[cfg(test)]
 mod set;
 #[cfg(test)]
 mod tree_map;

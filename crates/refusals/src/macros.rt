@@ -1,5 +1,6 @@
 //! Lists whose macros are refused memory, each request in its turn.
 
+use crate::same::assert_same;
 use crate::trials::{Answer, Trial, count_refusals};
 use rangemap::container::Container;
 use rangemap::{range_inclusive_map, range_inclusive_set, range_map, range_set};
@@ -12,7 +13,7 @@ use std::test::Fail;
 fn is_made_of_two<R: Abort, M: Container>(rt: &R, made: Result<M, AllocError>) -> bool {
     match made {
         Ok(all) => {
-            assert_eq!(rt; all.len(), 2);
+            assert_same(rt, all.len(), 2);
             true
         }
         Err(AllocError) => false,
@@ -28,13 +29,13 @@ impl Trial for Lists {
         let is_made = is_made_of_two(rt, range_map! { in heap; 0..5u32 => 'a', 7..9 => 'b' });
         heap.refuse_after(left);
         let map = range_inclusive_map! { in heap; 0..=5u32 => 'a', 7..=9 => 'b' };
-        assert_eq!(rt; is_made_of_two(rt, map), is_made);
+        assert_same(rt, is_made_of_two(rt, map), is_made);
         heap.refuse_after(left);
         let set = range_set![in heap; 0..5u32, 7..9];
-        assert_eq!(rt; is_made_of_two(rt, set), is_made);
+        assert_same(rt, is_made_of_two(rt, set), is_made);
         heap.refuse_after(left);
         let set = range_inclusive_set![in heap; 0..=5u32, 7..=9];
-        assert_eq!(rt; is_made_of_two(rt, set), is_made);
+        assert_same(rt, is_made_of_two(rt, set), is_made);
         Ok(is_made)
     }
 }
@@ -42,6 +43,6 @@ impl Trial for Lists {
 // The list of the macro, and that of the container.
 #[test]
 fn a_list_may_be_refused(rt: HostRuntime) -> Result<(), Fail> {
-    assert_eq!(rt; count_refusals(&rt, &Lists)?, 2);
+    assert_same(&rt, count_refusals(&rt, &Lists)?, 2);
     Ok(())
 }

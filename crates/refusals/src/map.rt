@@ -1,6 +1,7 @@
 //! Rows about calls on maps over half-open ranges that are refused memory: the growth of a map and
 //! each clone of a text or a key, in its turn.
 
+use crate::same::assert_same;
 use crate::trials::items::try_both;
 use crate::trials::maps::Tried::{Change, Clone};
 use crate::trials::maps::{Row, check_refusals};
@@ -92,6 +93,6 @@ impl Trial for Gaps {
 
 #[test]
 fn each_clone_of_a_gap_may_be_refused(rt: HostRuntime) -> Result<(), Fail> {
-    assert_eq!(rt; count_refusals(&rt, &Gaps)?, 2);
+    assert_same(&rt, count_refusals(&rt, &Gaps)?, 2);
     Ok(())
 }

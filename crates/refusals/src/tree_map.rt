@@ -1,6 +1,7 @@
 //! Rows about calls on maps in a tree that are refused memory: each node, each list of keys and
 //! each clone of a key or a text, in its turn.
 
+use crate::same::assert_same;
 use crate::trials::items::try_both;
 use crate::trials::maps::Tried::{Change, Clone};
 use crate::trials::maps::{Row, check_refusals, make_map};
@@ -116,6 +117,6 @@ impl Trial for Gaps {
 
 #[test]
 fn each_clone_of_a_gap_may_be_refused(rt: HostRuntime) -> Result<(), Fail> {
-    assert_eq!(rt; count_refusals(&rt, &Gaps)?, 2);
+    assert_same(&rt, count_refusals(&rt, &Gaps)?, 2);
     Ok(())
 }

@@ -3,6 +3,7 @@
 //! What is tried takes its memory from an allocator that refuses one request. So each growth and
 //! each clone is refused once.
 
+use crate::same::assert_same;
 use refusing::Refusing;
 use rows::{Heap, MANY};
 use std::process::Abort;
@@ -31,7 +32,7 @@ pub fn count_refusals<R: AllocGlobal + Abort, T: Trial>(rt: &R, trial: &T) -> Re
     for left in 0..MANY {
         let heap = Refusing::new(rt.alloc(), MANY);
         let is_accepted = trial.is_accepted(rt, &heap, left)?;
-        assert_eq!(rt; heap.held(), 0);
+        assert_same(rt, heap.held(), 0);
         if is_accepted {
             return Ok(left);
         }

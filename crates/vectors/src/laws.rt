@@ -100,11 +100,7 @@ pub fn check_twice<M: InRows<Alloc = Global>, R: AllocGlobal + Abort>(
     requires faithful_values { ValuesCloneFaithfully M.Value.is_clone M.Value.eq }
 {
     let (mut once, mut twice) = pair_of::<M, R>(rt, calls)?;
-    assert_same(
-        rt,
-        laws::equal_exactly_when_alike(&once, &twice),
-        (true, false),
-    );
+    assert!(rt; laws::equal_exactly_when_alike(&once, &twice) == (true, false));
     laws::insert_twice_equals_once(&mut once, &mut twice, range, value)?;
     check_row(&once, pairs)?;
     check_row(&twice, pairs)
@@ -125,11 +121,7 @@ pub fn check_commute<M: InRows<Alloc = Global>, R: AllocGlobal + Abort>(
     requires faithful_values { ValuesCloneFaithfully M.Value.is_clone M.Value.eq }
 {
     let (mut forth, mut back) = pair_of::<M, R>(rt, calls)?;
-    assert_same(
-        rt,
-        laws::equal_exactly_when_alike(&forth, &back),
-        (true, false),
-    );
+    assert!(rt; laws::equal_exactly_when_alike(&forth, &back) == (true, false));
     laws::inserts_commute(&mut forth, &mut back, first, second)?;
     check_row(&forth, pairs)?;
     check_row(&back, pairs)
@@ -148,11 +140,7 @@ pub fn check_taken_back<M: InRows<Alloc = Global>, R: AllocGlobal + Abort>(
     requires faithful_values { ValuesCloneFaithfully M.Value.is_clone M.Value.eq }
 {
     let (mut changed, mut removed) = pair_of::<M, R>(rt, calls)?;
-    assert_same(
-        rt,
-        laws::equal_exactly_when_alike(&changed, &removed),
-        (true, false),
-    );
+    assert!(rt; laws::equal_exactly_when_alike(&changed, &removed) == (true, false));
     laws::remove_after_insert_equals_remove(&mut changed, &mut removed, range, value)?;
     check_row(&changed, pairs)?;
     check_row(&removed, pairs)

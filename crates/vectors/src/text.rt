@@ -91,7 +91,7 @@ fn the_law_of_ascii_texts_writes_them(rt: HostRuntime) -> Result<(), Fail> {
     let alloc = rt.alloc();
     let texts = range_map! { in alloc; 0..5u32 => "a\"b" }?;
     // what the law asks for
-    assert_same(&rt, texts.len(), 1);
+    assert_eq!(rt; texts.len(), 1);
     let (_, text) = texts.first_range_value().expect(&rt, "a pair");
     assert!(rt; text.is_ascii());
     assert_same(

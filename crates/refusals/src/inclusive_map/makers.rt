@@ -1,6 +1,7 @@
 //! Maps over closed ranges that are made of pairs and of other maps, with each request for memory
 //! refused in its turn.
 
+use crate::same::assert_same;
 use crate::trials::makers::check_maker_refusals;
 use crate::trials::maps::is_made;
 use crate::trials::{Answer, Trial, count_refusals, replays};
@@ -86,9 +87,9 @@ fn what_makes_a_map_may_be_refused(rt: HostRuntime) -> Result<(), Fail> {
     // of `extend` and `from_iter` the first growth, and a clone of the stored end of each piece of
     // the first pair; of `from` a list too
     check_maker_refusals::<_, CostlyMap<'_>>(&rt, &heap, (&GIVEN, &STORED), 3)?;
-    assert_eq!(rt; count_refusals(&rt, &From)?, 4);
+    assert_same(&rt, count_refusals(&rt, &From)?, 4);
     // of a replay, which changes nothing without room, three lists, and that of each map
-    assert_eq!(rt; count_refusals(&rt, &Replay)?, 5);
-    assert_eq!(rt; count_refusals(&rt, &ReplayWithStepFns)?, 4);
+    assert_same(&rt, count_refusals(&rt, &Replay)?, 5);
+    assert_same(&rt, count_refusals(&rt, &ReplayWithStepFns)?, 4);
     Ok(())
 }

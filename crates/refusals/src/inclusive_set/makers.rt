@@ -1,6 +1,7 @@
 //! Closed sets that are made of ranges and of other sets, with each request for memory refused in
 //! its turn.
 
+use crate::same::assert_same;
 use crate::trials::maps::is_made;
 use crate::trials::{Answer, Trial, count_refusals, replays};
 use rangemap::RangeInclusiveSet;
@@ -56,7 +57,7 @@ impl Trial for Joined {
             _ => &[((0, 14), ())],
         };
         check_row(&set, kept)?;
-        assert_eq!(rt; is_made(rt, made, kept)?, answer.is_ok());
+        assert_same(rt, is_made(rt, made, kept)?, answer.is_ok());
         Ok(answer.is_ok())
     }
 }
@@ -93,10 +94,10 @@ impl Trial for Extending {
 
 /// Compares a set of numbers with so many of these ranges.
 fn check_numbers<R: Abort>(rt: &R, set: &Numbers<'_>, count: usize) {
-    assert_eq!(rt; set.len(), count);
+    assert_same(rt, set.len(), count);
     let mut start = 0u32;
     for stored in set.iter() {
-        assert_eq!(rt; *stored, start..=start.saturating_add(4));
+        assert_same(rt, stored, &(start..=start.saturating_add(4)));
         start = start.saturating_add(10);
     }
 }
@@ -171,19 +172,19 @@ impl Trial for ReplayWithStepFns {
 #[test]
 fn a_refused_extend_keeps_what_came_before(rt: HostRuntime) -> Result<(), Fail> {
     // Each of five growths doubles the room, so one is refused after some ranges were kept.
-    assert_eq!(rt; count_refusals(&rt, &Extending)?, 5);
+    assert_same(&rt, count_refusals(&rt, &Extending)?, 5);
     // a list, and both ends of two joined ranges
-    assert_eq!(rt; count_refusals(&rt, &Joined)?, 5);
+    assert_same(&rt, count_refusals(&rt, &Joined)?, 5);
     Ok(())
 }
 
 #[test]
 fn what_makes_a_set_may_be_refused(rt: HostRuntime) -> Result<(), Fail> {
     // two lists
-    assert_eq!(rt; count_refusals(&rt, &From)?, 2);
-    assert_eq!(rt; count_refusals(&rt, &FromIter)?, 1);
+    assert_same(&rt, count_refusals(&rt, &From)?, 2);
+    assert_same(&rt, count_refusals(&rt, &FromIter)?, 1);
     // of a replay, which changes nothing without room, three lists, and that of each set
-    assert_eq!(rt; count_refusals(&rt, &Replay)?, 6);
-    assert_eq!(rt; count_refusals(&rt, &ReplayWithStepFns)?, 5);
+    assert_same(&rt, count_refusals(&rt, &Replay)?, 6);
+    assert_same(&rt, count_refusals(&rt, &ReplayWithStepFns)?, 5);
     Ok(())
 }

@@ -1,5 +1,6 @@
 //! Unions and intersections of closed sets, with each request for memory refused in its turn.
 
+use crate::same::assert_same;
 use crate::trials::Answer;
 use crate::trials::operations::{Operand, Row, count_refusals, try_row};
 use refusing::Refusing;
@@ -42,6 +43,6 @@ fn each_request_may_be_refused(rt: HostRuntime) -> Result<(), Fail> {
     };
     let refusals = count_refusals::<_, CostlySet<'_>>(&rt, &heap, &row)?;
     // Of an item both ends are cloned; a set asks for the list too, and for two items.
-    assert_eq!(rt; refusals, [2, 2, 5, 5]);
+    assert_same(&rt, refusals, [2, 2, 5, 5]);
     Ok(())
 }

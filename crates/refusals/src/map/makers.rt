@@ -5,6 +5,7 @@ ghost use Rattle.std.specs.Ordering.{nat_cmp};
 ghost use Rattle.rangemap.specs.Histories.{HasNonEmptyRanges};
 ghost use Rattle.rangemap.specs.Ranges.{half_open};
 
+use crate::same::assert_same;
 use crate::trials::makers::{check_kept, check_maker_refusals};
 use crate::trials::maps::is_made;
 use crate::trials::{Answer, Trial, count_refusals, replays};
@@ -82,8 +83,8 @@ impl Trial for Replay {
 #[test]
 fn what_makes_a_map_may_be_refused(rt: HostRuntime) -> Result<(), Fail> {
     // two lists, and two clones of a text
-    assert_eq!(rt; count_refusals(&rt, &From)?, 4);
+    assert_same(&rt, count_refusals(&rt, &From)?, 4);
     // of a replay, which changes nothing without room, three lists, and the growth of either map
-    assert_eq!(rt; count_refusals(&rt, &Replay)?, 5);
+    assert_same(&rt, count_refusals(&rt, &Replay)?, 5);
     Ok(())
 }

@@ -1,5 +1,6 @@
 //! Whose allocator the result of an operator has, and that of a clone.
 
+use crate::same::assert_same;
 use rangemap::RangeSet;
 use refusing::Refusing;
 use rows::{Heap, MANY};
@@ -19,20 +20,23 @@ fn check_results<'a, R: Abort>(rt: &R, one: &'a Heap, other: &'a Heap) -> Result
     let right = RangeSet::from(other, [3u32..10])?;
     let (before, after) = (one.held(), other.held());
     let either = (&left | &right)?;
-    assert_eq!(rt;
+    assert_same(
+        rt,
         (one.held(), other.held()),
-        (before.saturating_add(1), after)
+        (before.saturating_add(1), after),
     );
     let common = (&left & &right)?;
-    assert_eq!(rt;
+    assert_same(
+        rt,
         (one.held(), other.held()),
-        (before.saturating_add(2), after)
+        (before.saturating_add(2), after),
     );
     let copy = right.clone()?;
-    assert_eq!(rt;
+    assert_same(
+        rt,
         (one.held(), other.held()),
-        (before.saturating_add(2), after.saturating_add(1))
+        (before.saturating_add(2), after.saturating_add(1)),
     );
-    assert_eq!(rt; (either.len(), common.len(), copy.len()), (1, 1, 1));
+    assert_same(rt, (either.len(), common.len(), copy.len()), (1, 1, 1));
     Ok(())
 }

@@ -3,6 +3,7 @@
 
 use super::{INSERTED, PIECES};
 use crate::map::makers::GIVEN;
+use crate::same::assert_same;
 use crate::trials::appends::check_append_refusals;
 use crate::trials::makers::{check_kept, check_maker_refusals};
 use crate::trials::maps::is_made;
@@ -71,10 +72,10 @@ impl Trial for Replay {
 #[test]
 fn what_makes_a_map_may_be_refused(rt: HostRuntime) -> Result<(), Fail> {
     // what an extend takes, and the list through which the array is read
-    assert_eq!(rt; count_refusals(&rt, &From)?, 9);
+    assert_same(&rt, count_refusals(&rt, &From)?, 9);
     // of a replay, which changes nothing without room, three lists, the tree and a key of the first
     // pair, the tree and three keys of the clone, and what a removal inside a pair takes
-    assert_eq!(rt; count_refusals(&rt, &Replay)?, 14);
+    assert_same(&rt, count_refusals(&rt, &Replay)?, 14);
     Ok(())
 }
 

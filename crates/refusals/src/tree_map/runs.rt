@@ -5,6 +5,7 @@ ghost use Rattle.std.specs.Ordering.{nat_cmp};
 ghost use Rattle.rangemap.specs.Ranges.{half_open};
 ghost use Rattle.rangemap.specs.Runs.{IsAllowed};
 
+use crate::same::assert_same;
 use crate::trials::{Answer, Trial, count_refusals};
 use rangemap::RangeMap;
 use rangemap::tree_map::{Answer as Answered, Command, Outcome, run};
@@ -46,7 +47,7 @@ impl Trial for Run {
                 Ok(left == REQUESTS)
             }
             Err(AllocError) => {
-                assert_eq!(rt; (left, map.len()), (0, 0));
+                assert_same(rt, (left, map.len()), (0, 0));
                 Ok(false)
             }
         }
@@ -62,14 +63,14 @@ fn check_answers<R: Abort>(rt: &R, answers: &[Outcome<Range<u32>, char, &Heap>],
         assert!(rt; false, "four commands have other answers");
         return;
     };
-    assert_eq!(rt; (first.is_ok(), second.is_ok()), (left != 1, true));
+    assert_same(rt, (first.is_ok(), second.is_ok()), (left != 1, true));
     let expected = if left == 1 { 1 } else { 2 };
     assert!(rt; matches!(third, Ok(Answered::Len(len)) if *len == expected));
-    assert_eq!(rt; last.is_ok(), left != 2);
+    assert_same(rt, last.is_ok(), left != 2);
 }
 
 #[test]
 fn each_command_may_be_refused(rt: HostRuntime) -> Result<(), Fail> {
-    assert_eq!(rt; count_refusals(&rt, &Run)?, REQUESTS);
+    assert_same(&rt, count_refusals(&rt, &Run)?, REQUESTS);
     Ok(())
 }

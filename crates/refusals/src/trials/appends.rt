@@ -4,6 +4,7 @@ ghost use Rattle.rangemap.specs.Clones.{KeysCloneFaithfully, ValuesCloneFaithful
 use super::Answer;
 use super::makers::list_of;
 use super::maps::make_map;
+use crate::same::assert_same;
 use rows::{Heap, InRows, MANY};
 use std::alloc::AllocError;
 use std::process::Abort;
@@ -30,9 +31,9 @@ pub fn check_append_refusals<'a, R: Abort, M: InRows<Alloc = &'a Heap>>(
     for left in 0..MANY {
         let is_found = try_append_overlapping(rt, heap, &map, &query, row, left)?;
         let is_told = try_append_all(rt, heap, &map, row, left)?;
-        assert_eq!(rt; (is_found, heap.held()), (is_told, held));
+        assert_same(rt, (is_found, heap.held()), (is_told, held));
         if is_told {
-            assert_eq!(rt; left, requests);
+            assert_same(rt, left, requests);
             return Ok(());
         }
     }
@@ -94,7 +95,7 @@ fn check_list<R: Abort, M: InRows>(
     list: &[(M::Range, M::Value)],
     row: &[(M::RowRange, M::RowValue)],
 ) {
-    assert_eq!(rt; list.len(), row.len());
+    assert_same(rt, list.len(), row.len());
     for ((range, value), pair) in list.iter().zip(row) {
         assert!(rt; M::is_range(range, &pair.0) && M::is_value(value, &pair.1));
     }

@@ -3,6 +3,7 @@ ghost use Rattle.rangemap.specs.Clones.{KeysCloneFaithfully, ValuesCloneFaithful
 
 use super::items::try_both;
 use super::maps::make_map;
+use crate::same::assert_same;
 use readers::LeaveGaps;
 use rows::{Heap, InRows, MANY};
 use std::process::Abort;
@@ -30,9 +31,9 @@ pub fn check_gap_refusals<'a, R: Abort, M: InRows<Alloc = &'a Heap> + LeaveGaps>
     for left in 0..MANY {
         let gaps = (map.gaps(&outer_range), map.gaps(&outer_range));
         let is_accepted = try_both::<R, M, _>(rt, heap, gaps, (before, behind), left)?;
-        assert_eq!(rt; heap.held(), held);
+        assert_same(rt, heap.held(), held);
         if is_accepted {
-            assert_eq!(rt; left, requests);
+            assert_same(rt, left, requests);
             return Ok(());
         }
     }

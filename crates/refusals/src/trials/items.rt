@@ -1,6 +1,7 @@
 //! What iterators that make their items out of clones answer where a clone is refused.
 
 use super::Answer;
+use crate::same::assert_same;
 use rangemap::laws::iterators::StaysEndedByTries;
 use rows::{Heap, InRows, MANY};
 use std::alloc::AllocError;
@@ -23,7 +24,7 @@ where
 {
     let is_tried = try_items::<R, M, I>(rt, heap, items.0, row, left)?;
     let is_taken = take_items::<R, M, I>(rt, heap, items.1, row.0, left)?;
-    assert_eq!(rt; is_taken, is_tried);
+    assert_same(rt, is_taken, is_tried);
     Ok(is_taken)
 }
 

@@ -5,6 +5,7 @@ ghost use Rattle.rangemap.specs.Ranges.{AreNonEmpty};
 
 use super::Answer;
 use super::maps::is_made;
+use crate::same::assert_same;
 use rangemap::container::{Collect, insert_pairs};
 use rows::{Heap, InRows, MANY, check_row};
 use std::alloc::AllocError;
@@ -97,9 +98,9 @@ pub fn check_maker_refusals<'a, R: Abort, M: InRows<Alloc = &'a Heap> + Collect>
     for left in 0..MANY {
         let is_extended = try_extend::<R, M>(rt, heap, row.0, left)?;
         let is_made = try_from_iter::<R, M>(rt, heap, row, left)?;
-        assert_eq!(rt; (is_made, heap.held()), (is_extended, 0));
+        assert_same(rt, (is_made, heap.held()), (is_extended, 0));
         if is_made {
-            assert_eq!(rt; left, requests);
+            assert_same(rt, left, requests);
             return Ok(());
         }
     }

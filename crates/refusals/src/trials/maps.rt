@@ -3,6 +3,7 @@
 ghost use Rattle.rangemap.specs.Clones.{KeysCloneFaithfully, ValuesCloneFaithfully};
 
 use super::Answer;
+use crate::same::assert_same;
 use rows::Call::{self, Clear, Insert, Remove};
 use rows::{Heap, InRows, MANY, check_row};
 use std::alloc::AllocError;
@@ -53,7 +54,7 @@ fn count<'a, R: Abort, M: InRows<Alloc = &'a Heap>>(
 {
     for left in 0..MANY {
         let is_accepted = is_accepted::<R, M>(rt, heap, row, left)?;
-        assert_eq!(rt; heap.held(), 0);
+        assert_same(rt, heap.held(), 0);
         if is_accepted {
             return Ok(left);
         }
@@ -117,7 +118,7 @@ fn try_change<'a, R: Abort, M: InRows<Alloc = &'a Heap>>(
     let held = heap.held();
     let is_accepted = call_with(heap, map, call, left)?.is_ok();
     if !is_accepted {
-        assert_eq!(rt; heap.held(), held);
+        assert_same(rt, heap.held(), held);
         check_row(map, stored)?;
         call_with(heap, map, call, MANY)??;
     }

@@ -4,6 +4,7 @@ ghost use Rattle.rangemap.specs.Clones.{KeysCloneFaithfully};
 use super::Answer;
 use super::items::try_both;
 use super::maps::{is_made, make_map};
+use crate::same::assert_same;
 use rangemap::container::Combine;
 use rangemap::laws::iterators::StaysEndedByTries;
 use rows::{Heap, InRows, MANY};
@@ -69,7 +70,7 @@ pub fn count_refusals<'a, R: Abort, S: Operand<Alloc = &'a Heap> + Combine>(
             try_union_set(rt, heap, &one, &other, either, left)?,
             try_intersection_set(rt, heap, &one, &other, common, left)?,
         ];
-        assert_eq!(rt; heap.held(), held);
+        assert_same(rt, heap.held(), held);
         if accepted == [true; 4] {
             return Ok(refusals);
         }
