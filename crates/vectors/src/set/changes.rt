@@ -1,7 +1,6 @@
 //! Rows about inserts and removals, and what is found then.
 
 use super::Set;
-use crate::same::assert_same;
 use rows::tables::{SetChanged, check_inserts, check_removals};
 use rows::{check_nothing, check_set, make_set};
 use std::ops::Range;
@@ -40,12 +39,11 @@ fn the_range_that_has_a_key_is_found(rt: HostRuntime) -> Result<(), Fail> {
 /// Looks keys up by the set's own calls.
 fn check_ranges<R: Abort>(rt: &R, set: &Set) -> Result<(), Fail> {
     let found = (set.get(&0), set.get(&100), set.get(&299));
-    assert_same(rt, found, (Some(&(0..100)), None, Some(&(200..300))));
-    assert_same(rt, (set.contains(&200), set.contains(&300)), (true, false));
-    assert_same(
-        rt,
+    assert_eq!(rt; found, (Some(&(0..100)), None, Some(&(200..300))));
+    assert_eq!(rt; (set.contains(&200), set.contains(&300)), (true, false));
+    assert_eq!(rt;
         (set.first(), set.last()),
-        (Some(&(0..100)), Some(&(200..300))),
+        (Some(&(0..100)), Some(&(200..300)))
     );
     Ok(())
 }
