@@ -9,6 +9,7 @@
 mod changes;
 mod compared;
 mod costly;
+mod iterators;
 mod names;
 mod numbers;
 mod ranges;
@@ -22,6 +23,7 @@ pub use compared::{
     check_replayed, check_row,
 };
 pub use costly::{Costly, CostlyMap, CostlySet, CostlyTree, HalfOpenCostlySet};
+pub use iterators::{check_both_ends, check_counted_back, check_three, check_tries};
 pub use names::{Ends, Heap, MANY, NamedSet, Names, Text, Texts, TreeTexts};
 pub use ranges::{closed, filled};
 pub use sets::{check_equality, check_made_set, check_replayed_sets, check_set, make_set};

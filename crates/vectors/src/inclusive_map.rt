@@ -15,6 +15,8 @@ mod laws;
 mod queries;
 mod replays;
 mod steps;
+mod taken;
+mod values;
 
 /// A map over numbers.
 pub type Map = RangeInclusiveMap<u32, char, u32, Global>;

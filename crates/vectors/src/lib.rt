@@ -1,4 +1,4 @@
-//! The worked rows of the library, as tests over the crate that users name.
+//! The worked rows of maps, as tests over the crate that users name.
 //!
 //! A folder for each container, with a file for each part of it. A row gives the calls that are
 //! made on an empty container, and what it has then; the crate `rows` compares it with one function
@@ -9,38 +9,16 @@
 #[cfg(test)]
 mod endings;
 #[cfg(test)]
-mod hash;
-#[cfg(test)]
 mod inclusive_map;
-#[cfg(test)]
-mod inclusive_set;
-#[cfg(test)]
-mod iterators;
-#[cfg(test)]
-mod json;
 #[cfg(test)]
 mod laws;
 #[cfg(test)]
-mod macros;
-#[cfg(test)]
 mod map;
-#[cfg(test)]
-mod order;
-#[cfg(test)]
-mod orders;
 #[cfg(test)]
 mod same;
 #[cfg(test)]
 mod searches;
 #[cfg(test)]
 mod segments;
-#[cfg(test)]
-mod set;
-#[cfg(test)]
-mod sets;
-#[cfg(test)]
-mod steps;
-#[cfg(test)]
-mod text;
 #[cfg(test)]
 mod tree_map;

@@ -2,9 +2,8 @@
 //! pairs over.
 
 use super::Map;
-use crate::iterators::{check_counted_back, check_three};
 use rangemap::RangeInclusiveMap;
-use rows::{check_equal, check_made, check_row};
+use rows::{check_counted_back, check_equal, check_made, check_row, check_three};
 use std::alloc::AllocError;
 use std::test::Fail;
 
@@ -50,9 +49,8 @@ fn a_chain_is_taken(rt: HostRuntime) -> Result<(), Fail> {
 fn a_map_lends_and_hands_its_pairs_over(rt: HostRuntime) -> Result<(), Fail> {
     let map = RangeInclusiveMap::from(rt.alloc(), [(0..=1u8, 'a'), (4..=5, 'b'), (8..=9, 'c')])?;
     let pairs = ((&(0..=1), &'a'), (&(4..=5), &'b'), (&(8..=9), &'c'));
-    check_three(&rt, map.iter(), pairs, true);
+    check_three(map.iter(), pairs, true)?;
     let map = RangeInclusiveMap::from(rt.alloc(), [(0..=1u32, 'a'), (4..=5, 'b'), (8..=8, 'c')])?;
     let pairs = ((0..=1, 'a'), (4..=5, 'b'), (8..=8, 'c'));
-    check_counted_back(&rt, map.into_iter(), pairs);
-    Ok(())
+    check_counted_back(map.into_iter(), pairs)
 }

@@ -1,11 +1,9 @@
 //! A map over closed ranges whose keys get their steps by another type.
 
-use crate::hash::folded;
 use crate::same::assert_same;
 use rangemap::RangeInclusiveMap;
 use rows::SignedSteps;
 use std::alloc::Global;
-use std::cmp::Ordering;
 use std::test::Fail;
 
 /// A map over signed bytes by these steps.
@@ -23,19 +21,5 @@ fn steps_may_come_of_another_type(rt: HostRuntime) -> Result<(), Fail> {
     assert!(rt; map != other);
     assert!(rt; map.clone()? == map);
     assert_same(&rt, map.first_range_value(), Some((&(-128..=127), &false)));
-    Ok(())
-}
-
-#[test]
-fn maps_over_any_steps_compare_and_hash(rt: HostRuntime) -> Result<(), Fail> {
-    let mut map: SignedMap = RangeInclusiveMap::new_with_step_fns(rt.alloc());
-    map.insert(-128..=-1, false)?;
-    let mut other: SignedMap = RangeInclusiveMap::new_with_step_fns(rt.alloc());
-    other.insert(-128..=5, false)?;
-    assert!(rt; map < other);
-    assert!(rt; folded(&map) != folded(&other));
-    map.insert(0..=5, false)?;
-    assert!(rt; map.cmp(&other) == Ordering::Equal);
-    assert!(rt; folded(&map) == folded(&other));
     Ok(())
 }

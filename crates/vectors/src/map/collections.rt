@@ -1,9 +1,8 @@
 //! Rows about maps that are made of pairs and of other maps, and that hand their pairs over.
 
-use crate::iterators::check_counted_back;
 use crate::same::assert_same;
 use rangemap::RangeMap;
-use rows::{check_equal, check_made, check_row};
+use rows::{check_counted_back, check_equal, check_made, check_row};
 use std::test::Fail;
 
 #[test]
@@ -47,7 +46,7 @@ fn an_array_and_a_chain_are_taken(rt: HostRuntime) -> Result<(), Fail> {
 fn a_map_hands_its_pairs_over(rt: HostRuntime) -> Result<(), Fail> {
     let map = RangeMap::from(rt.alloc(), [(0u32..2, 'a'), (4..6, 'b'), (8..9, 'c')])?;
     let pairs = ((0..2, 'a'), (4..6, 'b'), (8..9, 'c'));
-    check_counted_back(&rt, map.into_iter(), pairs);
+    check_counted_back(map.into_iter(), pairs)?;
     let map = RangeMap::from(rt.alloc(), [(0u32..10, 'a'), (3..6, 'b')])?;
     let mut starts = Vec::new(rt.alloc());
     for (range, value) in map {

@@ -1,9 +1,9 @@
 //! Rows about queries: which stored pairs a range overlaps, and which parts of it are free.
 
 use super::{Map, TreeMap};
-use crate::iterators::check_three;
 use rangemap::{RangeMap, tree_map};
 use rows::Call::Insert;
+use rows::check_three;
 use rows::tables::{Free, Overlapped, check_free, check_queries};
 use std::ops::Range;
 use std::test::Fail;
@@ -34,12 +34,11 @@ fn overlapping_pairs_come_from_both_ends(rt: HostRuntime) -> Result<(), Fail> {
     let pairs = [(0..2, 'a'), (2..4, 'b'), (4..6, 'a'), (8..9, 'c')];
     let map: Map = RangeMap::from(rt.alloc(), pairs)?;
     let found = ((&(0..2), &'a'), (&(2..4), &'b'), (&(4..6), &'a'));
-    check_three(&rt, map.overlapping(&query), found, false);
+    check_three(map.overlapping(&query), found, false)?;
     let pairs = [(0..2, 'a'), (2..4, 'b'), (4..6, 'a'), (8..9, 'c')];
     let map: TreeMap = tree_map::RangeMap::from(rt.alloc(), pairs)?;
     let found = ((&(0..2), &'a'), (&(2..4), &'b'), (&(4..6), &'a'));
-    check_three(&rt, map.overlapping(&query), found, false);
-    Ok(())
+    check_three(map.overlapping(&query), found, false)
 }
 
 // Gaps before, between and behind stored ranges.

@@ -1,15 +1,10 @@
-//! Rows about maps in a tree that are made of pairs and of other maps, that hand their pairs over,
-//! and that are compared, hashed and written.
+//! Rows about maps in a tree that are made of pairs and of other maps, and that hand their pairs over.
 
-use crate::hash::folded_made;
-use crate::iterators::check_counted_back;
 use crate::map::TreeMap as Map;
-use crate::order::assert_less_than;
-use crate::text::{assert_long_text, assert_text};
 use rangemap::tree_map::RangeMap;
 use rows::Call::{Clear, Insert};
 use rows::tables::{Changed, check_changes};
-use rows::{check_equal, check_made, check_row, make};
+use rows::{check_counted_back, check_equal, check_made, check_row};
 use std::ops::Range;
 use std::test::Fail;
 
@@ -40,55 +35,5 @@ fn a_map_is_made_of_pairs_and_of_a_map(rt: HostRuntime) -> Result<(), Fail> {
 #[test]
 fn a_map_hands_its_pairs_over_from_both_ends(rt: HostRuntime) -> Result<(), Fail> {
     let map = RangeMap::from(rt.alloc(), [(0u32..2, 'a'), (4..6, 'b'), (8..9, 'c')])?;
-    check_counted_back(
-        &rt,
-        map.into_iter(),
-        ((0..2, 'a'), (4..6, 'b'), (8..9, 'c')),
-    );
-    Ok(())
-}
-
-// Greater are one that goes on, one of fewer pairs whose first range is longer, and one with another
-// value.
-#[test]
-fn maps_lie_by_their_first_difference(rt: HostRuntime) -> Result<(), Fail> {
-    let alloc = rt.alloc();
-    let map: Map = RangeMap::from(alloc, [(0..2, 'a'), (4..6, 'b')])?;
-    let more = RangeMap::from(alloc, [(0..2, 'a'), (4..6, 'b'), (8..9, 'c')]);
-    assert_less_than(&rt, &map, more)?;
-    assert_less_than(&rt, &map, RangeMap::from(alloc, [(0..3, 'a')]))?;
-    assert_less_than(&rt, &map, RangeMap::from(alloc, [(0..2, 'a'), (4..6, 'c')]))
-}
-
-#[test]
-fn each_part_of_a_pair_is_fed(rt: HostRuntime) -> Result<(), Fail> {
-    let alloc = rt.alloc();
-    let first = folded_made(RangeMap::from(alloc, [(0u32..5, 'a')]))?;
-    let same = folded_made(RangeMap::from(alloc, [(0u32..3, 'a'), (3..5, 'a')]))?;
-    let longer = folded_made(RangeMap::from(alloc, [(0u32..6, 'a')]))?;
-    let later = folded_made(RangeMap::from(alloc, [(1u32..5, 'a')]))?;
-    let other = folded_made(RangeMap::from(alloc, [(0u32..5, 'b')]))?;
-    assert!(rt; first == same);
-    assert!(rt; first != longer && first != later && first != other);
-    Ok(())
-}
-
-#[test]
-fn maps_are_written_in_braces(rt: HostRuntime) -> Result<(), Fail> {
-    let mut map: Map = RangeMap::new(rt.alloc());
-    assert_text(&rt, &map, "{}")?;
-    make(
-        &mut map,
-        rt.alloc(),
-        &[Insert(0..100, 'a'), Insert(200..300, 'g')],
-    )?;
-    assert_text(&rt, &map, "{0..100: 'a', 200..300: 'g'}")?;
-    let signed = RangeMap::from(rt.alloc(), [(-3..0i8, 7u16)])?;
-    assert_text(&rt, &signed, "{-3..0: 7}")?;
-    // The long form gives each pair a line.
-    assert_long_text(
-        &rt,
-        RangeMap::from(rt.alloc(), [(0u32..100, 'a'), (200..300, 'g')]),
-        "{\n    0..100: 'a',\n    200..300: 'g',\n}",
-    )
+    check_counted_back(map.into_iter(), ((0..2, 'a'), (4..6, 'b'), (8..9, 'c')))
 }

@@ -1,0 +1,74 @@
+//! Pairs of bytes in lexicographic order.
+ghost use Rattle.std.specs.Prelude.{◌^◌};
+ghost use Rattle.vectors_keys.specs.Pairs.{IsPair, pair_after, pair_before, pair_follows, pair_precedes};
+
+use rangemap::{RangeInclusiveSet, StepFns};
+use rows::Call::Insert;
+use rows::tables::{check_free, check_inserts, check_removals};
+use std::alloc::Global;
+use std::test::Fail;
+
+/// The steps of pairs of bytes: behind `(1, 255)` comes `(2, 0)`.
+pub struct PairSteps;
+
+impl StepFns<(u8, u8)> for PairSteps {
+    ghost is_key = { IsPair (2 ^ 8) };
+
+    ghost after = { pair_after (2 ^ 8) };
+
+    ghost before = { pair_before (2 ^ 8) };
+
+    ghost follows = { pair_follows (2 ^ 8) };
+
+    ghost precedes = { pair_precedes (2 ^ 8) };
+
+    fn known(x: &(u8, u8)) {
+        let _first = x.0;
+        let _second = x.1;
+    }
+
+    fn add_one(start: &(u8, u8)) -> (u8, u8) {
+        if start.1 < 255 {
+            (start.0, start.1 + 1)
+        } else {
+            (start.0 + 1, 0)
+        }
+    }
+
+    fn sub_one(start: &(u8, u8)) -> (u8, u8) {
+        if start.1 > 0 {
+            (start.0, start.1 - 1)
+        } else {
+            (start.0 - 1, 255)
+        }
+    }
+}
+
+/// Pairs of bytes.
+type Pairs = RangeInclusiveSet<(u8, u8), PairSteps, Global>;
+
+#[test]
+fn pairs_are_stepped_through(rt: HostRuntime) -> Result<(), Fail> {
+    // Pairs touch over their second byte.
+    check_inserts::<Pairs>(
+        rt.alloc(),
+        &[(&[(0, 0)..=(1, 255)], (2, 0)..=(2, 0), &[(0, 0)..=(2, 0)])],
+    )?;
+    // The last pair is not stepped past.
+    check_free::<Pairs>(
+        rt.alloc(),
+        &[(
+            &[Insert((0, 0)..=(2, 0), ()), Insert((2, 2)..=(255, 255), ())],
+            (0, 0)..=(255, 255),
+            &[(2, 1)..=(2, 1)],
+        )],
+    )?;
+    check_removals::<Pairs>(
+        rt.alloc(),
+        &[(
+            &[(0, 0)..=(2, 0), (2, 2)..=(255, 255)],
+            (255, 255)..=(255, 255),
+            &[(0, 0)..=(2, 0), (2, 2)..=(255, 254)],
+        )],
+    )
+}

@@ -1,0 +1,13 @@
+//! The worked rows of sets, laid out as those of maps in `vectors`, and the laws of `|` and `&`.
+#![tactic(auto)]
+
+#[cfg(test)]
+mod endings;
+#[cfg(test)]
+mod inclusive_set;
+#[cfg(test)]
+mod laws;
+#[cfg(test)]
+mod same;
+#[cfg(test)]
+mod set;
