@@ -4,14 +4,13 @@
 //! feeds less than its pairs would still hash alike where it is equal.
 ghost use Rattle.std.specs.Prelude.{◌≡◌, ◌+◌, ◌*◌, ◌%◌, ◌^◌, fold};
 
+use crate::made::make_all;
 use crate::same::assert_same;
 use rangemap::laws::comparisons::{equal_maps_hash_alike, equality_agrees_with_order};
-use rangemap::{
-    RangeInclusiveMap, RangeMap, range_inclusive_map, range_inclusive_set, range_map, range_set,
-    tree_map,
-};
+use rangemap::{RangeInclusiveMap, RangeInclusiveSet, RangeMap, RangeSet, range_map, tree_map};
+use rows::Call::Insert;
 use rows::SignedSteps;
-use std::alloc::{AllocError, Global};
+use std::alloc::Global;
 use std::cmp::Ordering;
 use std::hash::{Hash, Hasher};
 use std::process::Abort;
@@ -44,36 +43,65 @@ fn folded<T: Hash>(value: &T) -> u64 {
     state.finish()
 }
 
-/// What the hasher makes of a container that was made, unless it was refused memory.
-fn folded_made<M: Hash + Drop>(made: Result<M, AllocError>) -> Result<u64, AllocError> {
-    Ok(folded(&made?))
+/// Shows that the first two containers, which are equal, hash alike, and that no other does as they
+/// do.
+fn assert_fed<M: Hash, R: Abort>(rt: &R, made: &[M]) -> Result<(), Fail> {
+    let (first, rest) = made.split_first().ok_or("a container")?;
+    let (same, others) = rest.split_first().ok_or("a second")?;
+    assert!(rt; folded(first) == folded(same));
+    for other in others {
+        assert!(rt; folded(first) != folded(other));
+    }
+    Ok(())
 }
 
 #[test]
 fn each_part_of_a_pair_is_fed(rt: HostRuntime) -> Result<(), Fail> {
-    let alloc = rt.alloc();
-    let first = folded_made(range_map! { in alloc; 0..5u32 => 'a' })?;
-    let same = folded_made(range_map! { in alloc; 0..3u32 => 'a', 3..5 => 'a' })?;
-    let longer = folded_made(range_map! { in alloc; 0..6u32 => 'a' })?;
-    let later = folded_made(range_map! { in alloc; 1..5u32 => 'a' })?;
-    let other = folded_made(range_map! { in alloc; 0..5u32 => 'b' })?;
-    let more = folded_made(range_map! { in alloc; 0..5u32 => 'a', 7..8 => 'a' })?;
-    assert!(rt; first == same);
-    assert!(rt; first != longer && first != later && first != other && first != more);
-    Ok(())
+    let rows: [&[_]; 6] = [
+        &[Insert(0..5, 'a')],
+        &[Insert(0..3, 'a'), Insert(3..5, 'a')],
+        &[Insert(0..6, 'a')],
+        &[Insert(1..5, 'a')],
+        &[Insert(0..5, 'b')],
+        &[Insert(0..5, 'a'), Insert(7..8, 'a')],
+    ];
+    let made = make_all::<RangeMap<u32, char, Global>>(rt.alloc(), &rows)?;
+    assert_fed(&rt, made.as_slice())?;
+    let made = make_all::<tree_map::RangeMap<u32, char, Global>>(rt.alloc(), &rows)?;
+    assert_fed(&rt, made.as_slice())
 }
 
 #[test]
 fn each_part_of_a_closed_pair_is_fed(rt: HostRuntime) -> Result<(), Fail> {
-    let alloc = rt.alloc();
-    let first = folded_made(range_inclusive_map! { in alloc; 0..=5u32 => 'a' })?;
-    let same = folded_made(range_inclusive_map! { in alloc; 0..=2u32 => 'a', 3..=5 => 'a' })?;
-    let longer = folded_made(range_inclusive_map! { in alloc; 0..=6u32 => 'a' })?;
-    let later = folded_made(range_inclusive_map! { in alloc; 1..=5u32 => 'a' })?;
-    let other = folded_made(range_inclusive_map! { in alloc; 0..=5u32 => 'b' })?;
-    assert!(rt; first == same);
-    assert!(rt; first != longer && first != later && first != other);
-    Ok(())
+    let rows: [&[_]; 5] = [
+        &[Insert(0..=5, 'a')],
+        &[Insert(0..=2, 'a'), Insert(3..=5, 'a')],
+        &[Insert(0..=6, 'a')],
+        &[Insert(1..=5, 'a')],
+        &[Insert(0..=5, 'b')],
+    ];
+    let made = make_all::<RangeInclusiveMap<u32, char, u32, Global>>(rt.alloc(), &rows)?;
+    assert_fed(&rt, made.as_slice())
+}
+
+#[test]
+fn each_end_of_a_range_is_fed(rt: HostRuntime) -> Result<(), Fail> {
+    let rows: [&[_]; 4] = [
+        &[Insert(0..5, ())],
+        &[Insert(0..3, ()), Insert(3..5, ())],
+        &[Insert(0..6, ())],
+        &[Insert(1..5, ())],
+    ];
+    let made = make_all::<RangeSet<u32, Global>>(rt.alloc(), &rows)?;
+    assert_fed(&rt, made.as_slice())?;
+    let rows: [&[_]; 4] = [
+        &[Insert(0..=5, ())],
+        &[Insert(0..=2, ()), Insert(3..=5, ())],
+        &[Insert(0..=6, ())],
+        &[Insert(1..=5, ())],
+    ];
+    let made = make_all::<RangeInclusiveSet<u32, u32, Global>>(rt.alloc(), &rows)?;
+    assert_fed(&rt, made.as_slice())
 }
 
 #[test]
@@ -110,33 +138,6 @@ fn check_greater<R: AllocGlobal + Abort>(
         equality_agrees_with_order(one, &greater),
         (false, Ordering::Less),
     );
-    Ok(())
-}
-
-#[test]
-fn each_part_of_a_pair_in_a_tree_is_fed(rt: HostRuntime) -> Result<(), Fail> {
-    let alloc = rt.alloc();
-    let first = folded_made(tree_map::RangeMap::from(alloc, [(0u32..5, 'a')]))?;
-    let same = folded_made(tree_map::RangeMap::from(alloc, [(0u32..3, 'a'), (3..5, 'a')]))?;
-    let longer = folded_made(tree_map::RangeMap::from(alloc, [(0u32..6, 'a')]))?;
-    let later = folded_made(tree_map::RangeMap::from(alloc, [(1u32..5, 'a')]))?;
-    let other = folded_made(tree_map::RangeMap::from(alloc, [(0u32..5, 'b')]))?;
-    assert!(rt; first == same);
-    assert!(rt; first != longer && first != later && first != other);
-    Ok(())
-}
-
-#[test]
-fn each_end_of_a_range_is_fed(rt: HostRuntime) -> Result<(), Fail> {
-    let alloc = rt.alloc();
-    let first = folded_made(range_set![in alloc; 0u32..5])?;
-    assert!(rt; first == folded_made(range_set![in alloc; 0u32..3, 3..5])?);
-    assert!(rt; first != folded_made(range_set![in alloc; 0u32..6])?);
-    assert!(rt; first != folded_made(range_set![in alloc; 1u32..5])?);
-    let closed = folded_made(range_inclusive_set![in alloc; 0u32..=5])?;
-    assert!(rt; closed == folded_made(range_inclusive_set![in alloc; 0u32..=2, 3..=5])?);
-    assert!(rt; closed != folded_made(range_inclusive_set![in alloc; 0u32..=6])?);
-    assert!(rt; closed != folded_made(range_inclusive_set![in alloc; 1u32..=5])?);
     Ok(())
 }
 
