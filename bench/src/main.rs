@@ -2,6 +2,13 @@
 //!
 //! Each answer of one side is compared with the other's, and a difference ends the run with an
 //! error.
+//!
+//! To add a container: an `impl Store` in `store.rt` of `crates/bench_workloads` (of a set `SetStore`
+//! too), its number in `containers.rt` and its arm in `exports.rt`; a `map_store!` or `set_store!` in
+//! `rust_side`, and its `Container` in `containers`.
+//!
+//! To add a workload: a function in `workloads.rt`, its arm and export there, a field in `side`, a
+//! `Workload` in `workloads`, and a test with an answer worked out by hand.
 
 // By name, since Cargo doesn't know of it: build.rs makes it.
 extern crate rangemap;
