@@ -16,7 +16,7 @@ fn text(text: &str, alloc: Global) -> Result<String, AllocError> {
 type Texts = RangeMap<String, u32, Global>;
 
 /// Gives the texts between two ends a value.
-#[tactic(auto, using(crate::proofs::Texts::clones_tie))]
+#[tactic(auto, using(rangemap::proofs::TextKeys::clones_tie))]
 fn insert_texts(
     map: &mut Texts,
     alloc: Global,

@@ -1,5 +1,5 @@
 use Rattle.std.specs.String.{string_bytes}
-use Rattle.vectors_keys.proofs.Texts.{pair_clones_tie}
+use Rattle.rangemap.proofs.TextKeys.{pair_clones_tie}
 use Rattle.vectors_keys.proofs.half_open.remove_pairs.Goals as goal
 
 pub remove-requires-clause-faithful_keys : goal.remove-requires-clause-faithful_keys
