@@ -1,13 +1,13 @@
 //! Reading where a request for memory is refused. `to_value` takes memory of the `Global` that the
 //! JSON value is made in, and of no other; `from_value` takes that of the container.
 
-use crate::same::assert_same;
-use crate::trials::{Answer, Trial, count_refusals};
+use crate::same::check_that;
+use crate::trials::{Answer, Trial, check_trial};
 use rangemap::container::Container;
 use rangemap::{Form, RangeInclusiveMap, RangeInclusiveSet, RangeMap, RangeSet, ReadError};
+use refusing::Refusing;
 use rows::{Costly, Heap, MANY};
 use serde_json::Value;
-use std::process::Abort;
 use std::test::Fail;
 
 /// Why a part is refused: it is no whole number of 32 bits.
@@ -34,58 +34,69 @@ const PAIRS: &str = "[[[0,1],7],[[3,4],7],[[6,7],7],[[9,10],7],[[12,13],7],[[15,
     [[18,19],7],[[21,22],7],[[24,25],7],[[27,28],7],[[30,31],7],[[33,34],7],[[36,37],7]]";
 
 /// Whether a container was read. One that was has so many ranges.
-fn is_read<R: Abort, M: Container>(
-    rt: &R,
-    read: Result<M, ReadError<NoNumber>>,
-    len: usize,
-) -> bool {
+fn is_read<M: Container>(read: Result<M, ReadError<NoNumber>>, len: usize) -> Answer {
     match read {
         Ok(all) => {
-            assert_same(rt, all.len(), len);
-            true
+            check_that(all.len() == len, "another number of ranges is read")?;
+            Ok(true)
         }
         Err(error) => {
-            assert_same(rt, error, ReadError::OutOfMemory);
-            false
+            check_that(error == ReadError::OutOfMemory, "what is read is refused")?;
+            Ok(false)
         }
     }
 }
 
 /// The four containers, read in a form. They are refused alike.
 #[derive(Drop)]
-struct Read(Form);
+struct Read<'a> {
+    form: Form,
+    pairs: &'a Value,
+    ranges: &'a Value,
+}
 
-impl Trial for Read {
-    fn is_accepted<R: AllocGlobal + Abort>(&self, rt: &R, heap: &Heap, left: u64) -> Answer {
-        let pairs = Value::from_str(rt.alloc(), PAIRS)?;
+impl<'a> Trial for Read<'a> {
+    fn is_accepted(&self, heap: &Heap, left: u64) -> Answer {
         heap.refuse_after(left);
-        let map = RangeMap::from_value(heap, self.0, &pairs, read_number, read_number);
-        let is_made = is_read(rt, map, 13);
+        let map = RangeMap::from_value(heap, self.form, self.pairs, read_number, read_number);
+        let is_accepted = is_read(map, 13)?;
         heap.refuse_after(left);
-        let map = RangeInclusiveMap::from_value(heap, self.0, &pairs, read_number, read_number);
-        assert_same(rt, is_read(rt, map, 13), is_made);
-        let ranges = Value::from_str(rt.alloc(), RANGES)?;
+        let map = RangeInclusiveMap::from_value(
+            heap,
+            self.form,
+            self.pairs,
+            read_number,
+            read_number,
+        );
+        let are_pairs = is_read(map, 13)?;
         heap.refuse_after(left);
-        let set = RangeSet::from_value(heap, self.0, &ranges, read_number);
-        assert_same(rt, is_read(rt, set, 13), is_made);
+        let is_set = is_read(
+            RangeSet::from_value(heap, self.form, self.ranges, read_number),
+            13,
+        )?;
         heap.refuse_after(left);
-        let set = RangeInclusiveSet::from_value(heap, self.0, &ranges, read_number);
-        assert_same(rt, is_read(rt, set, 13), is_made);
-        Ok(is_made)
+        let set = RangeInclusiveSet::from_value(heap, self.form, self.ranges, read_number);
+        let others = (are_pairs, is_set, is_read(set, 13)?);
+        check_that(
+            others == (is_accepted, is_accepted, is_accepted),
+            "one is refused otherwise",
+        )?;
+        Ok(is_accepted)
     }
 }
 
 /// A map that is read with parts whose clones take memory.
-struct ReadCostly;
+#[derive(Drop)]
+struct ReadCostly<'a>(&'a Value);
 
-impl Trial for ReadCostly {
-    fn is_accepted<R: AllocGlobal + Abort>(&self, rt: &R, heap: &Heap, left: u64) -> Answer {
-        let value = Value::from_str(rt.alloc(), "[[[0,9],7],[[3,5],8],[[10,20],7]]")?;
+impl<'a> Trial for ReadCostly<'a> {
+    fn is_accepted(&self, heap: &Heap, left: u64) -> Answer {
         let read = move |part: &Value| read_costly(heap, part);
         heap.refuse_after(left);
-        let answer = RangeInclusiveMap::from_value(heap, Form::Any, &value, read, read);
-        heap.refuse_after(MANY);
-        Ok(is_read(rt, answer, 3))
+        is_read(
+            RangeInclusiveMap::from_value(heap, Form::Any, self.0, read, read),
+            3,
+        )
     }
 }
 
@@ -100,11 +111,30 @@ fn read_costly<'a>(heap: &'a Heap, part: &Value) -> Result<Costly<'a>, NoNumber>
 
 #[test]
 fn what_is_read_may_be_refused(rt: HostRuntime) -> Result<(), Fail> {
+    let heap = Refusing::new(rt.alloc(), MANY);
+    let pairs = &Value::from_str(rt.alloc(), PAIRS)?;
+    let ranges = &Value::from_str(rt.alloc(), RANGES)?;
     // both growths
-    assert_same(&rt, count_refusals(&rt, &Read(Form::Any))?, 2);
-    assert_same(&rt, count_refusals(&rt, &Read(Form::Canonical))?, 2);
+    check_trial(
+        &heap,
+        &Read {
+            form: Form::Any,
+            pairs,
+            ranges,
+        },
+        2,
+    )?;
+    check_trial(
+        &heap,
+        &Read {
+            form: Form::Canonical,
+            pairs,
+            ranges,
+        },
+        2,
+    )?;
     // the growth; of each of the two pieces that the second range leaves a key and a value; and
     // both ends of the third range, which is joined with the piece before it
-    assert_same(&rt, count_refusals(&rt, &ReadCostly)?, 7);
-    Ok(())
+    let pairs = &Value::from_str(rt.alloc(), "[[[0,9],7],[[3,5],8],[[10,20],7]]")?;
+    check_trial(&heap, &ReadCostly(pairs), 7)
 }

@@ -1,7 +1,8 @@
-//! One value compared with the one that is expected.
+//! What was found, compared with what is expected.
 
 use std::fmt::Debug;
 use std::process::Abort;
+use std::test::Fail;
 
 /// Ends the test where what was found is not what is expected, as `assert_eq!` does, to which it
 /// hands both.
@@ -11,4 +12,13 @@ use std::process::Abort;
 /// compared, the macro stays.
 pub fn assert_same<T: PartialEq + Debug + Drop, R: Abort>(rt: &R, found: T, expected: T) {
     assert_eq!(rt; found, expected);
+}
+
+/// Tells what is not as it is expected.
+pub fn check_that(is_expected: bool, what: &str) -> Result<(), Fail> {
+    if is_expected {
+        Ok(())
+    } else {
+        Err(Fail::new(what))
+    }
 }

@@ -3,10 +3,8 @@
 //! What is tried takes its memory from an allocator that refuses one request. So each growth and
 //! each clone is refused once.
 
-use crate::same::assert_same;
-use refusing::Refusing;
+use crate::same::check_that;
 use rows::{Heap, MANY};
-use std::process::Abort;
 use std::test::Fail;
 
 pub mod appends;
@@ -16,26 +14,32 @@ pub mod makers;
 pub mod maps;
 pub mod operations;
 pub mod replays;
+pub mod sets;
 
 /// Whether a call that was tried was accepted, or what was found wrong.
 pub type Answer = Result<bool, Fail>;
 
 /// A call that is tried anew for each number of requests that are granted.
 pub trait Trial {
-    /// Makes the call on a heap of its own, so that the request that comes after `left` others is
-    /// refused, and checks what it leaves. Answers whether it was accepted.
-    fn is_accepted<R: AllocGlobal + Abort>(&self, rt: &R, heap: &Heap, left: u64) -> Answer;
+    /// Makes the call, so that the request that comes after `left` others is refused, and checks
+    /// what it leaves. Answers whether it was accepted.
+    fn is_accepted(&self, heap: &Heap, left: u64) -> Answer;
 }
 
-/// Tries a call until it is accepted, and counts how often it was refused. No block may stay held.
-pub fn count_refusals<R: AllocGlobal + Abort, T: Trial>(rt: &R, trial: &T) -> Result<u64, Fail> {
-    for left in 0..MANY {
-        let heap = Refusing::new(rt.alloc(), MANY);
-        let is_accepted = trial.is_accepted(rt, &heap, left)?;
-        assert_same(rt, heap.held(), 0);
-        if is_accepted {
-            return Ok(left);
-        }
+/// Tries a call with each request refused in its turn, and compares how many it makes. No block may
+/// stay held.
+pub fn check_trial<T: Trial>(heap: &Heap, trial: &T, requests: u64) -> Result<(), Fail> {
+    for left in 0..=requests {
+        let is_accepted = trial.is_accepted(heap, left)?;
+        heap.refuse_after(MANY);
+        check_turn(heap, 0, is_accepted == (left == requests))?;
     }
-    Err(Fail::new("a call was never accepted"))
+    Ok(())
+}
+
+/// Shows that a call was refused or accepted as its number of requests says, and that so many blocks
+/// are held after it.
+pub fn check_turn(heap: &Heap, held: u64, is_expected: bool) -> Result<(), Fail> {
+    check_that(is_expected, "a call makes another number of requests")?;
+    check_that(heap.held() == held, "another number of blocks is held")
 }

@@ -7,13 +7,11 @@ ghost use Rattle.std.specs.Cmp.Rules.{comparing};
 ghost use Rattle.std.specs.Ordering.{as_partial_cmp, nat_cmp, on};
 ghost use Rattle.rangemap.specs.StepLaws.{held_follows, held_precedes, nat_after, nat_before, nat_follows, nat_precedes};
 
-use crate::changes::InRows;
 use crate::names::Heap;
-use crate::ranges::{closed, filled};
+use crate::words::Word;
 use rangemap::{RangeInclusiveMap, RangeInclusiveSet, RangeSet, StepLite, tree_map};
 use std::alloc::AllocError;
 use std::cmp::Ordering;
-use std::ops::{Range, RangeInclusive};
 use std::test::Fail;
 
 /// A byte. A clone of it takes a block of memory and gives it back at once, so it may be refused.
@@ -117,90 +115,13 @@ pub type CostlyTree<'a> = tree_map::RangeMap<Costly<'a>, char, &'a Heap>;
 /// A set of half-open ranges of such keys.
 pub type HalfOpenCostlySet<'a> = RangeSet<Costly<'a>, &'a Heap>;
 
-impl<'a> InRows for CostlyMap<'a> {
-    type RowRange = (u8, u8);
-
-    type RowValue = char;
-
-    fn range(heap: &'a Heap, row: &(u8, u8)) -> Result<RangeInclusive<Costly<'a>>, Fail> {
-        Ok(closed(Costly { byte: row.0, heap }, Costly { byte: row.1, heap })?)
+impl<'a> Word<&'a Heap> for Costly<'a> {
+    fn read(heap: &'a Heap, word: &str) -> Result<Self, Fail> {
+        let byte = word.parse()?;
+        Ok(Costly { byte, heap })
     }
 
-    fn value(_heap: &'a Heap, row: &char) -> Result<char, Fail> {
-        Ok(*row)
-    }
-
-    fn is_range(range: &RangeInclusive<Costly<'a>>, row: &(u8, u8)) -> bool {
-        (range.start().byte, range.end().byte) == *row
-    }
-
-    fn is_value(value: &char, row: &char) -> bool {
-        value == row
-    }
-}
-
-impl<'a> InRows for CostlySet<'a> {
-    type RowRange = (u8, u8);
-
-    type RowValue = ();
-
-    fn range(heap: &'a Heap, row: &(u8, u8)) -> Result<RangeInclusive<Costly<'a>>, Fail> {
-        Ok(closed(Costly { byte: row.0, heap }, Costly { byte: row.1, heap })?)
-    }
-
-    fn value(_heap: &'a Heap, _row: &()) -> Result<(), Fail> {
-        Ok(())
-    }
-
-    fn is_range(range: &RangeInclusive<Costly<'a>>, row: &(u8, u8)) -> bool {
-        (range.start().byte, range.end().byte) == *row
-    }
-
-    fn is_value(_value: &(), _row: &()) -> bool {
-        true
-    }
-}
-
-impl<'a> InRows for CostlyTree<'a> {
-    type RowRange = (u8, u8);
-
-    type RowValue = char;
-
-    fn range(heap: &'a Heap, row: &(u8, u8)) -> Result<Range<Costly<'a>>, Fail> {
-        Ok(filled(Costly { byte: row.0, heap }, Costly { byte: row.1, heap })?)
-    }
-
-    fn value(_heap: &'a Heap, row: &char) -> Result<char, Fail> {
-        Ok(*row)
-    }
-
-    fn is_range(range: &Range<Costly<'a>>, row: &(u8, u8)) -> bool {
-        (range.start.byte, range.end.byte) == *row
-    }
-
-    fn is_value(value: &char, row: &char) -> bool {
-        value == row
-    }
-}
-
-impl<'a> InRows for HalfOpenCostlySet<'a> {
-    type RowRange = (u8, u8);
-
-    type RowValue = ();
-
-    fn range(heap: &'a Heap, row: &(u8, u8)) -> Result<Range<Costly<'a>>, Fail> {
-        Ok(filled(Costly { byte: row.0, heap }, Costly { byte: row.1, heap })?)
-    }
-
-    fn value(_heap: &'a Heap, _row: &()) -> Result<(), Fail> {
-        Ok(())
-    }
-
-    fn is_range(range: &Range<Costly<'a>>, row: &(u8, u8)) -> bool {
-        (range.start.byte, range.end.byte) == *row
-    }
-
-    fn is_value(_value: &(), _row: &()) -> bool {
-        true
+    fn is(&self, word: &str) -> bool {
+        word.parse() == Ok(self.byte)
     }
 }

@@ -6,25 +6,29 @@
 //! clones take memory that may be refused, and steps of another type.
 #![tactic(auto)]
 
-mod changes;
+mod calls;
 mod compared;
 mod costly;
+mod in_rows;
 mod iterators;
+mod listed;
+mod lists;
 mod names;
-mod numbers;
 mod ranges;
-mod sets;
+mod replays;
 mod signed;
-pub mod tables;
+mod tables;
+mod words;
 
-pub use changes::{Call, InRows, make};
-pub use compared::{
-    check_equal, check_gaps, check_items, check_made, check_nothing, check_overlapping,
-    check_replayed, check_row,
-};
+pub use calls::{made_of, make, make_all, read_change};
+pub use compared::{check_ranges, check_replayed, check_row};
 pub use costly::{Costly, CostlyMap, CostlySet, CostlyTree, HalfOpenCostlySet};
+pub use in_rows::{FromEnds, InRows};
 pub use iterators::{check_both_ends, check_counted_back, check_three, check_tries};
-pub use names::{Ends, Heap, MANY, NamedSet, Names, Text, Texts, TreeTexts};
+pub use listed::{check_listed, check_text};
+pub use names::{Heap, MANY, NamedSet, Names, Text, Texts, TreeTexts};
 pub use ranges::{closed, filled};
-pub use sets::{check_equality, check_made_set, check_replayed_sets, check_set, make_set};
+pub use replays::{calls_of, changes_of, pairs_of, ranges_of, set_calls_of};
 pub use signed::SignedSteps;
+pub use tables::{Row, check_each, check_rows};
+pub use words::Word;

@@ -1,110 +1,92 @@
-//! Tables of rows, each compared by one function for every container.
+//! Tables of rows, compared by one function for every container.
 //!
-//! A test hands its table over and does no more: a loop beside the table that it goes over is many
-//! times dearer to prove.
+//! A test hands its table over and does no more: each call on a container that its body makes is
+//! proved of that container's type anew, which takes most of a test's proof.
 ghost use Rattle.rangemap.specs.Clones.{KeysCloneFaithfully, ValuesCloneFaithfully};
 
-use crate::changes::{Call, InRows, make};
-use crate::compared::{check_gaps, check_overlapping, check_row};
-use crate::sets::{check_set, make_set};
+use crate::calls::{made_of, make};
+use crate::compared::{check_gaps, check_overlapping, check_row, is_pair, same};
+use crate::in_rows::InRows;
+use crate::lists::first_word;
 use std::test::Fail;
 
-/// Calls on an empty container, and the pairs that they leave.
-pub type Changed<'r, R, V> = (&'r [Call<R, V>], &'r [(R, V)]);
+/// The calls that are made on an empty container, what it is asked then, and what it answers.
+///
+/// It is asked what it `holds` (its pairs, their number, the first and the last of them), and of a
+/// `clone` of it the same; which pairs are `overlapping` a range; which `gaps` an outer range has;
+/// which pair is `at` a key, if one is; and whether it `equals` the one that a list of pairs makes.
+pub type Row<'t> = (&'t str, &'t str, &'t str);
 
-/// Makes the calls of each row, and compares what they leave.
-pub fn check_changes<M: InRows>(
+/// Compares the answers of all rows.
+pub fn check_rows<M: InRows>(alloc: M::Alloc, rows: &[Row<'_>]) -> Result<(), Fail>
+where
+    M::Alloc: Copy,
+    requires faithful_keys { KeysCloneFaithfully M.Key.is_clone M.Key.cmp }
+    requires faithful_values { ValuesCloneFaithfully M.Value.is_clone M.Value.eq }
+{
+    for (calls, question, answer) in rows {
+        let mut map = M::empty(alloc);
+        make(&mut map, alloc, *calls)?;
+        check_answer(alloc, &map, *question, *answer)?;
+    }
+    Ok(())
+}
+
+/// Compares what a container answers.
+fn check_answer<M: InRows>(
     alloc: M::Alloc,
-    rows: &[Changed<'_, M::RowRange, M::RowValue>],
+    map: &M,
+    question: &str,
+    answer: &str,
 ) -> Result<(), Fail>
 where
     M::Alloc: Copy,
     requires faithful_keys { KeysCloneFaithfully M.Key.is_clone M.Key.cmp }
     requires faithful_values { ValuesCloneFaithfully M.Value.is_clone M.Value.eq }
 {
-    for (calls, pairs) in rows {
-        let mut map = M::empty(alloc);
-        make(&mut map, alloc, *calls)?;
-        check_row(&map, *pairs)?;
+    let (name, operand) = first_word(question);
+    match name {
+        "holds" => check_row(map, answer),
+        "clone" => check_row(&map.clone()?, answer),
+        "overlapping" => check_overlapping(map, &M::query(alloc, operand)?, answer),
+        "gaps" => check_gaps(map, &M::query(alloc, operand)?, answer),
+        "at" => check_found(map, &M::key(alloc, operand)?, answer),
+        "equals" => check_equality(map, &made_of(alloc, operand)?, answer),
+        _ => Err(Fail::new("a row asks another question")),
     }
-    Ok(())
 }
 
-/// Calls on an empty container, a query, and the pairs that it overlaps.
-pub type Overlapped<'r, Q, R, V> = (&'r [Call<R, V>], Q, &'r [(R, V)]);
-
-/// Makes the calls of each row, and compares what the query overlaps.
-pub fn check_queries<M: InRows>(
-    alloc: M::Alloc,
-    rows: &[Overlapped<'_, M::Range, M::RowRange, M::RowValue>],
-) -> Result<(), Fail>
-where
-    M::Alloc: Copy,
-    requires faithful_keys { KeysCloneFaithfully M.Key.is_clone M.Key.cmp }
-    requires faithful_values { ValuesCloneFaithfully M.Value.is_clone M.Value.eq }
-{
-    for (calls, query, pairs) in rows {
-        let mut map = M::empty(alloc);
-        make(&mut map, alloc, *calls)?;
-        check_overlapping(&map, query, *pairs)?;
-    }
-    Ok(())
+/// Compares what is found at a key.
+fn check_found<M: InRows>(map: &M, key: &M::Key, pair: &str) -> Result<(), Fail> {
+    let pair = if pair.is_empty() { None } else { Some(pair) };
+    same(
+        map.contains_key(key) == pair.is_some(),
+        "`contains_key` differs",
+    )?;
+    same(
+        is_pair::<M>(map.get_key_value(key), pair),
+        "`get_key_value` differs",
+    )?;
+    let is_value = match (map.get(key), pair) {
+        (Some(value), Some(pair)) => M::is_value(value, first_word(pair).1),
+        (value, pair) => value.is_none() && pair.is_none(),
+    };
+    same(is_value, "`get` differs")
 }
 
-/// Calls on an empty container, an outer range, and the gaps in it.
-pub type Free<'r, Q, R, V> = (&'r [Call<R, V>], Q, &'r [R]);
-
-/// Makes the calls of each row, and compares the gaps.
-pub fn check_free<M: InRows>(
-    alloc: M::Alloc,
-    rows: &[Free<'_, M::Range, M::RowRange, M::RowValue>],
-) -> Result<(), Fail>
-where
-    M::Alloc: Copy,
-    requires faithful_keys { KeysCloneFaithfully M.Key.is_clone M.Key.cmp }
-    requires faithful_values { ValuesCloneFaithfully M.Value.is_clone M.Value.eq }
-{
-    for (calls, outer_range, gaps) in rows {
-        let mut map = M::empty(alloc);
-        make(&mut map, alloc, *calls)?;
-        check_gaps(&map, outer_range, *gaps)?;
-    }
-    Ok(())
+/// Compares whether two containers are equal with a word.
+fn check_equality<M: InRows>(map: &M, other: &M, answer: &str) -> Result<(), Fail> {
+    same(
+        answer.parse() == Ok(*map == *other),
+        "two containers are compared otherwise",
+    )
 }
 
-/// What a set has, a range, and what the set has once it was inserted or taken out.
-pub type SetChanged<'r, R> = (&'r [R], R, &'r [R]);
-
-/// Inserts the range of each row, and compares what it leaves.
-pub fn check_inserts<S: InRows<Value = (), RowValue = ()>>(
-    alloc: S::Alloc,
-    rows: &[SetChanged<'_, S::RowRange>],
-) -> Result<(), Fail>
-where
-    S::Alloc: Copy,
-    requires { KeysCloneFaithfully S.Key.is_clone S.Key.cmp }
-{
-    for (stored, range, changed) in rows {
-        let mut set: S = make_set(alloc, *stored)?;
-        set.insert(S::range(alloc, range)?, ())?;
-        check_set(&set, *changed)?;
-    }
-    Ok(())
-}
-
-/// Takes the range of each row out, and compares what is left.
-pub fn check_removals<S: InRows<Value = (), RowValue = ()>>(
-    alloc: S::Alloc,
-    rows: &[SetChanged<'_, S::RowRange>],
-) -> Result<(), Fail>
-where
-    S::Alloc: Copy,
-    requires { KeysCloneFaithfully S.Key.is_clone S.Key.cmp }
-{
-    for (stored, range, changed) in rows {
-        let mut set: S = make_set(alloc, *stored)?;
-        set.remove(S::range(alloc, range)?)?;
-        check_set(&set, *changed)?;
+/// Compares what each of some containers holds with its list.
+pub fn check_each<M: InRows>(all: &[M], lists: &[&str]) -> Result<(), Fail> {
+    same(all.len() == lists.len(), "the count of containers differs")?;
+    for (map, list) in all.iter().zip(lists) {
+        check_row(map, *list)?;
     }
     Ok(())
 }

@@ -1,121 +1,149 @@
 //! Rows over closed ranges.
 
-use crate::same::assert_same;
+use crate::noted::Noted;
 use rangemap::RangeInclusiveMap;
-use rows::Call::{Clear, Insert, Remove};
-use rows::tables::{Changed, check_changes};
-use rows::{check_nothing, check_row, make};
+use rows::check_rows;
 use std::alloc::Global;
-use std::ops::RangeInclusive;
-use std::process::Abort;
 use std::test::Fail;
 
 mod collections;
 mod laws;
-mod queries;
 mod replays;
 mod steps;
 mod taken;
-mod values;
 
 /// A map over numbers.
 pub type Map = RangeInclusiveMap<u32, char, u32, Global>;
 
 #[test]
 fn ranges_with_no_key_between_are_joined(rt: HostRuntime) -> Result<(), Fail> {
-    let rows: [Changed<'_, RangeInclusive<u32>, char>; 8] = [
-        (&[Insert(0..=4, 'a'), Insert(5..=9, 'a')], &[(0..=9, 'a')]),
-        (
-            &[Insert(0..=4, 'a'), Insert(6..=9, 'a')],
-            &[(0..=4, 'a'), (6..=9, 'a')],
-        ),
-        (
-            &[Insert(0..=9, 'a'), Insert(3..=5, 'b')],
-            &[(0..=2, 'a'), (3..=5, 'b'), (6..=9, 'a')],
-        ),
-        (
-            &[Insert(0..=9, 'a'), Insert(3..=5, 'b'), Insert(3..=5, 'a')],
-            &[(0..=9, 'a')],
-        ),
-        (
-            &[Insert(0..=4, 'a'), Insert(5..=8, 'b'), Insert(5..=6, 'a')],
-            &[(0..=6, 'a'), (7..=8, 'b')],
-        ),
-        (
-            &[Insert(0..=9, 'a'), Remove(3..=5), Remove(4..=4)],
-            &[(0..=2, 'a'), (6..=9, 'a')],
-        ),
-        (
-            &[Insert(7..=7, 'a'), Insert(4294967295..=4294967295, 'b')],
-            &[(7..=7, 'a'), (4294967295..=4294967295, 'b')],
-        ),
-        (&[Insert(0..=9, 'a'), Clear], &[]),
-    ];
-    check_changes::<Map>(rt.alloc(), &rows)
+    check_rows::<Map>(
+        rt.alloc(),
+        &[
+            ("insert 0..=4 a, insert 5..=9 a", "holds", "0..=9 a"),
+            (
+                "insert 0..=4 a, insert 6..=9 a",
+                "holds",
+                "0..=4 a, 6..=9 a",
+            ),
+            (
+                "insert 0..=9 a, insert 3..=5 b",
+                "holds",
+                "0..=2 a, 3..=5 b, 6..=9 a",
+            ),
+            (
+                "insert 0..=9 a, insert 3..=5 b, insert 3..=5 a",
+                "holds",
+                "0..=9 a",
+            ),
+            (
+                "insert 0..=4 a, insert 5..=8 b, insert 5..=6 a",
+                "holds",
+                "0..=6 a, 7..=8 b",
+            ),
+            (
+                "insert 0..=9 a, remove 3..=5, remove 4..=4",
+                "holds",
+                "0..=2 a, 6..=9 a",
+            ),
+            (
+                "insert 7..=7 a, insert 4294967295..=4294967295 b",
+                "holds",
+                "7..=7 a, 4294967295..=4294967295 b",
+            ),
+            ("insert 0..=9 a, clear", "holds", ""),
+            // Equality forgets the calls, and a clone is equal.
+            (
+                "insert 0..=9 a, insert 3..=5 b, insert 3..=5 a",
+                "equals 0..=4 a, 5..=9 a",
+                "true",
+            ),
+            ("insert 0..=9 a", "clone", "0..=9 a"),
+            ("insert 0..=4 a", "equals 0..=5 a", "false"),
+            // What is asked is answered.
+            ("new", "at 5", ""),
+            ("new", "holds", ""),
+            ("insert 0..=9 a, insert 3..=5 b", "at 2", "0..=2 a"),
+            ("insert 0..=9 a, insert 3..=5 b", "at 5", "3..=5 b"),
+            ("insert 0..=9 a, insert 3..=5 b", "at 6", "6..=9 a"),
+            ("insert 0..=9 a, insert 3..=5 b", "at 9", "6..=9 a"),
+            ("insert 0..=9 a, insert 3..=5 b", "at 10", ""),
+            ("insert 3..=8 a", "overlapping 6..=4", "3..=8 a"),
+            ("insert 5..=8 a", "overlapping 6..=4", ""),
+            ("insert 5..=8 a", "overlapping 8..=9", "5..=8 a"),
+            ("insert 5..=8 a", "overlapping 9..=12", ""),
+            (
+                "insert 0..=1 a, insert 2..=3 b, insert 8..=9 c",
+                "overlapping 1..=7",
+                "0..=1 a, 2..=3 b",
+            ),
+        ],
+    )
 }
 
 #[test]
 fn bytes_go_to_their_end(rt: HostRuntime) -> Result<(), Fail> {
-    let rows: [Changed<'_, RangeInclusive<u8>, bool>; 2] = [
-        (
-            &[Insert(0..=127, false), Insert(128..=255, true)],
-            &[(0..=127, false), (128..=255, true)],
-        ),
-        (
-            &[
-                Insert(0..=127, false),
-                Insert(128..=255, true),
-                Insert(128..=255, false),
-            ],
-            &[(0..=255, false)],
-        ),
-    ];
-    check_changes::<RangeInclusiveMap<u8, bool, u8, Global>>(rt.alloc(), &rows)?;
+    check_rows::<RangeInclusiveMap<u8, bool, u8, Global>>(
+        rt.alloc(),
+        &[
+            (
+                "insert 0..=127 false, insert 128..=255 true",
+                "holds",
+                "0..=127 false, 128..=255 true",
+            ),
+            (
+                "insert 0..=127 false, insert 128..=255 true, insert 128..=255 false",
+                "holds",
+                "0..=255 false",
+            ),
+            // gaps
+            (
+                "insert 0..=9 false, insert 250..=255 true",
+                "gaps 0..=255",
+                "10..=249",
+            ),
+            (
+                "insert 0..=9 false, insert 250..=255 true",
+                "gaps 10..=10",
+                "10..=10",
+            ),
+            (
+                "insert 0..=9 false, insert 250..=255 true",
+                "gaps 12..=10",
+                "",
+            ),
+            (
+                "insert 0..=9 false, insert 250..=255 true, insert 10..=249 false",
+                "gaps 0..=255",
+                "",
+            ),
+        ],
+    )?;
     // Ends are removed.
-    let rows: [Changed<'_, RangeInclusive<i8>, bool>; 2] = [
-        (
-            &[Insert(-128..=127, true), Remove(-128..=-128)],
-            &[(-127..=127, true)],
-        ),
-        (
-            &[
-                Insert(-128..=127, true),
-                Remove(-128..=-128),
-                Remove(127..=127),
-            ],
-            &[(-127..=126, true)],
-        ),
-    ];
-    check_changes::<RangeInclusiveMap<i8, bool, i8, Global>>(rt.alloc(), &rows)
+    check_rows::<RangeInclusiveMap<i8, bool, i8, Global>>(
+        rt.alloc(),
+        &[
+            (
+                "insert -128..=127 true, remove -128..=-128",
+                "holds",
+                "-127..=127 true",
+            ),
+            (
+                "insert -128..=127 true, remove -128..=-128, remove 127..=127",
+                "holds",
+                "-127..=126 true",
+            ),
+        ],
+    )
 }
 
 #[test]
-fn the_range_that_has_a_key_is_found(rt: HostRuntime) -> Result<(), Fail> {
-    let mut map: Map = RangeInclusiveMap::new(rt.alloc());
-    check_nothing(&map, &5)?;
-    check_row(&map, &[])?;
-    make(
-        &mut map,
+fn the_newest_of_equal_values_stays(rt: HostRuntime) -> Result<(), Fail> {
+    check_rows::<RangeInclusiveMap<u32, Noted, u32, Global>>(
         rt.alloc(),
-        &[Insert(0..=9, 'a'), Insert(3..=5, 'b')],
-    )?;
-    check_pairs(&rt, &map)
-}
-
-/// Looks keys up by the map's own calls.
-fn check_pairs<R: Abort>(rt: &R, map: &Map) -> Result<(), Fail> {
-    assert_same(
-        rt,
-        (map.get(&2), map.get(&5), map.get(&10)),
-        (Some(&'a'), Some(&'b'), None),
-    );
-    assert_same(rt, map.get_key_value(&6), Some((&(6..=9), &'a')));
-    assert_same(
-        rt,
-        (map.contains_key(&9), map.contains_key(&10)),
-        (true, false),
-    );
-    let ends = (map.first_range_value(), map.last_range_value());
-    assert_same(rt, ends, (Some((&(0..=2), &'a')), Some((&(6..=9), &'a'))));
-    Ok(())
+        &[
+            ("insert 0..=3 x, insert 4..=7 y", "holds", "0..=7 y"),
+            ("insert 0..=3 x, insert 4..=7 y", "at 0", "0..=7 y"),
+        ],
+    )
 }

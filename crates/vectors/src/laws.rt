@@ -1,118 +1,164 @@
 //! The laws, run on maps of rows: with memory, each reaches its outcome.
 //!
 //! What is done for a law is the same for every container.
-ghost use Rattle.std.specs.Prelude.{◌≡◌, ◌&&◌, false};
+ghost use Rattle.std.specs.Prelude.{◌≡◌, ◌&&◌, false, IfOk};
 ghost use Rattle.rangemap.specs.Clones.{KeysCloneFaithfully, ValuesCloneFaithfully};
 
-use crate::same::assert_same;
 use rangemap::laws;
-use rows::{Call, InRows, check_row, make};
-use std::alloc::{AllocGlobal, Global};
-use std::process::Abort;
+use rows::{InRows, check_ranges, check_row, made_of};
+use std::alloc::Global;
 use std::test::Fail;
 
-/// Two equal maps of the calls.
-fn pair_of<M: InRows<Alloc = Global>, R: AllocGlobal>(
-    rt: &R,
-    calls: &[Call<M::RowRange, M::RowValue>],
-) -> Result<(M, M), Fail>
-    requires faithful_keys { KeysCloneFaithfully M.Key.is_clone M.Key.cmp }
-    requires faithful_values { ValuesCloneFaithfully M.Value.is_clone M.Value.eq }
-{
-    let mut left = M::empty(rt.alloc());
-    make(&mut left, rt.alloc(), calls)?;
-    let mut right = M::empty(rt.alloc());
-    make(&mut right, rt.alloc(), calls)?;
-    Ok((left, right))
-}
+/// A law, the pairs that are stored, what is done, and the pairs or the gaps then.
+pub type Row<'t> = (&'t str, &'t str, &'t str, &'t str);
 
-/// Maps of the same calls are alike, and are no more after one more insert into one of them.
-pub fn check_alike<M: InRows<Alloc = Global>, R: AllocGlobal + Abort>(
-    rt: &R,
-    calls: &[Call<M::RowRange, M::RowValue>],
-    range: M::Range,
-    value: M::Value,
-) -> Result<(), Fail>
-    requires non_empty { M.Kind.kind.IsNonEmpty range }
+/// Runs the law of each row.
+pub fn check_laws<M: InRows<Alloc = Global>>(alloc: Global, rows: &[Row<'_>]) -> Result<(), Fail>
     requires faithful_keys { KeysCloneFaithfully M.Key.is_clone M.Key.cmp }
     requires faithful_values { ValuesCloneFaithfully M.Value.is_clone M.Value.eq }
 {
-    let (left, mut right) = pair_of::<M, R>(rt, calls)?;
-    assert_same(
-        rt,
-        laws::equal_exactly_when_alike(&left, &right),
-        (true, false),
-    );
-    right.insert(range, value)?;
-    assert_same(
-        rt,
-        laws::equal_exactly_when_alike(&left, &right),
-        (false, true),
-    );
+    for (law, stored, call, outcome) in rows {
+        let map: M = made_of(alloc, *stored)?;
+        match *law {
+            "alike" => check_alike(alloc, map, made_of(alloc, *stored)?, *call)?,
+            "insert" => check_insert(alloc, map, *call, *outcome)?,
+            "remove" => check_remove(alloc, map, *call, *outcome)?,
+            "twice" => check_twice(alloc, map, made_of(alloc, *stored)?, *call, *outcome)?,
+            "taken back" => {
+                check_taken_back(alloc, map, made_of(alloc, *stored)?, *call, *outcome)?
+            }
+            _ => check_parted(alloc, &map, *call, *outcome)?,
+        }
+    }
     Ok(())
 }
 
-/// An insert leaves the pairs, where the calls were made before.
-pub fn check_insert<M: InRows<Alloc = Global>, R: AllocGlobal + Abort>(
-    rt: &R,
-    calls: &[Call<M::RowRange, M::RowValue>],
-    range: M::Range,
-    value: M::Value,
-    pairs: &[(M::RowRange, M::RowValue)],
+/// The range and the value of a pair.
+fn pair_of<M: InRows<Alloc = Global>>(
+    alloc: Global,
+    pair: &str,
+) -> Result<(M::Range, M::Value), Fail>
+    ensures { IfOk result (λ pair. M.Kind.kind.IsNonEmpty pair.0) }
+{
+    let (range, value) = pair.split_once(' ').unwrap_or((pair, ""));
+    let range = M::range(alloc, range)?;
+    Ok((range, M::value(alloc, value)?))
+}
+
+/// Why a law was not kept.
+const OTHERWISE: &str = "two maps are compared otherwise";
+
+/// Equal maps are alike, and are no more after one more insert into one of them.
+fn check_alike<M: InRows<Alloc = Global>>(
+    alloc: Global,
+    left: M,
+    mut right: M,
+    pair: &str,
 ) -> Result<(), Fail>
-    requires non_empty { M.Kind.kind.IsNonEmpty range }
     requires faithful_keys { KeysCloneFaithfully M.Key.is_clone M.Key.cmp }
     requires faithful_values { ValuesCloneFaithfully M.Value.is_clone M.Value.eq }
 {
-    let mut map = M::empty(rt.alloc());
-    make(&mut map, rt.alloc(), calls)?;
+    let before = laws::equal_exactly_when_alike(&left, &right);
+    let (range, value) = pair_of::<M>(alloc, pair)?;
+    right.insert(range, value)?;
+    let behind = laws::equal_exactly_when_alike(&left, &right);
+    if (before, behind) != ((true, false), (false, true)) {
+        return Err(Fail::new(OTHERWISE));
+    }
+    Ok(())
+}
+
+/// An insert leaves the other pairs.
+fn check_insert<M: InRows<Alloc = Global>>(
+    alloc: Global,
+    mut map: M,
+    pair: &str,
+    pairs: &str,
+) -> Result<(), Fail>
+    requires faithful_keys { KeysCloneFaithfully M.Key.is_clone M.Key.cmp }
+    requires faithful_values { ValuesCloneFaithfully M.Value.is_clone M.Value.eq }
+{
+    let (range, value) = pair_of::<M>(alloc, pair)?;
     laws::insert_changes_its_range_alone(&mut map, range, value)?;
     check_row(&map, pairs)
 }
 
-/// A remove leaves the pairs, where the calls were made before.
-pub fn check_remove<M: InRows<Alloc = Global>, R: AllocGlobal + Abort>(
-    rt: &R,
-    calls: &[Call<M::RowRange, M::RowValue>],
-    range: M::Range,
-    pairs: &[(M::RowRange, M::RowValue)],
+/// A remove leaves the other pairs.
+fn check_remove<M: InRows<Alloc = Global>>(
+    alloc: Global,
+    mut map: M,
+    range: &str,
+    pairs: &str,
 ) -> Result<(), Fail>
-    requires non_empty { M.Kind.kind.IsNonEmpty range }
     requires faithful_keys { KeysCloneFaithfully M.Key.is_clone M.Key.cmp }
     requires faithful_values { ValuesCloneFaithfully M.Value.is_clone M.Value.eq }
 {
-    let mut map = M::empty(rt.alloc());
-    make(&mut map, rt.alloc(), calls)?;
-    laws::remove_changes_its_range_alone(&mut map, range)?;
+    laws::remove_changes_its_range_alone(&mut map, M::range(alloc, range)?)?;
     check_row(&map, pairs)
 }
 
-/// An insert leaves the pairs, made once or twice.
-pub fn check_twice<M: InRows<Alloc = Global>, R: AllocGlobal + Abort>(
-    rt: &R,
-    calls: &[Call<M::RowRange, M::RowValue>],
-    range: &M::Range,
-    value: &M::Value,
-    pairs: &[(M::RowRange, M::RowValue)],
+/// An insert into equal maps leaves the pairs, made once or twice.
+fn check_twice<M: InRows<Alloc = Global>>(
+    alloc: Global,
+    mut once: M,
+    mut twice: M,
+    pair: &str,
+    pairs: &str,
 ) -> Result<(), Fail>
-    requires non_empty { M.Kind.kind.IsNonEmpty range.now }
     requires faithful_keys { KeysCloneFaithfully M.Key.is_clone M.Key.cmp }
     requires faithful_values { ValuesCloneFaithfully M.Value.is_clone M.Value.eq }
 {
-    let (mut once, mut twice) = pair_of::<M, R>(rt, calls)?;
-    assert!(rt; laws::equal_exactly_when_alike(&once, &twice) == (true, false));
-    laws::insert_twice_equals_once(&mut once, &mut twice, range, value)?;
+    if laws::equal_exactly_when_alike(&once, &twice) != (true, false) {
+        return Err(Fail::new(OTHERWISE));
+    }
+    let (range, value) = pair_of::<M>(alloc, pair)?;
+    laws::insert_twice_equals_once(&mut once, &mut twice, &range, &value)?;
     check_row(&once, pairs)?;
     check_row(&twice, pairs)
 }
 
-/// Two inserts with no common key leave the pairs, in either order.
-pub fn check_commute<M: InRows<Alloc = Global>, R: AllocGlobal + Abort>(
-    rt: &R,
-    calls: &[Call<M::RowRange, M::RowValue>],
+/// A remove from equal maps leaves the pairs, whether or not its range was inserted before it.
+fn check_taken_back<M: InRows<Alloc = Global>>(
+    alloc: Global,
+    mut changed: M,
+    mut removed: M,
+    pair: &str,
+    pairs: &str,
+) -> Result<(), Fail>
+    requires faithful_keys { KeysCloneFaithfully M.Key.is_clone M.Key.cmp }
+    requires faithful_values { ValuesCloneFaithfully M.Value.is_clone M.Value.eq }
+{
+    if laws::equal_exactly_when_alike(&changed, &removed) != (true, false) {
+        return Err(Fail::new(OTHERWISE));
+    }
+    let (range, value) = pair_of::<M>(alloc, pair)?;
+    laws::remove_after_insert_equals_remove(&mut changed, &mut removed, &range, &value)?;
+    check_row(&changed, pairs)?;
+    check_row(&removed, pairs)
+}
+
+/// Gaps and covered keys make up a range.
+fn check_parted<M: InRows<Alloc = Global>>(
+    alloc: Global,
+    map: &M,
+    outer_range: &str,
+    gaps: &str,
+) -> Result<(), Fail>
+    requires faithful_keys { KeysCloneFaithfully M.Key.is_clone M.Key.cmp }
+    requires faithful_values { ValuesCloneFaithfully M.Value.is_clone M.Value.eq }
+{
+    let outer_range = M::query(alloc, outer_range)?;
+    let found = laws::gaps_and_covered_keys_make_up_a_range(alloc, map, &outer_range)?;
+    check_ranges::<M>(found.as_slice(), gaps)
+}
+
+/// Two inserts with no common key into equal maps leave the pairs, in either order.
+pub fn check_commute<M: InRows<Alloc = Global>>(
+    alloc: Global,
+    stored: &str,
     first: (&M::Range, &M::Value),
     second: (&M::Range, &M::Value),
-    pairs: &[(M::RowRange, M::RowValue)],
+    pairs: &str,
 ) -> Result<(), Fail>
     requires first_non_empty { M.Kind.kind.IsNonEmpty first.0.now }
     requires second_non_empty { M.Kind.kind.IsNonEmpty second.0.now }
@@ -120,48 +166,11 @@ pub fn check_commute<M: InRows<Alloc = Global>, R: AllocGlobal + Abort>(
     requires faithful_keys { KeysCloneFaithfully M.Key.is_clone M.Key.cmp }
     requires faithful_values { ValuesCloneFaithfully M.Value.is_clone M.Value.eq }
 {
-    let (mut forth, mut back) = pair_of::<M, R>(rt, calls)?;
-    assert!(rt; laws::equal_exactly_when_alike(&forth, &back) == (true, false));
+    let (mut forth, mut back): (M, M) = (made_of(alloc, stored)?, made_of(alloc, stored)?);
+    if laws::equal_exactly_when_alike(&forth, &back) != (true, false) {
+        return Err(Fail::new(OTHERWISE));
+    }
     laws::inserts_commute(&mut forth, &mut back, first, second)?;
     check_row(&forth, pairs)?;
     check_row(&back, pairs)
-}
-
-/// A remove leaves the pairs, whether or not its range was inserted before it.
-pub fn check_taken_back<M: InRows<Alloc = Global>, R: AllocGlobal + Abort>(
-    rt: &R,
-    calls: &[Call<M::RowRange, M::RowValue>],
-    range: &M::Range,
-    value: &M::Value,
-    pairs: &[(M::RowRange, M::RowValue)],
-) -> Result<(), Fail>
-    requires non_empty { M.Kind.kind.IsNonEmpty range.now }
-    requires faithful_keys { KeysCloneFaithfully M.Key.is_clone M.Key.cmp }
-    requires faithful_values { ValuesCloneFaithfully M.Value.is_clone M.Value.eq }
-{
-    let (mut changed, mut removed) = pair_of::<M, R>(rt, calls)?;
-    assert!(rt; laws::equal_exactly_when_alike(&changed, &removed) == (true, false));
-    laws::remove_after_insert_equals_remove(&mut changed, &mut removed, range, value)?;
-    check_row(&changed, pairs)?;
-    check_row(&removed, pairs)
-}
-
-/// The gaps of the range are those of the row.
-pub fn check_parted<M: InRows<Alloc = Global>, R: AllocGlobal + Abort>(
-    rt: &R,
-    calls: &[Call<M::RowRange, M::RowValue>],
-    outer_range: &M::Range,
-    expected: &[M::RowRange],
-) -> Result<(), Fail>
-    requires faithful_keys { KeysCloneFaithfully M.Key.is_clone M.Key.cmp }
-    requires faithful_values { ValuesCloneFaithfully M.Value.is_clone M.Value.eq }
-{
-    let mut map = M::empty(rt.alloc());
-    make(&mut map, rt.alloc(), calls)?;
-    let gaps = laws::gaps_and_covered_keys_make_up_a_range(rt.alloc(), &map, outer_range)?;
-    assert_same(rt, gaps.len(), expected.len());
-    for (gap, row) in gaps.iter().zip(expected) {
-        assert!(rt; M::is_range(gap, row));
-    }
-    Ok(())
 }

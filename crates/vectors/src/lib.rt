@@ -15,6 +15,8 @@ mod laws;
 #[cfg(test)]
 mod map;
 #[cfg(test)]
+mod noted;
+#[cfg(test)]
 mod same;
 #[cfg(test)]
 mod searches;

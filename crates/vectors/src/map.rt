@@ -3,12 +3,10 @@
 use rangemap::{RangeMap, tree_map};
 use std::alloc::Global;
 
+mod changes;
 mod collections;
-pub mod inserts;
 mod laws;
-mod lookups;
 mod queries;
-mod removals;
 mod replays;
 
 /// A map over numbers.

@@ -4,12 +4,10 @@
 //! feeds less than its pairs would still hash alike where it is equal.
 ghost use Rattle.std.specs.Prelude.{◌≡◌, ◌+◌, ◌*◌, ◌%◌, ◌^◌, fold};
 
-use crate::made::make_all;
 use crate::same::assert_same;
 use rangemap::laws::comparisons::{equal_maps_hash_alike, equality_agrees_with_order};
 use rangemap::{RangeInclusiveMap, RangeInclusiveSet, RangeMap, RangeSet, range_map, tree_map};
-use rows::Call::Insert;
-use rows::SignedSteps;
+use rows::{SignedSteps, make_all};
 use std::alloc::Global;
 use std::cmp::Ordering;
 use std::hash::{Hash, Hasher};
@@ -57,50 +55,40 @@ fn assert_fed<M: Hash, R: Abort>(rt: &R, made: &[M]) -> Result<(), Fail> {
 
 #[test]
 fn each_part_of_a_pair_is_fed(rt: HostRuntime) -> Result<(), Fail> {
-    let rows: [&[_]; 6] = [
-        &[Insert(0..5, 'a')],
-        &[Insert(0..3, 'a'), Insert(3..5, 'a')],
-        &[Insert(0..6, 'a')],
-        &[Insert(1..5, 'a')],
-        &[Insert(0..5, 'b')],
-        &[Insert(0..5, 'a'), Insert(7..8, 'a')],
+    let lists = [
+        "0..5 a",
+        "0..3 a, 3..5 a",
+        "0..6 a",
+        "1..5 a",
+        "0..5 b",
+        "0..5 a, 7..8 a",
     ];
-    let made = make_all::<RangeMap<u32, char, Global>>(rt.alloc(), &rows)?;
+    let made = make_all::<RangeMap<u32, char, Global>>(rt.alloc(), &lists)?;
     assert_fed(&rt, made.as_slice())?;
-    let made = make_all::<tree_map::RangeMap<u32, char, Global>>(rt.alloc(), &rows)?;
+    let made = make_all::<tree_map::RangeMap<u32, char, Global>>(rt.alloc(), &lists)?;
     assert_fed(&rt, made.as_slice())
 }
 
 #[test]
 fn each_part_of_a_closed_pair_is_fed(rt: HostRuntime) -> Result<(), Fail> {
-    let rows: [&[_]; 5] = [
-        &[Insert(0..=5, 'a')],
-        &[Insert(0..=2, 'a'), Insert(3..=5, 'a')],
-        &[Insert(0..=6, 'a')],
-        &[Insert(1..=5, 'a')],
-        &[Insert(0..=5, 'b')],
+    let lists = [
+        "0..=5 a",
+        "0..=2 a, 3..=5 a",
+        "0..=6 a",
+        "1..=5 a",
+        "0..=5 b",
     ];
-    let made = make_all::<RangeInclusiveMap<u32, char, u32, Global>>(rt.alloc(), &rows)?;
+    let made = make_all::<RangeInclusiveMap<u32, char, u32, Global>>(rt.alloc(), &lists)?;
     assert_fed(&rt, made.as_slice())
 }
 
 #[test]
 fn each_end_of_a_range_is_fed(rt: HostRuntime) -> Result<(), Fail> {
-    let rows: [&[_]; 4] = [
-        &[Insert(0..5, ())],
-        &[Insert(0..3, ()), Insert(3..5, ())],
-        &[Insert(0..6, ())],
-        &[Insert(1..5, ())],
-    ];
-    let made = make_all::<RangeSet<u32, Global>>(rt.alloc(), &rows)?;
+    let lists = ["0..5", "0..3, 3..5", "0..6", "1..5"];
+    let made = make_all::<RangeSet<u32, Global>>(rt.alloc(), &lists)?;
     assert_fed(&rt, made.as_slice())?;
-    let rows: [&[_]; 4] = [
-        &[Insert(0..=5, ())],
-        &[Insert(0..=2, ()), Insert(3..=5, ())],
-        &[Insert(0..=6, ())],
-        &[Insert(1..=5, ())],
-    ];
-    let made = make_all::<RangeInclusiveSet<u32, u32, Global>>(rt.alloc(), &rows)?;
+    let lists = ["0..=5", "0..=2, 3..=5", "0..=6", "1..=5"];
+    let made = make_all::<RangeInclusiveSet<u32, u32, Global>>(rt.alloc(), &lists)?;
     assert_fed(&rt, made.as_slice())
 }
 

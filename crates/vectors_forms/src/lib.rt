@@ -9,8 +9,6 @@ mod json;
 #[cfg(test)]
 mod macros;
 #[cfg(test)]
-mod made;
-#[cfg(test)]
 mod order;
 #[cfg(test)]
 mod same;

@@ -1,9 +1,8 @@
 //! Rows about the order of containers.
 
-use crate::made::make_all;
 use crate::same::assert_same;
 use rangemap::{RangeInclusiveMap, RangeInclusiveSet, RangeMap, RangeSet, tree_map};
-use rows::Call::Insert;
+use rows::make_all;
 use std::alloc::Global;
 use std::cmp::Ordering;
 use std::process::Abort;
@@ -25,8 +24,10 @@ fn assert_order<M: Ord, R: Abort>(rt: &R, one: &M, other: &M, order: Ordering) {
     assert_same(rt, by_operators, expected);
 }
 
-/// Shows that containers stand in ascending order: each is compared with all of another such list.
-fn assert_ascending<M: Ord, R: Abort>(rt: &R, made: &[M], again: &[M]) {
+/// Shows that containers stand in ascending order, and the same ones once more behind them: each of
+/// the first is compared with all of the others.
+fn assert_ascending<M: Ord, R: Abort>(rt: &R, all: &[M]) {
+    let (made, again) = all.split_at(all.len() / 2);
     for (place, one) in made.iter().enumerate() {
         assert_place(rt, place, one, again);
     }
@@ -43,76 +44,97 @@ fn assert_place<M: Ord, R: Abort>(rt: &R, place: usize, one: &M, all: &[M]) {
 // weighs more than the lengths.
 #[test]
 fn maps_lie_by_their_first_difference(rt: HostRuntime) -> Result<(), Fail> {
-    let rows: [&[_]; 6] = [
-        &[],
-        &[Insert(0..5, 'a')],
-        &[Insert(0..5, 'a'), Insert(7..8, 'a')],
-        &[Insert(0..5, 'b')],
-        &[Insert(0..6, 'a')],
-        &[Insert(1..2, 'a')],
+    let lists = [
+        "",
+        "0..5 a",
+        "0..5 a, 7..8 a",
+        "0..5 b",
+        "0..6 a",
+        "1..2 a", //
+        "",
+        "0..5 a",
+        "0..5 a, 7..8 a",
+        "0..5 b",
+        "0..6 a",
+        "1..2 a",
     ];
-    let made = make_all::<RangeMap<u32, char, Global>>(rt.alloc(), &rows)?;
-    let again = make_all(rt.alloc(), &rows)?;
-    assert_ascending(&rt, made.as_slice(), again.as_slice());
+    let made = make_all::<RangeMap<u32, char, Global>>(rt.alloc(), &lists)?;
+    assert_ascending(&rt, made.as_slice());
     Ok(())
 }
 
 #[test]
 fn closed_maps_lie_by_their_first_difference(rt: HostRuntime) -> Result<(), Fail> {
-    let rows: [&[_]; 6] = [
-        &[],
-        &[Insert(0..=5, 'a')],
-        &[Insert(0..=5, 'a'), Insert(7..=8, 'a')],
-        &[Insert(0..=5, 'b')],
-        &[Insert(0..=6, 'a')],
-        &[Insert(1..=2, 'a')],
+    let lists = [
+        "",
+        "0..=5 a",
+        "0..=5 a, 7..=8 a",
+        "0..=5 b",
+        "0..=6 a",
+        "1..=2 a", //
+        "",
+        "0..=5 a",
+        "0..=5 a, 7..=8 a",
+        "0..=5 b",
+        "0..=6 a",
+        "1..=2 a",
     ];
-    let made = make_all::<RangeInclusiveMap<u32, char, u32, Global>>(rt.alloc(), &rows)?;
-    let again = make_all(rt.alloc(), &rows)?;
-    assert_ascending(&rt, made.as_slice(), again.as_slice());
+    let made = make_all::<RangeInclusiveMap<u32, char, u32, Global>>(rt.alloc(), &lists)?;
+    assert_ascending(&rt, made.as_slice());
     Ok(())
 }
 
 #[test]
 fn maps_in_a_tree_lie_by_their_first_difference(rt: HostRuntime) -> Result<(), Fail> {
-    let rows: [&[_]; 5] = [
-        &[],
-        &[Insert(0..2, 'a'), Insert(4..6, 'b')],
-        &[Insert(0..2, 'a'), Insert(4..6, 'b'), Insert(8..9, 'c')],
-        &[Insert(0..2, 'a'), Insert(4..6, 'c')],
-        &[Insert(0..3, 'a')],
+    let lists = [
+        "",
+        "0..2 a, 4..6 b",
+        "0..2 a, 4..6 b, 8..9 c",
+        "0..2 a, 4..6 c",
+        "0..3 a", //
+        "",
+        "0..2 a, 4..6 b",
+        "0..2 a, 4..6 b, 8..9 c",
+        "0..2 a, 4..6 c",
+        "0..3 a",
     ];
-    let made = make_all::<tree_map::RangeMap<u32, char, Global>>(rt.alloc(), &rows)?;
-    let again = make_all(rt.alloc(), &rows)?;
-    assert_ascending(&rt, made.as_slice(), again.as_slice());
+    let made = make_all::<tree_map::RangeMap<u32, char, Global>>(rt.alloc(), &lists)?;
+    assert_ascending(&rt, made.as_slice());
     Ok(())
 }
 
 #[test]
 fn sets_lie_by_their_first_difference(rt: HostRuntime) -> Result<(), Fail> {
-    let rows: [&[_]; 5] = [
-        &[],
-        &[Insert(0..5, ())],
-        &[Insert(0..5, ()), Insert(7..8, ())],
-        &[Insert(0..6, ())],
-        &[Insert(1..2, ())],
+    let lists = [
+        "",
+        "0..5",
+        "0..5, 7..8",
+        "0..6",
+        "1..2",
+        "",
+        "0..5",
+        "0..5, 7..8",
+        "0..6",
+        "1..2",
     ];
-    let made = make_all::<RangeSet<u32, Global>>(rt.alloc(), &rows)?;
-    let again = make_all(rt.alloc(), &rows)?;
-    assert_ascending(&rt, made.as_slice(), again.as_slice());
+    let made = make_all::<RangeSet<u32, Global>>(rt.alloc(), &lists)?;
+    assert_ascending(&rt, made.as_slice());
     Ok(())
 }
 
 #[test]
 fn closed_sets_lie_by_their_first_difference(rt: HostRuntime) -> Result<(), Fail> {
-    let rows: [&[_]; 4] = [
-        &[],
-        &[Insert(0..=5, ())],
-        &[Insert(0..=5, ()), Insert(7..=8, ())],
-        &[Insert(0..=6, ())],
+    let lists = [
+        "",
+        "0..=5",
+        "0..=5, 7..=8",
+        "0..=6",
+        "",
+        "0..=5",
+        "0..=5, 7..=8",
+        "0..=6",
     ];
-    let made = make_all::<RangeInclusiveSet<u32, u32, Global>>(rt.alloc(), &rows)?;
-    let again = make_all(rt.alloc(), &rows)?;
-    assert_ascending(&rt, made.as_slice(), again.as_slice());
+    let made = make_all::<RangeInclusiveSet<u32, u32, Global>>(rt.alloc(), &lists)?;
+    assert_ascending(&rt, made.as_slice());
     Ok(())
 }

@@ -6,8 +6,6 @@ use rangemap::{
     RangeInclusiveMap, RangeMap, RangeSet, range_inclusive_map, range_inclusive_set, range_map,
     range_set, tree_map,
 };
-use rows::Call::Insert;
-use rows::make;
 use std::alloc::{AllocError, Global};
 use std::fmt::Debug;
 use std::process::Abort;
@@ -105,13 +103,9 @@ fn the_law_of_ascii_texts_writes_them(rt: HostRuntime) -> Result<(), Fail> {
 
 #[test]
 fn maps_in_a_tree_are_written_in_braces(rt: HostRuntime) -> Result<(), Fail> {
-    let mut map: tree_map::RangeMap<u32, char, Global> = tree_map::RangeMap::new(rt.alloc());
-    assert_text(&rt, &map, "{}")?;
-    make(
-        &mut map,
-        rt.alloc(),
-        &[Insert(0..100, 'a'), Insert(200..300, 'g')],
-    )?;
+    let none: tree_map::RangeMap<u32, char, Global> = tree_map::RangeMap::new(rt.alloc());
+    assert_text(&rt, &none, "{}")?;
+    let map = tree_map::RangeMap::from(rt.alloc(), [(0u32..100, 'a'), (200..300, 'g')])?;
     assert_text(&rt, &map, "{0..100: 'a', 200..300: 'g'}")?;
     let signed = tree_map::RangeMap::from(rt.alloc(), [(-3..0i8, 7u16)])?;
     assert_text(&rt, &signed, "{-3..0: 7}")?;

@@ -1,8 +1,7 @@
 //! A set of characters, whose ranges touch over the surrogates.
 
 use rangemap::RangeInclusiveSet;
-use rows::Call::Insert;
-use rows::tables::{check_free, check_inserts, check_removals};
+use rows::check_rows;
 use std::alloc::Global;
 use std::test::Fail;
 
@@ -11,32 +10,25 @@ type Chars = RangeInclusiveSet<char, char, Global>;
 
 #[test]
 fn characters_touch_over_the_surrogates(rt: HostRuntime) -> Result<(), Fail> {
-    check_inserts::<Chars>(
+    check_rows::<Chars>(
         rt.alloc(),
-        &[(
-            &['\u{0}'..='\u{D7FF}'],
-            '\u{E000}'..='\u{10FFFF}',
-            &['\u{0}'..='\u{10FFFF}'],
-        )],
-    )?;
-    check_removals::<Chars>(
-        rt.alloc(),
-        &[(
-            &['\u{0}'..='\u{D7FF}', '\u{E000}'..='\u{10FFFF}'],
-            '\u{E000}'..='\u{E000}',
-            &['\u{0}'..='\u{D7FF}', '\u{E001}'..='\u{10FFFF}'],
-        )],
-    )?;
-    // A gap goes over the surrogates too.
-    check_free::<Chars>(
-        rt.alloc(),
-        &[(
-            &[
-                Insert('\u{0}'..='\u{D7FE}', ()),
-                Insert('\u{E001}'..='\u{10FFFF}', ()),
-            ],
-            '\u{0}'..='\u{10FFFF}',
-            &['\u{D7FF}'..='\u{E000}'],
-        )],
+        &[
+            (
+                "insert \u{0}..=\u{D7FF}, insert \u{E000}..=\u{10FFFF}",
+                "holds",
+                "\u{0}..=\u{10FFFF}",
+            ),
+            (
+                "insert \u{0}..=\u{D7FF}, insert \u{E000}..=\u{10FFFF}, remove \u{E000}..=\u{E000}",
+                "holds",
+                "\u{0}..=\u{D7FF}, \u{E001}..=\u{10FFFF}",
+            ),
+            // A gap goes over the surrogates too.
+            (
+                "insert \u{0}..=\u{D7FE}, insert \u{E001}..=\u{10FFFF}",
+                "gaps \u{0}..=\u{10FFFF}",
+                "\u{D7FF}..=\u{E000}",
+            ),
+        ],
     )
 }

@@ -10,7 +10,7 @@ ghost use Rattle.vectors_keys.specs.Reversed.{reversed, reversed_follows, revers
 
 use crate::same::assert_same;
 use rangemap::{RangeInclusiveSet, StepLite};
-use rows::tables::check_inserts;
+use rows::{check_text, closed};
 use std::alloc::Global;
 use std::cmp::Ordering;
 use std::test::Fail;
@@ -92,12 +92,8 @@ fn step_up<K: StepLite>(key: &K, greater: &K) -> K
 #[test]
 fn a_reversed_order_goes_down(rt: HostRuntime) -> Result<(), Fail> {
     assert_same(&rt, step_up(&Down(5), &Down(0)), Down(4));
-    check_inserts::<RangeInclusiveSet<Down, Down, Global>>(
-        rt.alloc(),
-        &[(
-            &[Down(255)..=Down(128)],
-            Down(127)..=Down(0),
-            &[Down(255)..=Down(0)],
-        )],
-    )
+    let mut set: RangeInclusiveSet<Down, Down, Global> = RangeInclusiveSet::new(rt.alloc());
+    set.insert(closed(Down(255), Down(128))?)?;
+    set.insert(closed(Down(127), Down(0))?)?;
+    check_text(rt.alloc(), &set, "{Down(255)..=Down(0)}")
 }

@@ -3,8 +3,7 @@ ghost use Rattle.std.specs.Prelude.{◌^◌};
 ghost use Rattle.vectors_keys.specs.Pairs.{IsPair, pair_after, pair_before, pair_follows, pair_precedes};
 
 use rangemap::{RangeInclusiveSet, StepFns};
-use rows::Call::Insert;
-use rows::tables::{check_free, check_inserts, check_removals};
+use rows::check_rows;
 use std::alloc::Global;
 use std::test::Fail;
 
@@ -49,26 +48,22 @@ type Pairs = RangeInclusiveSet<(u8, u8), PairSteps, Global>;
 
 #[test]
 fn pairs_are_stepped_through(rt: HostRuntime) -> Result<(), Fail> {
-    // Pairs touch over their second byte.
-    check_inserts::<Pairs>(
+    check_rows::<Pairs>(
         rt.alloc(),
-        &[(&[(0, 0)..=(1, 255)], (2, 0)..=(2, 0), &[(0, 0)..=(2, 0)])],
-    )?;
-    // The last pair is not stepped past.
-    check_free::<Pairs>(
-        rt.alloc(),
-        &[(
-            &[Insert((0, 0)..=(2, 0), ()), Insert((2, 2)..=(255, 255), ())],
-            (0, 0)..=(255, 255),
-            &[(2, 1)..=(2, 1)],
-        )],
-    )?;
-    check_removals::<Pairs>(
-        rt.alloc(),
-        &[(
-            &[(0, 0)..=(2, 0), (2, 2)..=(255, 255)],
-            (255, 255)..=(255, 255),
-            &[(0, 0)..=(2, 0), (2, 2)..=(255, 254)],
-        )],
+        &[
+            // Pairs touch over their second byte.
+            ("insert 0/0..=1/255, insert 2/0..=2/0", "holds", "0/0..=2/0"),
+            // The last pair is not stepped past.
+            (
+                "insert 0/0..=2/0, insert 2/2..=255/255",
+                "gaps 0/0..=255/255",
+                "2/1..=2/1",
+            ),
+            (
+                "insert 0/0..=2/0, insert 2/2..=255/255, remove 255/255..=255/255",
+                "holds",
+                "0/0..=2/0, 2/2..=255/254",
+            ),
+        ],
     )
 }

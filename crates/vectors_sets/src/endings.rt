@@ -1,21 +1,26 @@
 //! The laws of iterators, run on those of sets: each ends and stays ended.
 
 use crate::{inclusive_set, set};
-use rows::{check_both_ends, check_tries, make_set};
+use rangemap::{RangeInclusiveSet, RangeSet};
+use rows::{check_both_ends, check_tries};
 use std::test::Fail;
 
 #[test]
-fn iterators_of_sets_stay_ended(rt: HostRuntime) -> Result<(), Fail> {
-    let set: set::Set = make_set(rt.alloc(), &[1..3])?;
+fn gaps_of_sets_stay_ended(rt: HostRuntime) -> Result<(), Fail> {
+    let set = RangeSet::from(rt.alloc(), [1..3u32])?;
     let outer_range = 0..3;
     let gaps = (
         set.gaps(&outer_range),
         set.gaps(&outer_range),
         set.gaps(&outer_range),
     );
-    check_tries(gaps, (0..1, 0..1, 0..1))?;
-    let left: set::Set = make_set(rt.alloc(), &[0..5])?;
-    let right: set::Set = make_set(rt.alloc(), &[3..10])?;
+    check_tries(gaps, (0..1, 0..1, 0..1))
+}
+
+#[test]
+fn iterators_of_sets_stay_ended(rt: HostRuntime) -> Result<(), Fail> {
+    let left = RangeSet::from(rt.alloc(), [0..5])?;
+    let right = RangeSet::from(rt.alloc(), [3..10])?;
     check_operations(&left, &right)?;
     let query = 3..6;
     check_both_ends(left.iter(), left.iter())?;
@@ -37,8 +42,8 @@ fn check_operations(left: &set::Set, right: &set::Set) -> Result<(), Fail> {
 
 #[test]
 fn items_of_closed_sets_stay_ended(rt: HostRuntime) -> Result<(), Fail> {
-    let left: inclusive_set::Set = make_set(rt.alloc(), &[0..=4])?;
-    let right: inclusive_set::Set = make_set(rt.alloc(), &[4..=9])?;
+    let left = RangeInclusiveSet::from(rt.alloc(), [0..=4])?;
+    let right = RangeInclusiveSet::from(rt.alloc(), [4..=9])?;
     check_closed_operations(&left, &right)
 }
 

@@ -11,3 +11,6 @@ mod replays;
 
 /// A set of numbers.
 pub type Set = RangeInclusiveSet<u32, u32, Global>;
+
+/// A set of bytes.
+pub type Bytes = RangeInclusiveSet<u8, u8, Global>;

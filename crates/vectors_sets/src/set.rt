@@ -1,13 +1,13 @@
-//! Rows over sets of half-open ranges.
-
-use rangemap::RangeSet;
-use std::alloc::Global;
+//! Rows over half-open ranges.
 
 mod changes;
 mod collections;
 mod operations;
 mod queries;
 mod replays;
+
+use rangemap::RangeSet;
+use std::alloc::Global;
 
 /// A set of numbers.
 pub type Set = RangeSet<u32, Global>;

@@ -1,90 +1,62 @@
 //! Maps that are made of pairs and of other maps, with each request for memory refused in its turn.
-ghost use Rattle.std.specs.Prelude.{IfOk};
-ghost use Rattle.std.specs.List.{AllByRecursion};
-ghost use Rattle.std.specs.Ordering.{nat_cmp};
-ghost use Rattle.rangemap.specs.Histories.{HasNonEmptyRanges};
-ghost use Rattle.rangemap.specs.Ranges.{half_open};
 
-use crate::same::assert_same;
-use crate::trials::makers::{check_kept, check_maker_refusals};
+use crate::trials::makers::check_makers;
 use crate::trials::maps::is_made;
-use crate::trials::{Answer, Trial, count_refusals, replays};
+use crate::trials::{Answer, Trial, check_trial, replays};
 use rangemap::RangeMap;
-use rangemap::map::{Call, Change, replay};
+use rangemap::map::replay;
 use refusing::Refusing;
-use rows::{Heap, MANY, Texts};
-use std::alloc::AllocError;
-use std::ops::Range;
-use std::process::Abort;
+use rows::{Heap, MANY, Texts, calls_of};
 use std::test::Fail;
 
-/// Pairs that are given, and those that a map of them has.
-pub const GIVEN: [(Range<u32>, &str); 3] = [(0..10, "a"), (3..6, "b"), (20..25, "c")];
+/// Pairs that are given.
+pub const GIVEN: &str = "0..10 a + 3..6 b + 20..25 c";
 
-const MADE: [(Range<u32>, &str); 4] = [(0..3, "a"), (3..6, "b"), (6..10, "a"), (20..25, "c")];
+/// Those that a map of them has.
+pub const MADE: &str = "0..3 a, 3..6 b, 6..10 a, 20..25 c";
 
 // The first pair takes the first growth. The second, inside it, takes a clone of its text for each
 // piece of the first.
 #[test]
 fn an_extend_keeps_what_the_inserts_keep(rt: HostRuntime) -> Result<(), Fail> {
     let heap = Refusing::new(rt.alloc(), MANY);
-    check_kept::<_, Texts<'_>>(&rt, &heap, (&GIVEN, &[(0..10, "a")]), 1)?;
-    check_maker_refusals::<_, Texts<'_>>(&rt, &heap, (&GIVEN, &MADE), 3)
+    check_makers::<Texts<'_>>(&heap, GIVEN, &["", "0..10 a", "0..10 a"], MADE)
 }
 
 /// A map made of two pairs.
 struct From;
 
 impl Trial for From {
-    fn is_accepted<R: AllocGlobal + Abort>(&self, rt: &R, heap: &Heap, left: u64) -> Answer {
+    fn is_accepted(&self, heap: &Heap, left: u64) -> Answer {
         let first = String::from_str(heap, "a")?;
         let second = String::from_str(heap, "b")?;
         heap.refuse_after(left);
-        let answer = RangeMap::from(heap, [(0u32..10, first), (3..6, second)]);
-        heap.refuse_after(MANY);
-        is_made(rt, answer, &[(0..3, "a"), (3..6, "b"), (6..10, "a")])
+        let made = RangeMap::from(heap, [(0u32..10, first), (3..6, second)]);
+        is_made(made, "0..3 a, 3..6 b, 6..10 a")
     }
 }
 
 /// A map over numbers.
 type Numbers<'a> = RangeMap<u32, char, &'a Heap>;
 
-/// The calls of a row: they make a map, clone it, and change both.
-fn calls(heap: &Heap) -> Result<Vec<Call<u32, char, &Heap>, &Heap>, AllocError>
-    ensures { IfOk result (λ calls. AllByRecursion (HasNonEmptyRanges (half_open nat_cmp)) calls.items) }
-{
-    let calls = [
-        Call::Change(Change::New),
-        Call::Change(Change::Insert {
-            at: 0,
-            range: 0..10,
-            value: 'a',
-        }),
-        Call::Change(Change::Clone { at: 0 }),
-        Call::Change(Change::Remove { at: 0, range: 4..5 }),
-    ];
-    Ok(Vec::from_array(heap, calls)?)
-}
-
-/// A replay of these calls.
+/// A replay that makes a map, clones it and changes it.
 struct Replay;
 
 impl Trial for Replay {
-    fn is_accepted<R: AllocGlobal + Abort>(&self, rt: &R, heap: &Heap, left: u64) -> Answer {
+    fn is_accepted(&self, heap: &Heap, left: u64) -> Answer {
         let mut maps: Vec<Numbers<'_>, &Heap> = Vec::new(heap);
-        let calls = calls(heap)?;
+        let calls = calls_of::<Numbers<'_>>(heap, "new, insert 0..10 a, clone, remove 4..5")?;
         heap.refuse_after(left);
-        let answer = replay(heap, &mut maps, calls);
-        heap.refuse_after(MANY);
-        replays::is_accepted(rt, &answer, maps.as_slice(), left)
+        let answers = replay(heap, &mut maps, calls);
+        replays::is_accepted(&answers, maps.as_slice(), 2, left)
     }
 }
 
 #[test]
 fn what_makes_a_map_may_be_refused(rt: HostRuntime) -> Result<(), Fail> {
+    let heap = Refusing::new(rt.alloc(), MANY);
     // two lists, and two clones of a text
-    assert_same(&rt, count_refusals(&rt, &From)?, 4);
+    check_trial(&heap, &From, 4)?;
     // of a replay, which changes nothing without room, three lists, and the growth of either map
-    assert_same(&rt, count_refusals(&rt, &Replay)?, 5);
-    Ok(())
+    check_trial(&heap, &Replay, 5)
 }

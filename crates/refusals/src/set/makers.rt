@@ -1,121 +1,58 @@
 //! Sets that are made of ranges and of other sets, with each request for memory refused in its
 //! turn.
 
-use crate::same::assert_same;
 use crate::trials::maps::is_made;
-use crate::trials::{Answer, Trial, count_refusals, replays};
+use crate::trials::sets::{check_growths, check_makers};
+use crate::trials::{Answer, Trial, check_trial, replays};
 use rangemap::RangeSet;
-use rangemap::set::{Call, replay};
-use rows::{Costly, HalfOpenCostlySet, Heap, InRows, MANY, check_row, filled};
-use std::alloc::AllocError;
-use std::process::Abort;
+use rangemap::set::replay;
+use refusing::Refusing;
+use rows::{HalfOpenCostlySet, Heap, InRows, MANY, set_calls_of};
 use std::test::Fail;
+
+/// A set of numbers.
+type Numbers<'a> = RangeSet<u32, &'a Heap>;
+
+/// A hundred ranges.
+const HUNDRED: &str =
+    "0..5 + 10..15 + 20..25 + 30..35 + 40..45 + 50..55 + 60..65 + 70..75 + 80..85 + 90..95 + \
+    100..105 + 110..115 + 120..125 + 130..135 + 140..145 + 150..155 + 160..165 + 170..175 + \
+    180..185 + 190..195 + 200..205 + 210..215 + 220..225 + 230..235 + 240..245 + 250..255 + \
+    260..265 + 270..275 + 280..285 + 290..295 + 300..305 + 310..315 + 320..325 + 330..335 + \
+    340..345 + 350..355 + 360..365 + 370..375 + 380..385 + 390..395 + 400..405 + 410..415 + \
+    420..425 + 430..435 + 440..445 + 450..455 + 460..465 + 470..475 + 480..485 + 490..495 + \
+    500..505 + 510..515 + 520..525 + 530..535 + 540..545 + 550..555 + 560..565 + 570..575 + \
+    580..585 + 590..595 + 600..605 + 610..615 + 620..625 + 630..635 + 640..645 + 650..655 + \
+    660..665 + 670..675 + 680..685 + 690..695 + 700..705 + 710..715 + 720..725 + 730..735 + \
+    740..745 + 750..755 + 760..765 + 770..775 + 780..785 + 790..795 + 800..805 + 810..815 + \
+    820..825 + 830..835 + 840..845 + 850..855 + 860..865 + 870..875 + 880..885 + 890..895 + \
+    900..905 + 910..915 + 920..925 + 930..935 + 940..945 + 950..955 + 960..965 + 970..975 + \
+    980..985 + 990..995";
+
+#[test]
+fn a_refused_extend_keeps_what_came_before(rt: HostRuntime) -> Result<(), Fail> {
+    let heap = Refusing::new(rt.alloc(), MANY);
+    // Each of five growths doubles the room, so one is refused after some ranges were kept.
+    check_growths::<Numbers<'_>>(&heap, HUNDRED, 5)?;
+    // The first range takes a list, and each other is joined with what is stored, which clones both
+    // ends.
+    check_makers::<HalfOpenCostlySet<'_>>(
+        &heap,
+        "0..5 + 5..10 + 10..15",
+        &["", "0..5", "0..5", "0..10", "0..10"],
+        "0..15",
+    )
+}
 
 /// A set made of two ranges.
 struct From;
 
 impl Trial for From {
-    fn is_accepted<R: AllocGlobal + Abort>(&self, rt: &R, heap: &Heap, left: u64) -> Answer {
-        let first = HalfOpenCostlySet::range(heap, &(0, 5))?;
-        let second = HalfOpenCostlySet::range(heap, &(7, 10))?;
+    fn is_accepted(&self, heap: &Heap, left: u64) -> Answer {
+        let first = HalfOpenCostlySet::range(heap, "0..5")?;
+        let second = HalfOpenCostlySet::range(heap, "7..10")?;
         heap.refuse_after(left);
-        let answer = RangeSet::from(heap, [first, second]);
-        heap.refuse_after(MANY);
-        is_made(rt, answer, &[((0, 5), ()), ((7, 10), ())])
-    }
-}
-
-/// An extend and a set by three ranges that touch: the first takes a list, and each other is joined
-/// with what is stored, which clones both ends.
-struct Joined;
-
-impl Trial for Joined {
-    fn is_accepted<R: AllocGlobal + Abort>(&self, rt: &R, heap: &Heap, left: u64) -> Answer {
-        let mut set: HalfOpenCostlySet<'_> = RangeSet::new(heap);
-        heap.refuse_after(left);
-        let answer = set.extend((0..3u8).map(|i| {
-            Costly { byte: 5 * i, heap }..Costly {
-                byte: 5 * i + 5,
-                heap,
-            }
-        }));
-        heap.refuse_after(left);
-        let made = RangeSet::from_iter(
-            heap,
-            (0..3u8).map(|i| {
-                Costly { byte: 5 * i, heap }..Costly {
-                    byte: 5 * i + 5,
-                    heap,
-                }
-            }),
-        );
-        heap.refuse_after(MANY);
-        let kept: &[((u8, u8), ())] = match left {
-            0 => &[],
-            1 | 2 => &[((0, 5), ())],
-            3 | 4 => &[((0, 10), ())],
-            _ => &[((0, 15), ())],
-        };
-        check_row(&set, kept)?;
-        assert_same(rt, is_made(rt, made, kept)?, answer.is_ok());
-        Ok(answer.is_ok())
-    }
-}
-
-/// A set of numbers.
-type Numbers<'a> = RangeSet<u32, &'a Heap>;
-
-/// Inserts a hundred ranges into a set, until one is refused.
-fn insert_each(heap: &Heap) -> Result<Numbers<'_>, Fail> {
-    let mut set: Numbers<'_> = RangeSet::new(heap);
-    for i in 0..100u32 {
-        if set.insert(filled(10 * i, 10 * i + 5)?).is_err() {
-            break;
-        }
-    }
-    Ok(set)
-}
-
-/// An extend by these ranges, beside their inserts.
-struct Extending;
-
-impl Trial for Extending {
-    fn is_accepted<R: AllocGlobal + Abort>(&self, rt: &R, heap: &Heap, left: u64) -> Answer {
-        heap.refuse_after(left);
-        let inserted = insert_each(heap)?;
-        let mut extended: Numbers<'_> = RangeSet::new(heap);
-        heap.refuse_after(left);
-        let answer = extended.extend((0..100u32).map(|i| 10 * i..10 * i + 5));
-        heap.refuse_after(MANY);
-        check_numbers(rt, &extended, inserted.len());
-        Ok(answer.is_ok())
-    }
-}
-
-/// Compares a set of numbers with so many of these ranges.
-fn check_numbers<R: Abort>(rt: &R, set: &Numbers<'_>, count: usize) {
-    assert_same(rt, set.len(), count);
-    let mut start = 0u32;
-    for stored in set.iter() {
-        assert_same(rt, stored, &(start..start.saturating_add(5)));
-        start = start.saturating_add(10);
-    }
-}
-
-/// A set made of an iterator.
-struct FromIter;
-
-impl Trial for FromIter {
-    fn is_accepted<R: AllocGlobal + Abort>(&self, rt: &R, heap: &Heap, left: u64) -> Answer {
-        heap.refuse_after(left);
-        let answer = RangeSet::from_iter(heap, (0..3u32).map(|i| 10 * i..10 * i + 5));
-        match answer {
-            Ok(set) => {
-                check_numbers(rt, &set, 3);
-                Ok(true)
-            }
-            Err(AllocError) => Ok(false),
-        }
+        is_made(RangeSet::from(heap, [first, second]), "0..5, 7..10")
     }
 }
 
@@ -123,43 +60,25 @@ impl Trial for FromIter {
 struct Replay;
 
 impl Trial for Replay {
-    fn is_accepted<R: AllocGlobal + Abort>(&self, rt: &R, heap: &Heap, left: u64) -> Answer {
+    fn is_accepted(&self, heap: &Heap, left: u64) -> Answer {
         let mut sets: Vec<Numbers<'_>, &Heap> = Vec::new(heap);
-        let calls = [
-            Call::New,
-            Call::Insert {
-                at: 0,
-                range: 0u32..10,
-            },
-            Call::Clone { at: 0 },
-            Call::Union { left: 0, right: 1 },
-            Call::Intersection { left: 0, right: 1 },
-        ];
-        let calls = Vec::from_array(heap, calls)?;
+        let calls = set_calls_of::<Numbers<'_>>(
+            heap,
+            "new, insert 0..10, clone, union 0 1, intersection 0 1",
+        )?;
         heap.refuse_after(left);
-        let answer = replay(heap, &mut sets, calls);
-        heap.refuse_after(MANY);
-        let is_accepted = replays::is_accepted(rt, &answer, sets.as_slice(), left)?;
-        assert!(rt; !is_accepted || sets.len() == 4);
-        Ok(is_accepted)
+        let answers = replay(heap, &mut sets, calls);
+        replays::is_accepted(&answers, sets.as_slice(), 4, left)
     }
 }
 
 #[test]
-fn a_refused_extend_keeps_what_came_before(rt: HostRuntime) -> Result<(), Fail> {
-    // Each of five growths doubles the room, so one is refused after some ranges were kept.
-    assert_same(&rt, count_refusals(&rt, &Extending)?, 5);
-    // a list, and both ends of two joined ranges
-    assert_same(&rt, count_refusals(&rt, &Joined)?, 5);
-    Ok(())
-}
-
-#[test]
 fn what_makes_a_set_may_be_refused(rt: HostRuntime) -> Result<(), Fail> {
+    let heap = Refusing::new(rt.alloc(), MANY);
     // two lists
-    assert_same(&rt, count_refusals(&rt, &From)?, 2);
-    assert_same(&rt, count_refusals(&rt, &FromIter)?, 1);
+    check_trial(&heap, &From, 2)?;
+    let list = "0..5, 10..15, 20..25";
+    check_makers::<Numbers<'_>>(&heap, "0..5 + 10..15 + 20..25", &[""], list)?;
     // of a replay, which changes nothing without room, three lists, and that of each set
-    assert_same(&rt, count_refusals(&rt, &Replay)?, 7);
-    Ok(())
+    check_trial(&heap, &Replay, 7)
 }

@@ -5,14 +5,14 @@ ghost use Rattle.std.specs.Ordering.{nat_cmp};
 ghost use Rattle.rangemap.specs.Ranges.{half_open};
 ghost use Rattle.rangemap.specs.Runs.{IsAllowed};
 
-use crate::same::assert_same;
-use crate::trials::{Answer, Trial, count_refusals};
+use crate::same::check_that;
+use crate::trials::{Answer, Trial, check_trial};
 use rangemap::RangeMap;
 use rangemap::tree_map::{Answer as Answered, Command, Outcome, run};
+use refusing::Refusing;
 use rows::{Heap, MANY};
 use std::alloc::AllocError;
 use std::ops::Range;
-use std::process::Abort;
 use std::test::Fail;
 
 /// Commands over numbers.
@@ -35,42 +35,40 @@ fn commands(heap: &Heap) -> Result<Commands<'_>, AllocError>
 struct Run;
 
 impl Trial for Run {
-    fn is_accepted<R: AllocGlobal + Abort>(&self, rt: &R, heap: &Heap, left: u64) -> Answer {
+    fn is_accepted(&self, heap: &Heap, left: u64) -> Answer {
         let mut map: RangeMap<u32, char, &Heap> = RangeMap::new(heap);
         let commands = commands(heap)?;
         heap.refuse_after(left);
-        let answers = run(heap, &mut map, commands);
-        heap.refuse_after(MANY);
-        match answers {
-            Ok(answers) => {
-                check_answers(rt, answers.as_slice(), left);
-                Ok(left == REQUESTS)
-            }
+        match run(heap, &mut map, commands) {
+            Ok(answers) => are_accepted(answers.as_slice(), left),
             Err(AllocError) => {
-                assert_same(rt, (left, map.len()), (0, 0));
+                check_that(
+                    (left, map.len()) == (0, 0),
+                    "a run without room makes a call",
+                )?;
                 Ok(false)
             }
         }
     }
 }
 
-// The room for the answers, the growth of the map, and the list of its clones.
-const REQUESTS: u64 = 3;
-
-/// Shows that one command is refused, if any, and that those behind it are run.
-fn check_answers<R: Abort>(rt: &R, answers: &[Outcome<Range<u32>, char, &Heap>], left: u64) {
+/// Whether all commands were accepted. One is refused, if any, and those behind it are run.
+fn are_accepted(answers: &[Outcome<Range<u32>, char, &Heap>], left: u64) -> Answer {
     let [first, second, third, last] = answers else {
-        assert!(rt; false, "four commands have other answers");
-        return;
+        return Err(Fail::new("four commands have other answers"));
     };
-    assert_same(rt, (first.is_ok(), second.is_ok()), (left != 1, true));
     let expected = if left == 1 { 1 } else { 2 };
-    assert!(rt; matches!(third, Ok(Answered::Len(len)) if *len == expected));
-    assert_same(rt, last.is_ok(), left != 2);
+    let is_counted = matches!(third, Ok(Answered::Len(len)) if *len == expected);
+    let accepted = (first.is_ok(), second.is_ok(), is_counted, last.is_ok());
+    check_that(
+        accepted == (left != 1, true, true, left != 2),
+        "a command answers otherwise",
+    )?;
+    Ok(accepted == (true, true, true, true))
 }
 
+// The room for the answers, the growth of the map, and the list of its clones.
 #[test]
 fn each_command_may_be_refused(rt: HostRuntime) -> Result<(), Fail> {
-    assert_same(&rt, count_refusals(&rt, &Run)?, REQUESTS);
-    Ok(())
+    check_trial(&Refusing::new(rt.alloc(), MANY), &Run, 3)
 }

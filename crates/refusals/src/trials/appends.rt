@@ -1,102 +1,88 @@
 //! What a list holds to which clones of a map's pairs are appended, where a request is refused.
 ghost use Rattle.rangemap.specs.Clones.{KeysCloneFaithfully, ValuesCloneFaithfully};
 
-use super::Answer;
-use super::makers::list_of;
-use super::maps::make_map;
-use crate::same::assert_same;
-use rows::{Heap, InRows, MANY};
+use super::{Answer, check_turn};
+use crate::same::check_that;
+use rows::{Heap, InRows, MANY, made_of, pairs_of};
 use std::alloc::AllocError;
-use std::process::Abort;
 use std::test::Fail;
 
-/// The pairs of a map, which a list has too, and those that the list has once they were appended.
-pub type Appended<'r, R, V> = (&'r [(R, V)], &'r [(R, V)]);
+/// The pairs of a map, the same as a list is made of them, and what this has once they were
+/// appended.
+pub type Row<'t> = (&'t str, &'t str, &'t str);
 
 /// Appends all pairs of a map, and those that a query overlaps, which has to overlap all, with each
 /// request refused in its turn, and compares how many are made. No block of a list may stay held.
-pub fn check_append_refusals<'a, R: Abort, M: InRows<Alloc = &'a Heap>>(
-    rt: &R,
+pub fn check_append_refusals<'a, M: InRows<Alloc = &'a Heap>>(
     heap: &'a Heap,
-    row: Appended<'_, M::RowRange, M::RowValue>,
-    query: &M::RowRange,
+    row: Row<'_>,
+    query: &str,
     requests: u64,
 ) -> Result<(), Fail>
     requires faithful_keys { KeysCloneFaithfully M.Key.is_clone M.Key.cmp }
     requires faithful_values { ValuesCloneFaithfully M.Value.is_clone M.Value.eq }
 {
-    let map: M = make_map(heap, row.0)?;
+    let map: M = made_of(heap, row.0)?;
     let query = M::range(heap, query)?;
     let held = heap.held();
-    for left in 0..MANY {
-        let is_found = try_append_overlapping(rt, heap, &map, &query, row, left)?;
-        let is_told = try_append_all(rt, heap, &map, row, left)?;
-        assert_same(rt, (is_found, heap.held()), (is_told, held));
-        if is_told {
-            assert_same(rt, left, requests);
-            return Ok(());
-        }
+    for left in 0..=requests {
+        let is_granted = left == requests;
+        let is_found = try_append_overlapping(heap, &map, &query, row, left)?;
+        check_turn(heap, held, is_found == is_granted)?;
+        let is_told = try_append_all(heap, &map, row, left)?;
+        check_turn(heap, held, is_told == is_granted)?;
     }
-    Err(Fail::new("an append was never accepted"))
+    Ok(())
 }
 
 /// Tries `append_all`.
-fn try_append_all<'a, R: Abort, M: InRows<Alloc = &'a Heap>>(
-    rt: &R,
+fn try_append_all<'a, M: InRows<Alloc = &'a Heap>>(
     heap: &'a Heap,
     map: &M,
-    row: Appended<'_, M::RowRange, M::RowValue>,
+    row: Row<'_>,
     left: u64,
 ) -> Answer
     requires faithful_keys { KeysCloneFaithfully M.Key.is_clone M.Key.cmp }
     requires faithful_values { ValuesCloneFaithfully M.Value.is_clone M.Value.eq }
 {
-    let mut list = list_of::<M>(heap, row.0)?;
+    let mut list = pairs_of::<M>(heap, row.1)?;
     heap.refuse_after(left);
     let answer = map.append_all(&mut list);
     heap.refuse_after(MANY);
-    Ok(is_appended::<R, M>(rt, answer, list.as_slice(), row))
+    is_appended::<M>(answer, list.as_slice(), row)
 }
 
 /// Tries `append_overlapping`.
-fn try_append_overlapping<'a, R: Abort, M: InRows<Alloc = &'a Heap>>(
-    rt: &R,
+fn try_append_overlapping<'a, M: InRows<Alloc = &'a Heap>>(
     heap: &'a Heap,
     map: &M,
     query: &M::Range,
-    row: Appended<'_, M::RowRange, M::RowValue>,
+    row: Row<'_>,
     left: u64,
 ) -> Answer
     requires faithful_keys { KeysCloneFaithfully M.Key.is_clone M.Key.cmp }
     requires faithful_values { ValuesCloneFaithfully M.Value.is_clone M.Value.eq }
 {
-    let mut list = list_of::<M>(heap, row.0)?;
+    let mut list = pairs_of::<M>(heap, row.1)?;
     heap.refuse_after(left);
     let answer = map.append_overlapping(query, &mut list);
     heap.refuse_after(MANY);
-    Ok(is_appended::<R, M>(rt, answer, list.as_slice(), row))
+    is_appended::<M>(answer, list.as_slice(), row)
 }
 
 /// Whether pairs were appended. Where they were not the list is as before.
-fn is_appended<R: Abort, M: InRows>(
-    rt: &R,
+fn is_appended<M: InRows>(
     answer: Result<(), AllocError>,
     list: &[(M::Range, M::Value)],
-    row: Appended<'_, M::RowRange, M::RowValue>,
-) -> bool {
+    row: Row<'_>,
+) -> Answer {
     let is_accepted = answer.is_ok();
-    check_list::<R, M>(rt, list, if is_accepted { row.1 } else { row.0 });
-    is_accepted
-}
-
-/// Compares a list with the pairs of a row.
-fn check_list<R: Abort, M: InRows>(
-    rt: &R,
-    list: &[(M::Range, M::Value)],
-    row: &[(M::RowRange, M::RowValue)],
-) {
-    assert_same(rt, list.len(), row.len());
-    for ((range, value), pair) in list.iter().zip(row) {
-        assert!(rt; M::is_range(range, &pair.0) && M::is_value(value, &pair.1));
+    let expected = if is_accepted { row.2 } else { row.0 };
+    let mut are_same = list.len() == expected.split(", ").count();
+    for ((range, value), item) in list.iter().zip(expected.split(", ")) {
+        let (text, word) = item.split_once(' ').unwrap_or((item, ""));
+        are_same &= M::is_range(range, text) && M::is_value(value, word);
     }
+    check_that(are_same, "a list differs")?;
+    Ok(is_accepted)
 }

@@ -1,41 +1,32 @@
 //! What gaps of either kind of range answer where a clone is refused.
 ghost use Rattle.rangemap.specs.Clones.{KeysCloneFaithfully, ValuesCloneFaithfully};
 
+use super::check_turn;
 use super::items::try_both;
-use super::maps::make_map;
-use crate::same::assert_same;
 use readers::LeaveGaps;
-use rows::{Heap, InRows, MANY};
-use std::process::Abort;
+use rows::{Heap, InRows, made_of};
 use std::test::Fail;
 
-/// A range that begins in a gap and ends in another, and these two.
-pub type Parted<'r, R> = (&'r R, &'r R, &'r R);
+/// The pairs that a container holds, a range that begins in a gap and ends in another, these two,
+/// and the number of requests that the first of them makes.
+pub type Row<'t> = (&'t str, &'t str, &'t str, u64);
 
-/// Asks a container of the pairs for the first of two gaps, with each request refused in its turn,
-/// and compares how many are made. No block of a gap may stay held.
-pub fn check_gap_refusals<'a, R: Abort, M: InRows<Alloc = &'a Heap> + LeaveGaps>(
-    rt: &R,
+/// Asks a container for the first of two gaps, with each request refused in its turn, and compares
+/// how many are made. No block of a gap may stay held.
+pub fn check_gap_refusals<'a, M: InRows<Alloc = &'a Heap> + LeaveGaps>(
     heap: &'a Heap,
-    pairs: &[(M::RowRange, M::RowValue)],
-    row: Parted<'_, M::RowRange>,
-    requests: u64,
+    row: Row<'_>,
 ) -> Result<(), Fail>
     requires faithful_keys { KeysCloneFaithfully M.Key.is_clone M.Key.cmp }
     requires faithful_values { ValuesCloneFaithfully M.Value.is_clone M.Value.eq }
 {
-    let map: M = make_map(heap, pairs)?;
-    let (outer_range, before, behind) = row;
-    let outer_range = M::range(heap, outer_range)?;
+    let map: M = made_of(heap, row.0)?;
+    let outer_range = M::range(heap, row.1)?;
     let held = heap.held();
-    for left in 0..MANY {
+    for left in 0..=row.3 {
         let gaps = (map.gaps(&outer_range), map.gaps(&outer_range));
-        let is_accepted = try_both::<R, M, _>(rt, heap, gaps, (before, behind), left)?;
-        assert_same(rt, heap.held(), held);
-        if is_accepted {
-            assert_same(rt, left, requests);
-            return Ok(());
-        }
+        let is_accepted = try_both::<M, _>(heap, gaps, row.2, left)?;
+        check_turn(heap, held, is_accepted == (left == row.3))?;
     }
-    Err(Fail::new("a gap was never made"))
+    Ok(())
 }

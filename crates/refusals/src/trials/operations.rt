@@ -1,135 +1,88 @@
 //! What unions and intersections of either kind of range answer where a clone is refused.
 ghost use Rattle.rangemap.specs.Clones.{KeysCloneFaithfully};
 
-use super::Answer;
 use super::items::try_both;
-use super::maps::{is_made, make_map};
-use crate::same::assert_same;
-use rangemap::container::Combine;
-use rangemap::laws::iterators::StaysEndedByTries;
-use rows::{Heap, InRows, MANY};
-use std::alloc::AllocError;
-use std::process::Abort;
+use super::maps::is_made;
+use super::{Answer, check_turn};
+use crate::same::check_that;
+use rangemap::range_set::Set;
+use rangemap_maps::kinds::OwnSteps;
+use rangemap_operations::set_range::{SetKind, SetRange};
+use rows::{FromEnds, Heap, MANY, Word, made_of};
 use std::test::Fail;
 
-/// A set that has both iterators.
-pub trait Operand: InRows<Value = (), RowValue = ()> {
-    /// Tries the items of `one.union(other)`, as `try_row` does.
-    fn try_union<R: Abort>(
-        rt: &R,
-        heap: &Heap,
-        sets: (&Self, &Self),
-        row: &[(Self::RowRange, ())],
-        left: u64,
-    ) -> Answer
-        requires { KeysCloneFaithfully Self.Key.is_clone Self.Key.cmp };
-
-    /// Tries the items of `one.intersection(other)`, as `try_row` does.
-    fn try_intersection<R: Abort>(
-        rt: &R,
-        heap: &Heap,
-        sets: (&Self, &Self),
-        row: &[(Self::RowRange, ())],
-        left: u64,
-    ) -> Answer
-        requires { KeysCloneFaithfully Self.Key.is_clone Self.Key.cmp };
-}
-
 /// Two sets of two ranges, the two items of their union, and those of their intersection.
-#[derive(Drop)]
-pub struct Row<'r, R> {
-    /// The left set.
-    pub one: &'r [(R, ())],
-    /// The right set.
-    pub other: &'r [(R, ())],
-    /// What either has.
-    pub either: &'r [(R, ())],
-    /// What both have.
-    pub common: &'r [(R, ())],
-}
+pub type Row<'t> = (&'t str, &'t str, &'t str, &'t str);
 
-/// Tries both iterators and both operators on the sets of a row with each request refused in its
-/// turn, after which no block stays held. Gives how often each was refused: `union`,
-/// `intersection`, `|` and `&`.
-pub fn count_refusals<'a, R: Abort, S: Operand<Alloc = &'a Heap> + Combine>(
-    rt: &R,
+/// Tries both iterators and both operators on the sets of a row, with each request refused in its
+/// turn, and compares how many an item makes and how many a set. No block may stay held.
+pub fn check_refusals<'a, Q, T, R>(
     heap: &'a Heap,
-    row: &Row<'_, S::RowRange>,
-) -> Result<[u64; 4], Fail>
-    requires { KeysCloneFaithfully S.Key.is_clone S.Key.cmp }
+    row: Row<'_>,
+    requests: (u64, u64),
+) -> Result<(), Fail>
+where
+    Q: OwnSteps<T, R> + SetKind<T, R>,
+    T: Ord + Clone + Word<&'a Heap>,
+    R: SetRange<Key = T> + FromEnds<T>,
+    requires { KeysCloneFaithfully T.is_clone T.cmp }
 {
-    let (stored, others, either, common) = (row.one, row.other, row.either, row.common);
-    let one: S = make_map(heap, stored)?;
-    let other: S = make_map(heap, others)?;
+    let one: Set<Q, T, R, &'a Heap> = made_of(heap, row.0)?;
+    let other: Set<Q, T, R, &'a Heap> = made_of(heap, row.1)?;
     let held = heap.held();
-    let mut refusals = [0; 4];
-    for left in 0..MANY {
-        let accepted = [
-            S::try_union(rt, heap, (&one, &other), either, left)?,
-            S::try_intersection(rt, heap, (&one, &other), common, left)?,
-            try_union_set(rt, heap, &one, &other, either, left)?,
-            try_intersection_set(rt, heap, &one, &other, common, left)?,
-        ];
-        assert_same(rt, heap.held(), held);
-        if accepted == [true; 4] {
-            return Ok(refusals);
-        }
-        for (count, is_accepted) in refusals.iter_mut().zip(accepted) {
-            *count = count.wrapping_add(u64::from(!is_accepted));
-        }
+    for left in 0..=requests.1 {
+        let are_given = try_items(heap, &one, &other, row, left)?;
+        check_turn(heap, held, are_given == (left >= requests.0))?;
+        let are_made = try_sets(heap, &one, &other, row, left)?;
+        check_turn(heap, held, are_made == (left == requests.1))?;
     }
-    Err(Fail::new("a call was never accepted"))
+    Ok(())
 }
 
-/// Tries `|`, which makes a set of the row or nothing.
-fn try_union_set<R: Abort, S: Operand + Combine>(
-    rt: &R,
-    heap: &Heap,
-    one: &S,
-    other: &S,
-    row: &[(S::RowRange, ())],
-    left: u64,
-) -> Answer
-    requires { KeysCloneFaithfully S.Key.is_clone S.Key.cmp }
-{
-    heap.refuse_after(left);
-    let answer = one.union_set(other);
-    heap.refuse_after(MANY);
-    is_made(rt, answer, row)
-}
-
-/// Tries `&`, which makes a set of the row or nothing.
-fn try_intersection_set<R: Abort, S: Operand + Combine>(
-    rt: &R,
-    heap: &Heap,
-    one: &S,
-    other: &S,
-    row: &[(S::RowRange, ())],
-    left: u64,
-) -> Answer
-    requires { KeysCloneFaithfully S.Key.is_clone S.Key.cmp }
-{
-    heap.refuse_after(left);
-    let answer = one.intersection_set(other);
-    heap.refuse_after(MANY);
-    is_made(rt, answer, row)
-}
-
-/// Tries the two items of a row, as `try_both` does.
-pub fn try_row<R: Abort, S: InRows<Value = (), RowValue = ()>, I>(
-    rt: &R,
-    heap: &Heap,
-    items: (I, I),
-    row: &[(S::RowRange, ())],
+/// Tries the items of the union and of the intersection, which are refused alike.
+fn try_items<'a, Q, T, R>(
+    heap: &'a Heap,
+    one: &Set<Q, T, R, &'a Heap>,
+    other: &Set<Q, T, R, &'a Heap>,
+    row: Row<'_>,
     left: u64,
 ) -> Answer
 where
-    I: StaysEndedByTries<Range = S::Range, Item = Result<S::Range, AllocError>> + Drop,
-    requires tried { I.can_next items.0 }
-    requires taken { I.can_next items.1 }
+    Q: OwnSteps<T, R> + SetKind<T, R>,
+    T: Ord + Clone + Word<&'a Heap>,
+    R: SetRange<Key = T> + FromEnds<T>,
+    requires { KeysCloneFaithfully T.is_clone T.cmp }
 {
-    let [first, second] = row else {
-        return Err(Fail::new("a row has two items"));
-    };
-    try_both::<R, S, I>(rt, heap, items, (&first.0, &second.0), left)
+    let items = (one.union(other), one.union(other));
+    let is_either = try_both::<Set<Q, T, R, &'a Heap>, _>(heap, items, row.2, left)?;
+    let items = (one.intersection(other), one.intersection(other));
+    let is_common = try_both::<Set<Q, T, R, &'a Heap>, _>(heap, items, row.3, left)?;
+    check_that(
+        is_either == is_common,
+        "an intersection is refused otherwise",
+    )?;
+    Ok(is_either)
+}
+
+/// Tries `|` and `&`, which make a set of the row or nothing, and are refused alike.
+fn try_sets<'a, Q, T, R>(
+    heap: &'a Heap,
+    one: &Set<Q, T, R, &'a Heap>,
+    other: &Set<Q, T, R, &'a Heap>,
+    row: Row<'_>,
+    left: u64,
+) -> Answer
+where
+    Q: OwnSteps<T, R> + SetKind<T, R>,
+    T: Ord + Clone + Word<&'a Heap>,
+    R: SetRange<Key = T> + FromEnds<T>,
+    requires { KeysCloneFaithfully T.is_clone T.cmp }
+{
+    heap.refuse_after(left);
+    let is_either = is_made(one | other, row.2)?;
+    heap.refuse_after(left);
+    let is_common = is_made(one & other, row.3)?;
+    heap.refuse_after(MANY);
+    check_that(is_either == is_common, "`&` is refused otherwise")?;
+    Ok(is_either)
 }

@@ -3,8 +3,7 @@
 
 use super::Map;
 use rangemap::RangeInclusiveMap;
-use rows::{check_counted_back, check_equal, check_made, check_row, check_three};
-use std::alloc::AllocError;
+use rows::{check_counted_back, check_each, check_text, check_three};
 use std::test::Fail;
 
 #[test]
@@ -12,37 +11,23 @@ fn pairs_are_inserted_in_order(rt: HostRuntime) -> Result<(), Fail> {
     let made = RangeInclusiveMap::from(
         rt.alloc(),
         [(0..=100u32, "abc"), (100..=200, "def"), (200..=300, "ghi")],
-    );
-    check_made(
-        made,
-        &[(0..=99, "abc"), (100..=199, "def"), (200..=300, "ghi")],
-    )
-}
-
-#[test]
-fn equality_forgets_the_calls(rt: HostRuntime) -> Result<(), Fail> {
-    let one: Map = RangeInclusiveMap::from(rt.alloc(), [(0..=9, 'a'), (3..=5, 'b'), (3..=5, 'a')])?;
-    let joined = RangeInclusiveMap::from(rt.alloc(), [(0..=4, 'a'), (5..=9, 'a')]);
-    check_equal(one.clone(), joined, true)?;
-    check_equal(one.clone(), Ok(one), true)?;
-    let shorter: Result<Map, AllocError> = RangeInclusiveMap::from(rt.alloc(), [(0..=4, 'a')]);
-    check_equal(
-        shorter,
-        RangeInclusiveMap::from(rt.alloc(), [(0..=5, 'a')]),
-        false,
+    )?;
+    check_text(
+        rt.alloc(),
+        &made,
+        r#"{0..=99: "abc", 100..=199: "def", 200..=300: "ghi"}"#,
     )
 }
 
 #[test]
 fn a_chain_is_taken(rt: HostRuntime) -> Result<(), Fail> {
-    let mut map: Map = RangeInclusiveMap::new(rt.alloc());
-    map.extend((0..2u32).map(|i| (10 * i..=10 * i + 4, 'a')))?;
-    check_row(&map, &[(0..=4, 'a'), (10..=14, 'a')])?;
+    let mut extended: Map = RangeInclusiveMap::new(rt.alloc());
+    extended.extend((0..2u32).map(|i| (10 * i..=10 * i + 4, 'a')))?;
     let made = RangeInclusiveMap::from_iter(
         rt.alloc(),
         (0..3u32).map(|i| (10 * i..=10 * i + 9, 'b')),
-    );
-    check_made(made, &[(0..=29, 'b')])
+    )?;
+    check_each(&[extended, made], &["0..=4 a, 10..=14 a", "0..=29 b"])
 }
 
 #[test]

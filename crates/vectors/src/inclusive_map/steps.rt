@@ -16,10 +16,10 @@ fn steps_may_come_of_another_type(rt: HostRuntime) -> Result<(), Fail> {
     map.insert(0..=127, false)?;
     let mut other: SignedMap = RangeInclusiveMap::new_with_step_fns(rt.alloc());
     other.insert(-128..=127, false)?;
-    assert!(rt; map == other);
+    let copy = map.clone()?;
+    assert_same(&rt, (map == other, copy == map), (true, true));
     other.remove(127..=127)?;
-    assert!(rt; map != other);
-    assert!(rt; map.clone()? == map);
+    assert_same(&rt, map != other, true);
     assert_same(&rt, map.first_range_value(), Some((&(-128..=127), &false)));
     Ok(())
 }

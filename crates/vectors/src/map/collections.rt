@@ -2,41 +2,30 @@
 
 use crate::same::assert_same;
 use rangemap::RangeMap;
-use rows::{check_counted_back, check_equal, check_made, check_row};
+use rows::{check_counted_back, check_each, check_text};
 use std::test::Fail;
 
 #[test]
 fn pairs_are_inserted_in_order(rt: HostRuntime) -> Result<(), Fail> {
-    let map = RangeMap::from(rt.alloc(), [(0u32..10, 'a'), (3..6, 'b')])?;
-    check_row(&map, &[(0..3, 'a'), (3..6, 'b'), (6..10, 'a')])?;
-    let copy = map.clone()?;
-    assert!(rt; copy == map);
-    let mut map = map;
-    map.extend((1u32..3).map(|i| (10 * i..10 * i + 5, 'c')))?;
-    check_row(
-        &map,
+    let mut extended = RangeMap::from(rt.alloc(), [(0u32..10, 'a'), (3..6, 'b')])?;
+    let copy = extended.clone()?;
+    extended.extend((1u32..3).map(|i| (10 * i..10 * i + 5, 'c')))?;
+    let made = RangeMap::from_iter(rt.alloc(), (0u32..3).map(|i| (0..i + 1, 'd')))?;
+    check_each(
+        &[extended, copy, made],
         &[
-            (0..3, 'a'),
-            (3..6, 'b'),
-            (6..10, 'a'),
-            (10..15, 'c'),
-            (20..25, 'c'),
+            "0..3 a, 3..6 b, 6..10 a, 10..15 c, 20..25 c",
+            "0..3 a, 3..6 b, 6..10 a",
+            "0..3 d",
         ],
-    )?;
-    let made = RangeMap::from_iter(rt.alloc(), (0u32..3).map(|i| (0..i + 1, 'd')));
-    check_made(made, &[(0..3, 'd')])?;
-    // Equality forgets the calls.
-    let one = RangeMap::from(rt.alloc(), [(0u32..10, 'a'), (3..6, 'b'), (3..6, 'a')]);
-    check_equal(one, RangeMap::from(rt.alloc(), [(0u32..10, 'a')]), true)?;
-    let shorter = RangeMap::from(rt.alloc(), [(0u32..5, 'a')]);
-    check_equal(shorter, RangeMap::from(rt.alloc(), [(0u32..6, 'a')]), false)
+    )
 }
 
 #[test]
 fn an_array_and_a_chain_are_taken(rt: HostRuntime) -> Result<(), Fail> {
     let mut map = RangeMap::new(rt.alloc());
     map.extend([(0u32..5, 'a'), (5..9, 'b')])?;
-    check_row(&map, &[(0..5, 'a'), (5..9, 'b')])?;
+    check_text(rt.alloc(), &map, "{0..5: 'a', 5..9: 'b'}")?;
     map.extend((1..100u32).map(|i| (10 * i..10 * i + 5, 'c')))?;
     assert_same(&rt, map.len(), 101);
     Ok(())

@@ -1,37 +1,39 @@
-//! Rows about queries: which stored ranges a range overlaps, and which parts of it are free.
+//! Rows about what is asked: the range that has a key, the stored ranges that a range overlaps, and
+//! the parts of it that are free.
 
 use super::Set;
 use crate::same::assert_same;
-use rangemap::RangeInclusiveSet;
-use rows::Call::Insert;
-use rows::tables::{check_free, check_queries};
-use rows::{check_three, make_set};
-use std::alloc::Global;
+use rows::{check_rows, check_three, made_of};
 use std::process::Abort;
 use std::test::Fail;
 
 #[test]
-fn what_nothing_covers_is_free(rt: HostRuntime) -> Result<(), Fail> {
-    let ends = [Insert(0..=9u8, ()), Insert(250..=255, ())];
-    let all = [
-        Insert(0..=9, ()),
-        Insert(250..=255, ()),
-        Insert(10..=249, ()),
-    ];
-    check_free::<RangeInclusiveSet<u8, u8, Global>>(
+fn what_is_asked_is_answered(rt: HostRuntime) -> Result<(), Fail> {
+    let two = "insert 0..=100, insert 200..=300";
+    check_rows::<Set>(
         rt.alloc(),
         &[
-            (&ends, 0..=255, &[10..=249]),
-            (&ends, 10..=10, &[10..=10]),
-            (&ends, 12..=10, &[]),
-            (&all, 0..=255, &[]),
+            (two, "holds", "0..=100, 200..=300"),
+            (two, "at 0", "0..=100"),
+            (two, "at 101", ""),
+            (two, "at 200", "200..=300"),
+            (two, "at 299", "200..=300"),
+            (two, "at 301", ""),
+            ("insert 0..=100, clear", "at 5", ""),
+            ("insert 0..=100, clear", "holds", ""),
+            // A query may be reversed.
+            ("insert 3..=8", "overlapping 6..=4", "3..=8"),
+            ("insert 5..=8", "overlapping 6..=4", ""),
+            ("insert 5..=8", "overlapping 8..=9", "5..=8"),
+            ("insert 5..=8", "overlapping 9..=12", ""),
+            ("insert 3..=8", "overlapping 8..=0", ""),
         ],
     )
 }
 
 #[test]
 fn gaps_lie_between_the_ranges(rt: HostRuntime) -> Result<(), Fail> {
-    let set: Set = make_set(rt.alloc(), &[0..=100, 200..=300, 400..=500])?;
+    let set: Set = made_of(rt.alloc(), "0..=100, 200..=300, 400..=500")?;
     take_gaps(&rt, &set)
 }
 
@@ -50,24 +52,12 @@ fn take_gaps<R: Abort>(rt: &R, set: &Set) -> Result<(), Fail> {
 }
 
 #[test]
-fn a_query_may_be_reversed(rt: HostRuntime) -> Result<(), Fail> {
-    let (early, late) = ([Insert(3..=8, ())], [Insert(5..=8, ())]);
-    check_queries::<Set>(
-        rt.alloc(),
-        &[
-            (&early, 6..=4, &[(3..=8, ())]),
-            (&late, 6..=4, &[]),
-            (&late, 8..=9, &[(5..=8, ())]),
-            (&late, 9..=12, &[]),
-            (&early, 8..=0, &[]),
-        ],
-    )
-}
-
-#[test]
-fn overlapping_ranges_come_from_both_ends(rt: HostRuntime) -> Result<(), Fail> {
-    let set: Set = make_set(rt.alloc(), &[0..=1, 3..=3, 5..=5, 8..=9])?;
+fn ranges_come_from_both_ends(rt: HostRuntime) -> Result<(), Fail> {
+    let set: Set = made_of(rt.alloc(), "0..=1, 3..=3, 5..=5, 8..=9")?;
     let query = 1..=7;
-    let found = set.overlapping(&query);
-    check_three(found, (&(0..=1), &(3..=3), &(5..=5)), false)
+    check_three(
+        set.overlapping(&query),
+        (&(0..=1), &(3..=3), &(5..=5)),
+        false,
+    )
 }

@@ -1,51 +1,48 @@
-//! Rows about queries: which stored ranges a range overlaps, and which parts of it are free.
+//! Rows about what is asked: the range that has a key, the stored ranges that a range overlaps, and
+//! the parts of it that are free.
 
 use super::Set;
-use rows::Call::Insert;
-use rows::tables::{check_free, check_queries};
-use rows::{check_three, make_set};
+use rows::{check_rows, check_three, made_of};
 use std::test::Fail;
 
 #[test]
-fn what_nothing_covers_is_free(rt: HostRuntime) -> Result<(), Fail> {
-    let two = [Insert(1..3, ()), Insert(5..7, ())];
-    let three = [
-        Insert(0..100, ()),
-        Insert(200..300, ()),
-        Insert(400..500, ()),
-    ];
-    check_free::<Set>(
+fn what_is_asked_is_answered(rt: HostRuntime) -> Result<(), Fail> {
+    let two = "insert 0..100, insert 200..300";
+    let apart = "insert 1..3, insert 5..7";
+    check_rows::<Set>(
         rt.alloc(),
         &[
-            (&two, 0..8, &[0..1, 3..5, 7..8]),
-            (&two, 4..4, &[]),
-            (&two, 8..0, &[]),
-            (&three, 0..500, &[100..200, 300..400]),
-            (&[], 0..3, &[0..3]),
+            (two, "holds", "0..100, 200..300"),
+            (two, "at 0", "0..100"),
+            (two, "at 100", ""),
+            (two, "at 200", "200..300"),
+            (two, "at 299", "200..300"),
+            (two, "at 300", ""),
+            ("insert 0..100, clear", "at 5", ""),
+            ("insert 0..100, clear", "holds", ""),
+            // What nothing covers is free.
+            (apart, "gaps 0..8", "0..1, 3..5, 7..8"),
+            (apart, "gaps 4..4", ""),
+            (apart, "gaps 8..0", ""),
+            (
+                "insert 0..100, insert 200..300, insert 400..500",
+                "gaps 0..500",
+                "100..200, 300..400",
+            ),
+            ("new", "gaps 0..3", "0..3"),
+            // A query may be empty or reversed.
+            ("insert 3..8", "overlapping 5..5", "3..8"),
+            ("insert 5..8", "overlapping 5..5", ""),
+            ("insert 3..8", "overlapping 7..4", "3..8"),
+            ("insert 3..8", "overlapping 8..0", ""),
+            ("insert 3..8", "overlapping 7..9", "3..8"),
         ],
     )
 }
 
 #[test]
-fn a_query_may_be_empty_or_reversed(rt: HostRuntime) -> Result<(), Fail> {
-    let (early, late) = ([Insert(3..8, ())], [Insert(5..8, ())]);
-    let stored = [(3..8, ())];
-    check_queries::<Set>(
-        rt.alloc(),
-        &[
-            (&early, 5..5, &stored),
-            (&late, 5..5, &[]),
-            (&early, 7..4, &stored),
-            (&early, 8..0, &[]),
-            (&early, 7..9, &stored),
-        ],
-    )
-}
-
-#[test]
-fn overlapping_ranges_come_from_both_ends(rt: HostRuntime) -> Result<(), Fail> {
-    let set: Set = make_set(rt.alloc(), &[0..2, 3..4, 5..6, 8..9])?;
+fn ranges_come_from_both_ends(rt: HostRuntime) -> Result<(), Fail> {
+    let set: Set = made_of(rt.alloc(), "0..2, 3..4, 5..6, 8..9")?;
     let query = 1..8;
-    let found = set.overlapping(&query);
-    check_three(found, (&(0..2), &(3..4), &(5..6)), false)
+    check_three(set.overlapping(&query), (&(0..2), &(3..4), &(5..6)), false)
 }

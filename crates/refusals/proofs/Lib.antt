@@ -1,3 +1,0 @@
--- Lemmas of the rows.
-pub mod PairLists
-pub mod Texts

@@ -1,0 +1,90 @@
+//! The calls of a row, which change a container.
+ghost use Rattle.std.specs.Prelude.{IfOk};
+ghost use Rattle.rangemap.specs.Clones.{KeysCloneFaithfully, ValuesCloneFaithfully};
+ghost use Rattle.rangemap.specs.Histories.{HasNonEmptyRange};
+
+use crate::in_rows::InRows;
+use crate::lists::first_word;
+use rangemap_laws::calls::Change;
+use std::test::Fail;
+
+/// Makes the call that a text names, on the container at a place of a list: `insert` of a range and
+/// a value, `remove` of a range, `clear`, `clone` or `new`.
+pub fn read_change<M: InRows>(
+    alloc: M::Alloc,
+    at: usize,
+    text: &str,
+) -> Result<Change<M::Range, M::Value>, Fail>
+where
+    M::Alloc: Copy,
+    ensures { IfOk result (HasNonEmptyRange M.Kind.kind) }
+{
+    let (name, operands) = first_word(text);
+    let (range, value) = first_word(operands);
+    match name {
+        "insert" => {
+            let range = M::range(alloc, range)?;
+            let value = M::value(alloc, value)?;
+            Ok(Change::Insert { at, range, value })
+        }
+        "remove" => {
+            let range = M::range(alloc, range)?;
+            Ok(Change::Remove { at, range })
+        }
+        "clear" => Ok(Change::Clear { at }),
+        "clone" => Ok(Change::Clone { at }),
+        "new" => Ok(Change::New),
+        _ => Err(Fail::new("a row has a call of another name")),
+    }
+}
+
+/// Makes the calls of a list, in order. A clone is let go.
+pub fn make<M: InRows>(map: &mut M, alloc: M::Alloc, calls: &str) -> Result<(), Fail>
+where
+    M::Alloc: Copy,
+    requires faithful_keys { KeysCloneFaithfully M.Key.is_clone M.Key.cmp }
+    requires faithful_values { ValuesCloneFaithfully M.Value.is_clone M.Value.eq }
+{
+    for call in calls.split(", ") {
+        match read_change::<M>(alloc, 0, call)? {
+            Change::Insert { range, value, .. } => map.insert(range, value)?,
+            Change::Remove { range, .. } => map.remove(range)?,
+            Change::Clear { .. } => map.clear(),
+            Change::New => {}
+            Change::Clone { .. } => drop(map.clone()?),
+        }
+    }
+    Ok(())
+}
+
+/// Makes a container of the pairs of a list, by inserts.
+pub fn made_of<M: InRows>(alloc: M::Alloc, pairs: &str) -> Result<M, Fail>
+where
+    M::Alloc: Copy,
+    requires faithful_keys { KeysCloneFaithfully M.Key.is_clone M.Key.cmp }
+    requires faithful_values { ValuesCloneFaithfully M.Value.is_clone M.Value.eq }
+{
+    let mut map = M::empty(alloc);
+    for pair in pairs.split(", ") {
+        if !pair.is_empty() {
+            let (range, value) = first_word(pair);
+            let range = M::range(alloc, range)?;
+            map.insert(range, M::value(alloc, value)?)?;
+        }
+    }
+    Ok(map)
+}
+
+/// Makes a container of the pairs of each list.
+pub fn make_all<M: InRows>(alloc: M::Alloc, lists: &[&str]) -> Result<Vec<M, M::Alloc>, Fail>
+where
+    M::Alloc: Copy,
+    requires faithful_keys { KeysCloneFaithfully M.Key.is_clone M.Key.cmp }
+    requires faithful_values { ValuesCloneFaithfully M.Value.is_clone M.Value.eq }
+{
+    let mut made = Vec::new(alloc);
+    for list in lists {
+        made.push(made_of(alloc, *list)?)?;
+    }
+    Ok(made)
+}
