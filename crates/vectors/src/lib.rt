@@ -1,9 +1,9 @@
 //! The worked rows of maps, as tests over the crate that users name.
 //!
 //! A folder for each container, with a file for each part of it. A row gives the calls that are
-//! made on an empty container, and what it has then; the crate `rows` compares it with one function
-//! for each question, and `laws` runs the laws, for every container alike. docs/TESTS.md leads from
-//! each row to its test, and from each wrong body to its edit.
+//! made on an empty container, what it is asked then, and what it answers; the crate `rows` compares
+//! it, and `laws` runs the laws, for every container alike. docs/TESTS.md leads from each row to its
+//! test, and from each wrong body to its edit.
 #![tactic(auto)]
 
 #[cfg(test)]

@@ -1,4 +1,4 @@
-//! Rows about inserts and removals, and what is found then.
+//! Rows about inserts and removals, and about equality after them.
 
 use super::{Bytes, Set};
 use rows::check_rows;
