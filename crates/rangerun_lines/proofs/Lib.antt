@@ -1,3 +1,2 @@
 -- Lemmas of the program's proofs.
 pub mod Ascii
-pub mod BookingLemmas

@@ -1,4 +1,3 @@
 -- Definitions of the program.
-pub mod Bookings
 pub mod Commands
 pub mod Words

@@ -2,12 +2,12 @@
 
 use crate::answer::answer;
 use crate::booking::Booking;
-use crate::calendar::{BookError, Calendar};
 use crate::command::Command;
 use crate::container::Container;
 use crate::fault::Cause;
 use crate::listing::write_items;
 use crate::value::Stored;
+use calendar::{BookError, Calendar};
 use std::alloc::{Allocator, Global};
 
 /// What lines are carried out on, in memory of an allocator `A`.

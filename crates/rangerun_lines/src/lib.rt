@@ -2,12 +2,11 @@
 //! calendar of ranges.
 //!
 //! `run` goes over any reader and writer, so that tests see all of it; `serve` hands it what the
-//! system gives. `calendar` is a proved layer above the library.
+//! system gives.
 #![tactic(auto)]
 
 mod answer;
 mod booking;
-pub mod calendar;
 mod command;
 mod container;
 mod desk;

@@ -1,10 +1,10 @@
 //! The program from its arguments to its last answer.
 
-use crate::calendar::Calendar;
 use crate::container::{ClosedMap, ClosedSet, HalfOpenMap, HalfOpenSet};
 use crate::desk::{Desk, Over};
 use crate::fault::{Cause, Fault};
 use crate::lines::fetch;
+use calendar::Calendar;
 use std::alloc::{Allocator, Global};
 use std::io::{self, BufRead, BufReader, Read, Write};
 

@@ -5,9 +5,9 @@
 #[cfg(test)]
 mod arguments;
 #[cfg(test)]
-mod cal;
+mod bookings;
 #[cfg(test)]
-mod calendar;
+mod cal;
 #[cfg(test)]
 mod ending;
 #[cfg(test)]

@@ -3,9 +3,9 @@ use Rattle.std.proofs.lemmas.Bool.{OnFalse_from, OnTrue_from}
 use Rattle.std.specs.Prelude.{nat_eq}
 use Rattle.rangemap.specs.Ranges.{IsCanonical, overlapped}
 use Rattle.rangemap.proofs.NumberLemmas.{free_by_overlaps, held_by_overlaps}
-use Rattle.rangerun_lines.specs.Bookings.{AreFree, IsHeld, days, holder_of}
-use Rattle.rangerun_lines.proofs.BookingLemmas.{asked_days, day_kind, free_days, held_days}
-use Rattle.rangerun_lines.proofs.calendar.Calendar.is_held.Goals as goal
+use Rattle.calendar.specs.Bookings.{AreFree, IsHeld, days, holder_of}
+use Rattle.calendar.proofs.BookingLemmas.{asked_days, day_kind, free_days, held_days}
+use Rattle.calendar.proofs.Calendar.is_held.Goals as goal
 
 pub returns-clause-held : goal.returns-clause-held
 returns-clause-held g c = OnTrue_from c.overlaps.result (IsHeld (holder_of c.args.self.now) c.args.first c.args.last) (λ is_true.

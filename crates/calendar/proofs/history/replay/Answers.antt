@@ -1,8 +1,8 @@
 use Rattle.std.proofs.Common.{arith, ap, ◌∙◌, sym}
 use Rattle.std.proofs.lemmas.Grind.{common_steps}
-use Rattle.rangerun_lines.specs.Bookings.{holder_of, holders}
-use Rattle.rangerun_lines.proofs.BookingLemmas.{answer_alike, answers_last, holders_last, made_alike}
-use Rattle.rangerun_lines.proofs.calendar.history.replay.Goals as goal
+use Rattle.calendar.specs.Bookings.{holder_of, holders}
+use Rattle.calendar.proofs.BookingLemmas.{answer_alike, answers_last, holders_last, made_alike}
+use Rattle.calendar.proofs.history.replay.Goals as goal
 
 pub loop-call-preserved : goal.loop-call-preserved
 loop-call-preserved g c =

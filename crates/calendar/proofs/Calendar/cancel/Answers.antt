@@ -1,9 +1,9 @@
 use Rattle.std.proofs.Common.{sym, subst, true≢false}
 use Rattle.std.specs.Prelude.{nat_eq}
 use Rattle.rangemap.proofs.NumberLemmas.{held_where_one_meets}
-use Rattle.rangerun_lines.specs.Bookings.{IsHeld, holder_of}
-use Rattle.rangerun_lines.proofs.BookingLemmas.{asked_days, cancel_refused, day_kind, held_days}
-use Rattle.rangerun_lines.proofs.calendar.Calendar.cancel.Goals as goal
+use Rattle.calendar.specs.Bookings.{IsHeld, holder_of}
+use Rattle.calendar.proofs.BookingLemmas.{asked_days, cancel_refused, day_kind, held_days}
+use Rattle.calendar.proofs.Calendar.cancel.Goals as goal
 
 pub returns-in_err-remove-clause-answer : goal.returns-in_err-remove-clause-answer
 returns-in_err-remove-clause-answer g c =

@@ -1,7 +1,7 @@
 //! What each call of a calendar answers, and what it answers where memory is refused. What bookings
 //! leave is asked of the program, in `cal.rt`.
 
-use rangerun_lines::calendar::{BookError, Calendar, Call, replay};
+use calendar::{BookError, Calendar, Call, replay};
 use refusing::Refusing;
 use std::alloc::{AllocError, Allocator};
 use std::process::Abort;

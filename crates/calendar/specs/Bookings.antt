@@ -3,10 +3,10 @@ use Rattle.std.specs.Prelude.{◌≡◌, ◌≢◌, ℕ, ◌<◌, ◌≤◌, ◌
 use Rattle.std.specs.Ordering.{nat_cmp}
 use Rattle.std.specs.declared.ops.RangeInclusive.{RangeInclusive}
 use Rattle.rangemap.specs.Ranges.{RangeKind, closed, value_at}
-use Rattle.rangerun_lines.specs.declared.calendar.BookError.{BookError}
-use Rattle.rangerun_lines.specs.declared.calendar.BookError.TheVariants.{Empty, Taken, OutOfMemory}
-use Rattle.rangerun_lines.specs.declared.calendar.history.Call.{Call}
-use Rattle.rangerun_lines.specs.declared.calendar.history.Call.TheVariants.{Book, Cancel}
+use Rattle.calendar.specs.declared.BookError.{BookError}
+use Rattle.calendar.specs.declared.BookError.TheVariants.{Empty, Taken, OutOfMemory}
+use Rattle.calendar.specs.declared.history.Call.{Call}
+use Rattle.calendar.specs.declared.history.Call.TheVariants.{Book, Cancel}
 
 -- a day number
 abbrev pub IsDay : ℕ → Type 0

@@ -2,10 +2,12 @@
 //!
 //! It stands on the public calls of `RangeInclusiveMap` alone, with day numbers as keys and guest
 //! numbers as values. `replay` has its theorem: the calendar keeps its days.
+#![tactic(auto)]
+
 ghost use Rattle.std.specs.Prelude.{◌≡◌, ◌≤◌, [], OnErr, OnOk, map, nat_eq};
 ghost use Rattle.std.specs.Bool.{OnFalse, OnTrue};
 ghost use Rattle.rangemap.specs.Ranges.{AreGaps, IsCanonOf, IsCanonical};
-ghost use Rattle.rangerun_lines.specs.Bookings.{AreFree, IsBookAnswer, IsCancelAnswer, IsHeld, booked, cancelled, days as day_ranges, holder_of};
+ghost use Rattle.calendar.specs.Bookings.{AreFree, IsBookAnswer, IsCancelAnswer, IsHeld, booked, cancelled, days as day_ranges, holder_of};
 
 mod history;
 
@@ -30,7 +32,7 @@ pub enum BookError {
 
 impl From<AllocError> for BookError {
     ghost use Rattle.std.specs.Prelude.{◌≡◌};
-    ghost use Rattle.rangerun_lines.specs.declared.calendar.BookError.TheVariants.{OutOfMemory};
+    ghost use Rattle.calendar.specs.declared.BookError.TheVariants.{OutOfMemory};
 
     ghost from_gives = { λ _ error. error ≡ OutOfMemory };
 

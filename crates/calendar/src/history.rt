@@ -1,8 +1,8 @@
 //! Any list of calls on a calendar, and what they leave.
 ghost use Rattle.std.specs.Prelude.{◌≡◌, ℕ, IfOk, OnErr};
-ghost use Rattle.rangerun_lines.specs.Bookings.{AreAnswers, IsDay, IsMadeAnswer, holder_of, holders, made};
+ghost use Rattle.calendar.specs.Bookings.{AreAnswers, IsDay, IsMadeAnswer, holder_of, holders, made};
 
-use super::{BookError, Calendar};
+use crate::{BookError, Calendar};
 use std::alloc::{AllocError, Allocator};
 
 /// A call that changes a calendar.

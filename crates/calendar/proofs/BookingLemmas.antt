@@ -2,10 +2,10 @@
 use Rattle.std.proofs.Common.{arith, ◌+◌, ◌<◌, ◌≡◌, ℕ, false, ◌≤◌, List, [], ◌∷◌, ◌++◌, cond, Option, Some, None, refl, sym, ap, subst, ◌∙◌, true≢false}
 use Rattle.std.specs.Prelude.{◌^◌, Ok, Err, IsErr, IsErrAnd}
 use Rattle.std.specs.declared.ops.RangeInclusive.{RangeInclusive}
-use Rattle.rangerun_lines.specs.declared.calendar.BookError.TheVariants.{Empty, Taken, OutOfMemory}
-use Rattle.rangerun_lines.specs.declared.calendar.history.Call.{Call}
-use Rattle.rangerun_lines.specs.declared.calendar.history.Call.TheVariants.{Book, Cancel}
-use Rattle.rangerun_lines.specs.Bookings.{Answer, AreAnswers, AreFree, IsBookAnswer, IsCancelAnswer, IsDay, IsHeld, IsMadeAnswer, holder_of, holders, is_within, made}
+use Rattle.calendar.specs.declared.BookError.TheVariants.{Empty, Taken, OutOfMemory}
+use Rattle.calendar.specs.declared.history.Call.{Call}
+use Rattle.calendar.specs.declared.history.Call.TheVariants.{Book, Cancel}
+use Rattle.calendar.specs.Bookings.{Answer, AreAnswers, AreFree, IsBookAnswer, IsCancelAnswer, IsDay, IsHeld, IsMadeAnswer, holder_of, holders, is_within, made}
 use Rattle.std.specs.Range.{range_inclusive_end, range_inclusive_exhausted, range_inclusive_start}
 use Rattle.rangemap.specs.Ranges.{IsStorable}
 use Rattle.rangemap.proofs.NumberKinds.{NumberKind, closed_storable, closed_unsigned, unsigned}

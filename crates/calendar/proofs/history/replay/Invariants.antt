@@ -1,6 +1,6 @@
 use Rattle.std.proofs.Common.{◌≡◌, ◌≤◌, ℕ, length, vec_len, vec_capacity}
-use Rattle.rangerun_lines.specs.Bookings.{AreAnswers, IsDay, holder_of, holders}
-use Rattle.rangerun_lines.proofs.calendar.history.replay.Given as goal
+use Rattle.calendar.specs.Bookings.{AreAnswers, IsDay, holder_of, holders}
+use Rattle.calendar.proofs.history.replay.Given as goal
 
 abbrev pub invariant-loop-call : goal.invariant-loop-call
 invariant-loop-call g l = record {

@@ -1,0 +1,2 @@
+-- Lemmas of the calendar's proofs.
+pub mod BookingLemmas

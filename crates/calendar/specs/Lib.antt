@@ -1,0 +1,2 @@
+-- Definitions of the calendar.
+pub mod Bookings
