@@ -7,51 +7,42 @@
 //! prints, with status 1.
 #![tactic(auto)]
 
+mod call;
 mod chance;
-mod compared;
 mod difference;
+mod model;
 mod pairs;
 mod points;
 mod session;
 mod soaked;
 
 use refusing::Refusing;
-use session::soak;
-use soaked::{Heap, InclusiveMap, InclusiveSet, Map, Profile, Set, Soaked, TreeMap};
+use session::{Report, soak};
+use soaked::{Heap, InclusiveMap, InclusiveSet, Map, Profile, Set, TreeMap};
 use std::process::ExitCode;
 use std::{env, io};
 
 /// The seed and the number of calls that the program was given, if it was given just these.
 fn arguments(rt: &HostRuntime) -> io::Result<Option<(u64, u64)>> {
     let words: Vec<String> = env::args(rt)?.skip(1).collect(rt.alloc())?;
-    let [seed, calls] = words.as_slice() else {
-        return Ok(None);
-    };
-    match (seed.parse(), calls.parse()) {
-        (Ok(seed), Ok(calls)) => Ok(Some((seed, calls))),
+    match words.as_slice() {
+        [seed, calls] => Ok(seed.parse().ok().zip(calls.parse().ok())),
         _ => Ok(None),
     }
 }
 
-/// Makes the calls on a container, and prints how they went. Answers whether nothing differed.
-fn soak_one<'a, S: Soaked<'a>>(
-    rt: &HostRuntime,
-    heap: &'a Heap,
-    profile: Profile<'a>,
-    seed: u64,
-    calls: u64,
-) -> io::Result<bool> {
-    let report = soak::<S>(heap, rt.alloc(), profile, seed, calls)?;
-    let name = profile.name;
-    match report.difference {
+/// Prints how the calls on a container went, all blocks of which are to be given back by now.
+/// Answers whether nothing differed.
+fn tell(rt: &HostRuntime, heap: &Heap, name: &str, report: Report) -> io::Result<bool> {
+    let (calls, refused) = (report.calls, report.refused);
+    match report.difference(heap)? {
         None => {
-            let refused = report.refused;
             println!(rt; "{name}: {calls} calls, {refused} refused, 0 differ")?;
             Ok(true)
         }
         Some(difference) => {
             let text = difference.text();
-            println!(rt; "{name}: at call {}, {text} differs", report.calls)?;
+            println!(rt; "{name}: at call {calls}, {text} differs")?;
             Ok(false)
         }
     }
@@ -60,46 +51,48 @@ fn soak_one<'a, S: Soaked<'a>>(
 /// Makes the calls on every map, until one differs. Answers whether none did.
 fn soak_maps(rt: &HostRuntime, heap: &Heap, seed: u64, calls: u64) -> io::Result<bool> {
     let map = Profile {
-        name: "map",
         has_marks: true,
         blocks_of_each: 1,
         is_tree: false,
     };
     let inclusive_map = Profile {
-        name: "inclusive_map",
         blocks_of_each: 0,
         ..map
     };
     let tree_map = Profile {
-        name: "tree_map",
         blocks_of_each: 4,
         is_tree: true,
         ..map
     };
-    Ok(
-        soak_one::<Map<'_>>(rt, heap, map, seed, calls)?
-            && soak_one::<InclusiveMap<'_>>(rt, heap, inclusive_map, seed, calls)?
-            && soak_one::<TreeMap<'_>>(rt, heap, tree_map, seed, calls)?,
-    )
+    let report = soak::<Map<'_>>(heap, rt.alloc(), map, seed, calls);
+    if !tell(rt, heap, "map", report)? {
+        return Ok(false);
+    }
+    let report = soak::<InclusiveMap<'_>>(heap, rt.alloc(), inclusive_map, seed, calls);
+    if !tell(rt, heap, "inclusive_map", report)? {
+        return Ok(false);
+    }
+    let report = soak::<TreeMap<'_>>(heap, rt.alloc(), tree_map, seed, calls);
+    tell(rt, heap, "tree_map", report)
 }
 
 /// Makes the calls on every set, until one differs. Answers whether none did.
 fn soak_sets(rt: &HostRuntime, heap: &Heap, seed: u64, calls: u64) -> io::Result<bool> {
     let set = Profile {
-        name: "set",
         has_marks: false,
         blocks_of_each: 2,
         is_tree: false,
     };
     let inclusive_set = Profile {
-        name: "inclusive_set",
         blocks_of_each: 0,
         ..set
     };
-    Ok(
-        soak_one::<Set<'_>>(rt, heap, set, seed, calls)?
-            && soak_one::<InclusiveSet<'_>>(rt, heap, inclusive_set, seed, calls)?,
-    )
+    let report = soak::<Set<'_>>(heap, rt.alloc(), set, seed, calls);
+    if !tell(rt, heap, "set", report)? {
+        return Ok(false);
+    }
+    let report = soak::<InclusiveSet<'_>>(heap, rt.alloc(), inclusive_set, seed, calls);
+    tell(rt, heap, "inclusive_set", report)
 }
 
 fn serve(rt: &HostRuntime) -> io::Result<ExitCode> {

@@ -3,14 +3,14 @@ ghost use Rattle.std.specs.Prelude.{◌≤◌};
 
 use std::alloc::{AllocError, Global};
 
-/// Neighbouring points, from a first up to a last, and the mark that they have or are to have.
+/// Neighbouring points that are to have a mark, from a first up to a last.
 #[derive(Clone, Copy)]
 pub struct Run {
     /// The first point.
     pub first: u8,
     /// The last one, which is one of the points too.
     pub last: u8,
-    /// The mark, which is 0 where nothing stands.
+    /// The mark, which is 0 where nothing is to stand.
     pub mark: u8,
     ghost ordered: { first ≤ last },
 }
@@ -34,6 +34,17 @@ impl Run {
     }
 }
 
+/// Neighbouring points that have a mark, as the model tells them or a container's range does.
+#[derive(Clone, Copy, PartialEq)]
+pub struct Piece {
+    /// The first point.
+    pub start: u16,
+    /// The point behind the last one.
+    pub end: u16,
+    /// The mark.
+    pub mark: u8,
+}
+
 /// The mark of each point, which is 0 where nothing stands.
 #[derive(Drop)]
 pub struct Points {
@@ -45,6 +56,13 @@ impl Points {
     /// Returns points with no marks.
     pub fn new() -> Points {
         Points { marks: [0; 256] }
+    }
+
+    /// Returns points with the marks of runs, one run after another.
+    pub fn of(runs: &[Run]) -> Points {
+        let mut points = Points::new();
+        points.put_all(runs);
+        points
     }
 
     /// Gives the points of a run its mark.
@@ -61,22 +79,27 @@ impl Points {
         }
     }
 
-    /// Returns the runs, in order, no two of which could be one.
-    pub fn runs(&self, alloc: Global) -> Result<Vec<Run>, AllocError> {
-        let mut runs = Vec::new(alloc);
+    /// Returns the pieces, in order, no two of which could be one.
+    pub fn pieces(&self, alloc: Global) -> Result<Vec<Piece>, AllocError> {
+        let mut pieces = Vec::new(alloc);
         for point in 0..=255 {
-            add_point(&mut runs, point, self.marks[usize::from(point)])?;
+            add_point(&mut pieces, point, self.marks[usize::from(point)])?;
         }
-        Ok(runs)
+        Ok(pieces)
     }
 
-    /// Returns the runs, in order, that start before the last point ends and end behind the start
+    /// Returns the pieces, in order, that start before the last point ends and end behind the start
     /// of the first, as one says of ranges that they overlap. The first may lie behind the last.
-    pub fn overlapping(&self, first: u8, last: u8, alloc: Global) -> Result<Vec<Run>, AllocError> {
+    pub fn overlapping(
+        &self,
+        first: u8,
+        last: u8,
+        alloc: Global,
+    ) -> Result<Vec<Piece>, AllocError> {
         let mut overlapping = Vec::new(alloc);
-        for run in self.runs(alloc)? {
-            if run.first <= last && first <= run.last {
-                overlapping.push(run)?;
+        for piece in self.pieces(alloc)? {
+            if piece.start <= u16::from(last) && u16::from(first) < piece.end {
+                overlapping.push(piece)?;
             }
         }
         Ok(overlapping)
@@ -102,20 +125,21 @@ impl Points {
     }
 }
 
-/// Adds the point behind those of the runs: to the last run where it has the same mark, or as a run
-/// of its own.
-fn add_point(runs: &mut Vec<Run>, point: u8, mark: u8) -> Result<(), AllocError> {
+/// Adds the point behind those of the pieces: to the last piece where it has the same mark, or as a
+/// piece of its own.
+fn add_point(pieces: &mut Vec<Piece>, point: u8, mark: u8) -> Result<(), AllocError> {
     if mark == 0 {
         return Ok(());
     }
-    let mut first = point;
-    if let Some(last) = runs.pop() {
-        if last.mark == mark && last.last.checked_add(1) == Some(point) {
-            first = last.first;
+    let mut start = u16::from(point);
+    if let Some(last) = pieces.pop() {
+        if last.mark == mark && last.end == start {
+            start = last.start;
         } else {
-            runs.push(last)?;
+            pieces.push(last)?;
         }
     }
-    runs.push(Run::between(first, point, mark))?;
+    let end = u16::from(point) + 1;
+    pieces.push(Piece { start, end, mark })?;
     Ok(())
 }

@@ -1,16 +1,19 @@
 //! A run: calls on a container and on its model, compared after each.
+//!
+//! What is generic over containers does as little as can be: it makes a call, and reads what it
+//! answers as pieces. The model draws the calls and compares, since a function is far cheaper to
+//! prove that knows no container.
 
-mod changes;
-mod copies;
-mod gaps;
-mod questions;
+mod answers;
+mod calls;
 
+use crate::call::Call;
 use crate::chance::Chance;
-use crate::compared::is_list;
 use crate::difference::{Difference, Stop, check};
-use crate::points::{Points, Run};
+use crate::model::Model;
 use crate::soaked::{Heap, Profile, Soaked};
-pub use gaps::ask_for_gaps;
+use answers::{ends, gaps, get, list, overlapping};
+use calls::{change, collect, combine, copy};
 use std::alloc::{AllocError, Global};
 
 /// How a run ended.
@@ -20,8 +23,27 @@ pub struct Report {
     pub calls: u64,
     /// How many of them were refused.
     pub refused: u64,
-    /// What then differed, if something did.
-    pub difference: Option<Difference>,
+    /// Why the calls stopped, if they did before the last one.
+    pub stop: Option<Stop>,
+}
+
+impl Report {
+    /// Counts a call that was refused.
+    fn count(&mut self, is_refused: bool) {
+        if is_refused {
+            self.refused = self.refused.saturating_add(1);
+        }
+    }
+
+    /// Returns what differed, if something did. All blocks of the heap are to be given back by now.
+    pub fn difference(self, heap: &Heap) -> Result<Option<Difference>, AllocError> {
+        match self.stop {
+            None if heap.held() == 0 => Ok(None),
+            None => Ok(Some(Difference::Blocks)),
+            Some(Stop::Differs(difference)) => Ok(Some(difference)),
+            Some(Stop::OutOfMemory) => Err(AllocError),
+        }
+    }
 }
 
 /// Makes so many calls of a seed on a container whose memory comes from `heap`, of which nothing
@@ -29,110 +51,43 @@ pub struct Report {
 pub fn soak<'a, S: Soaked<'a>>(
     heap: &'a Heap,
     alloc: Global,
-    profile: Profile<'a>,
+    profile: Profile,
     seed: u64,
     calls: u64,
-) -> Result<Report, AllocError> {
+) -> Report {
+    let mut subject = S::new(heap);
+    let mut model = Model::new(alloc, Chance::new(heap, seed), profile);
     let mut report = Report {
         calls: 0,
         refused: 0,
-        difference: None,
-    };
-    let answer = run::<S>(heap, alloc, profile, seed, calls, &mut report);
-    match answer.and(check(heap.held() == 0, Difference::Blocks)) {
-        Ok(()) => Ok(report),
-        Err(Stop::Differs(difference)) => {
-            report.difference = Some(difference);
-            Ok(report)
-        }
-        Err(Stop::OutOfMemory) => Err(AllocError),
-    }
-}
-
-/// Makes the calls, and counts them.
-fn run<'a, S: Soaked<'a>>(
-    heap: &'a Heap,
-    alloc: Global,
-    profile: Profile<'a>,
-    seed: u64,
-    calls: u64,
-    report: &mut Report,
-) -> Result<(), Stop> {
-    let mut session: Session<'a, S> = Session {
-        alloc,
-        profile,
-        chance: Chance::new(heap, seed),
-        subject: S::new(heap),
-        points: Points::new(),
-        has_grown: false,
+        stop: None,
     };
     for number in 1..=calls {
         report.calls = number;
-        if session.step()? {
-            report.refused = report.refused.saturating_add(1);
+        match step(&mut subject, &mut model) {
+            Ok(is_refused) => report.count(is_refused),
+            Err(stop) => {
+                report.stop = Some(stop);
+                return report;
+            }
         }
     }
-    Ok(())
+    report
 }
 
-/// A container and its model.
-#[derive(Drop)]
-struct Session<'a, S: Soaked<'a>> {
-    // What the model's lists are made of.
-    alloc: Global,
-    profile: Profile<'a>,
-    chance: Chance<'a>,
-    subject: S,
-    points: Points,
-    // Whether the container ever stored a range.
-    has_grown: bool,
-}
-
-impl<'a, S: Soaked<'a>> Session<'a, S> {
-    /// Makes a call, and compares what it leaves. Answers whether it was refused.
-    fn step(&mut self) -> Result<bool, Stop> {
-        let is_refused = match self.chance.below(100) {
-            0..=29 => self.insert()?,
-            30..=47 => self.remove()?,
-            48 => self.clear(),
-            49..=54 => self.extend()?,
-            55..=59 => self.collect()?,
-            60..=65 => self.clone()?,
-            66..=71 => self.combine()?,
-            72..=79 => self.get()?,
-            80..=83 => self.ends()?,
-            84..=91 => self.overlapping()?,
-            _ => self.gaps()?,
-        };
-        self.compare()?;
-        Ok(is_refused)
-    }
-
-    /// The runs of the model.
-    fn runs(&self) -> Result<Vec<Run>, Stop> {
-        Ok(self.points.runs(self.alloc)?)
-    }
-
-    /// Compares the list, its length and the number of blocks that are held.
-    fn compare(&mut self) -> Result<(), Stop> {
-        let runs = self.runs()?;
-        check(is_list(self.alloc, &self.subject, &runs)?, Difference::List)?;
-        let stored = self.subject.len();
-        check(stored == runs.len(), Difference::Length)?;
-        self.has_grown |= 0 < stored;
-        let held = self.chance.heap.held();
-        let is_needed = self.profile.needs(held, stored, self.has_grown);
-        check(is_needed, Difference::Blocks)
-    }
-
-    /// Compares the number of blocks with that before a call, where it was refused. Answers whether
-    /// it was.
-    fn answer(&self, is_accepted: bool, held: u64) -> Result<bool, Stop> {
-        let is_refused = self.chance.answer(is_accepted)?;
-        check(
-            !is_refused || self.chance.heap.held() == held,
-            Difference::Blocks,
-        )?;
-        Ok(is_refused)
-    }
+/// Makes a call, and compares what it leaves. Answers whether it was refused.
+fn step<'a, S: Soaked<'a>>(subject: &mut S, model: &mut Model<'a>) -> Result<bool, Stop> {
+    let answer = match model.call() {
+        Call::Change(asked) => change(subject, model, &asked),
+        Call::Copy => copy(subject, model),
+        Call::Collect(runs) => collect(subject, model, &runs),
+        Call::Combine(runs, is_union) => combine(subject, model, &runs, is_union),
+        Call::Get(point) => get(subject, model, point),
+        Call::Ends => ends(subject, model),
+        Call::Overlapping(first, last) => overlapping(subject, model, first, last),
+        Call::Gaps(first, last) => gaps(subject, model, first, last),
+    };
+    let is_refused = answer?;
+    model.check_list(&list(model.alloc, subject)?, subject.len())?;
+    Ok(is_refused)
 }

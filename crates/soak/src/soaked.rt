@@ -5,14 +5,14 @@ ghost use Rattle.rangemap.specs.Clones.{KeysCloneFaithfully, ValuesCloneFaithful
 
 use crate::chance::Chance;
 use crate::difference::Stop;
-use crate::points::Run;
+use crate::points::Piece;
 use rangemap::container::Collect;
 use refusing::Refusing;
 use std::alloc::{AllocError, Global};
 
 mod boxed;
 mod costly;
-pub mod gaps;
+mod gaps;
 mod maps;
 mod marks;
 mod numbers;
@@ -33,8 +33,8 @@ pub trait PointRange<'a>: Drop {
     fn between(heap: &'a Heap, first: u8, last: u8) -> Result<Self, AllocError>
         ensures { first ≤ last → IfOk result IsNonEmpty };
 
-    /// Returns whether the range has the points from one up to another, and no others.
-    fn is_between(&self, first: u8, last: u8) -> bool;
+    /// Returns the points of the range, as a piece with a mark.
+    fn piece(&self, mark: u8) -> Piece;
 }
 
 /// Values that stand for marks.
@@ -57,12 +57,12 @@ pub trait Soaked<'a>: Collect<Alloc = &'a Heap, Range: PointRange<'a>, Value: Ma
     /// Makes `self | other` or `self & other`, where the container has these operators.
     fn combined(&self, other: &Self, is_union: bool) -> Option<Result<Self, AllocError>>;
 
-    /// Asks for the gaps in `outer`, and compares them with runs of the model. Answers whether one
+    /// Asks for the gaps in `outer`, and compares them with pieces of the model. Answers whether one
     /// was refused.
     fn ask_for_gaps(
         &self,
         outer: &Self::Range,
-        runs: &[Run],
+        pieces: &[Piece],
         chance: &mut Chance<'_>,
     ) -> Result<bool, Stop>;
 
@@ -78,9 +78,7 @@ pub trait Soaked<'a>: Collect<Alloc = &'a Heap, Range: PointRange<'a>, Value: Ma
 
 /// What is known of a container beside its type.
 #[derive(Clone, Copy)]
-pub struct Profile<'a> {
-    /// Its name.
-    pub name: &'a str,
+pub struct Profile {
     /// Whether its values stand for marks. Else all stand for the mark 1.
     pub has_marks: bool,
     /// How many blocks each stored range holds.
@@ -89,7 +87,7 @@ pub struct Profile<'a> {
     pub is_tree: bool,
 }
 
-impl<'a> Profile<'a> {
+impl Profile {
     /// Returns whether a container of so many stored ranges holds as many blocks as it needs.
     /// `has_grown` says whether it ever stored one.
     ///

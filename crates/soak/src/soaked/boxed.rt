@@ -2,6 +2,7 @@
 ghost use Rattle.std.specs.Prelude.{◌≡◌, IfOk};
 
 use super::{Heap, PointRange};
+use crate::points::Piece;
 use std::alloc::AllocError;
 use std::ops::Range;
 
@@ -44,7 +45,11 @@ impl<'a> PointRange<'a> for Range<Boxed<'a>> {
         Ok(start..end)
     }
 
-    fn is_between(&self, first: u8, last: u8) -> bool {
-        *self.start.number == u16::from(first) && *self.end.number == u16::from(last) + 1
+    fn piece(&self, mark: u8) -> Piece {
+        Piece {
+            start: *self.start.number,
+            end: *self.end.number,
+            mark,
+        }
     }
 }

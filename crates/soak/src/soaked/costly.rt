@@ -4,6 +4,7 @@ ghost use Rattle.std.specs.Ordering.{nat_cmp};
 ghost use Rattle.rangemap.specs.StepLaws.{held_follows, held_precedes, nat_after, nat_before, nat_follows, nat_precedes};
 
 use super::{Heap, PointRange};
+use crate::points::Piece;
 use rangemap::StepLite;
 use std::alloc::AllocError;
 use std::ops::RangeInclusive;
@@ -75,7 +76,11 @@ impl<'a> PointRange<'a> for RangeInclusive<Costly<'a>> {
         Ok(Costly { byte: first, heap }..=Costly { byte: last, heap })
     }
 
-    fn is_between(&self, first: u8, last: u8) -> bool {
-        self.start().byte == first && self.end().byte == last
+    fn piece(&self, mark: u8) -> Piece {
+        Piece {
+            start: u16::from(self.start().byte),
+            end: u16::from(self.end().byte) + 1,
+            mark,
+        }
     }
 }

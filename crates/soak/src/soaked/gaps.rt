@@ -1,45 +1,87 @@
-//! The gaps of each container, which are of types of their own.
+//! The gaps of each container, which are of types of their own and take memory for each gap.
 ghost use Rattle.rangemap.specs.Clones.{KeysCloneFaithfully};
 
-use rangemap::{StepFns, inclusive_map, map, tree_map};
+use super::PointRange;
+use crate::chance::Chance;
+use crate::difference::{Difference, Stop, check};
+use crate::points::Piece;
+use rangemap::tree_map;
+use rangemap_core::gaps::Gaps;
+use rangemap_core::kind::Kind;
 use std::alloc::AllocError;
-use std::ops::{Range, RangeInclusive};
+use std::ops::Range;
 
-/// Gaps, ranges `R` over keys `K`, that are asked for one after another.
-pub trait AskedGaps<K: Ord + Clone, R>: Drop {
+/// Gaps that are asked for one after another.
+pub trait AskedGaps<'a>: Drop {
+    /// What the caller knows of the keys.
+    ghost CanBeAsked: { Type 0 };
+
     /// Asks for the next gap: by `next`, after a refusal of which none comes, or by `try_next`, after
     /// a refusal of which the same gap comes.
-    fn ask(&mut self, by_next: bool) -> Result<Option<R>, AllocError>
-        requires { KeysCloneFaithfully K.is_clone K.cmp };
+    fn ask(&mut self, by_next: bool) -> Result<Option<Piece>, AllocError>
+        requires { CanBeAsked };
 }
 
-impl<'a, K: Ord + Clone, V> AskedGaps<K, Range<K>> for map::Gaps<'a, K, V> {
-    fn ask(&mut self, by_next: bool) -> Result<Option<Range<K>>, AllocError> {
-        if by_next {
+impl<'a, 'b, Q: Kind<K, R>, K: Ord + Clone, R: PointRange<'a>, V> AskedGaps<'a>
+    for Gaps<'b, Q, K, R, V> {
+    ghost CanBeAsked = { KeysCloneFaithfully K.is_clone K.cmp };
+
+    fn ask(&mut self, by_next: bool) -> Result<Option<Piece>, AllocError> {
+        let gap = if by_next {
             self.next().transpose()
         } else {
             self.try_next()
-        }
+        };
+        Ok(piece_of(&gap?))
     }
 }
 
-impl<'a, K: Ord + Clone, V, F: StepFns<K>> AskedGaps<K, RangeInclusive<K>>
-    for inclusive_map::Gaps<'a, K, V, F> {
-    fn ask(&mut self, by_next: bool) -> Result<Option<RangeInclusive<K>>, AllocError> {
-        if by_next {
+impl<'a, 'b, K: Ord + Clone, V> AskedGaps<'a> for tree_map::Gaps<'b, K, V>
+where
+    Range<K>: PointRange<'a>,
+{
+    ghost CanBeAsked = { KeysCloneFaithfully K.is_clone K.cmp };
+
+    fn ask(&mut self, by_next: bool) -> Result<Option<Piece>, AllocError> {
+        let gap = if by_next {
             self.next().transpose()
         } else {
             self.try_next()
-        }
+        };
+        Ok(piece_of(&gap?))
     }
 }
 
-impl<'a, K: Ord + Clone, V> AskedGaps<K, Range<K>> for tree_map::Gaps<'a, K, V> {
-    fn ask(&mut self, by_next: bool) -> Result<Option<Range<K>>, AllocError> {
-        if by_next {
-            self.next().transpose()
-        } else {
-            self.try_next()
+/// The points of a gap have the mark 1.
+fn piece_of<'a, R: PointRange<'a>>(gap: &Option<R>) -> Option<Piece> {
+    Some(gap.as_ref()?.piece(1))
+}
+
+/// Asks for gaps by `try_next` or by `next`, and compares them with pieces of the model. One that is
+/// refused is asked for again by `try_next`; by `next` none comes after it. Answers whether one was
+/// refused.
+pub fn ask_for_gaps<'a, G: AskedGaps<'a>>(
+    mut gaps: G,
+    pieces: &[Piece],
+    chance: &mut Chance<'_>,
+) -> Result<bool, Stop>
+    requires { G.CanBeAsked }
+{
+    let by_next = !chance.is_heads();
+    let mut is_refused = false;
+    for piece in pieces {
+        chance.refuse_one();
+        let mut gap = gaps.ask(by_next);
+        if chance.answer(gap.is_ok())? {
+            is_refused = true;
+            if by_next {
+                break;
+            }
+            gap = gaps.ask(false);
         }
+        check(gap? == Some(*piece), Difference::Gaps)?;
     }
+    check(matches!(gaps.ask(by_next), Ok(None)), Difference::Gaps)?;
+    check(matches!(gaps.ask(false), Ok(None)), Difference::Gaps)?;
+    Ok(is_refused)
 }

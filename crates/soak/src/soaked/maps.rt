@@ -2,11 +2,11 @@
 
 use super::boxed::Boxed;
 use super::costly::Costly;
+use super::gaps::ask_for_gaps;
 use super::{Heap, Soaked};
 use crate::chance::Chance;
 use crate::difference::Stop;
-use crate::points::Run;
-use crate::session::ask_for_gaps;
+use crate::points::Piece;
 use rangemap::{RangeInclusiveMap, RangeMap, tree_map};
 use std::alloc::AllocError;
 use std::ops::{Range, RangeInclusive};
@@ -35,10 +35,10 @@ impl<'a> Soaked<'a> for Map<'a> {
     fn ask_for_gaps(
         &self,
         outer: &Range<u16>,
-        runs: &[Run],
+        pieces: &[Piece],
         chance: &mut Chance<'_>,
     ) -> Result<bool, Stop> {
-        ask_for_gaps(self.gaps(outer), runs, chance)
+        ask_for_gaps(self.gaps(outer), pieces, chance)
     }
 }
 
@@ -66,10 +66,10 @@ impl<'a> Soaked<'a> for InclusiveMap<'a> {
     fn ask_for_gaps(
         &self,
         outer: &RangeInclusive<Costly<'a>>,
-        runs: &[Run],
+        pieces: &[Piece],
         chance: &mut Chance<'_>,
     ) -> Result<bool, Stop> {
-        ask_for_gaps(self.gaps(outer), runs, chance)
+        ask_for_gaps(self.gaps(outer), pieces, chance)
     }
 }
 
@@ -98,9 +98,9 @@ impl<'a> Soaked<'a> for TreeMap<'a> {
     fn ask_for_gaps(
         &self,
         outer: &Range<Boxed<'a>>,
-        runs: &[Run],
+        pieces: &[Piece],
         chance: &mut Chance<'_>,
     ) -> Result<bool, Stop> {
-        ask_for_gaps(self.gaps(outer), runs, chance)
+        ask_for_gaps(self.gaps(outer), pieces, chance)
     }
 }

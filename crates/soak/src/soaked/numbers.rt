@@ -1,6 +1,7 @@
 //! Ranges of plain numbers.
 
 use super::{Heap, PointRange};
+use crate::points::Piece;
 use std::alloc::AllocError;
 use std::ops::Range;
 
@@ -13,7 +14,11 @@ impl<'a> PointRange<'a> for Range<u16> {
         Ok(u16::from(first)..u16::from(last) + 1)
     }
 
-    fn is_between(&self, first: u8, last: u8) -> bool {
-        self.start == u16::from(first) && self.end == u16::from(last) + 1
+    fn piece(&self, mark: u8) -> Piece {
+        Piece {
+            start: self.start,
+            end: self.end,
+            mark,
+        }
     }
 }

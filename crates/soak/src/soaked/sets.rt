@@ -2,11 +2,11 @@
 
 use super::boxed::Boxed;
 use super::costly::Costly;
+use super::gaps::ask_for_gaps;
 use super::{Heap, Soaked};
 use crate::chance::Chance;
 use crate::difference::Stop;
-use crate::points::Run;
-use crate::session::ask_for_gaps;
+use crate::points::Piece;
 use rangemap::container::Combine;
 use rangemap::{RangeInclusiveSet, RangeSet};
 use std::alloc::AllocError;
@@ -40,10 +40,10 @@ impl<'a> Soaked<'a> for Set<'a> {
     fn ask_for_gaps(
         &self,
         outer: &Range<Boxed<'a>>,
-        runs: &[Run],
+        pieces: &[Piece],
         chance: &mut Chance<'_>,
     ) -> Result<bool, Stop> {
-        ask_for_gaps(self.gaps(outer), runs, chance)
+        ask_for_gaps(self.gaps(outer), pieces, chance)
     }
 }
 
@@ -75,9 +75,9 @@ impl<'a> Soaked<'a> for InclusiveSet<'a> {
     fn ask_for_gaps(
         &self,
         outer: &RangeInclusive<Costly<'a>>,
-        runs: &[Run],
+        pieces: &[Piece],
         chance: &mut Chance<'_>,
     ) -> Result<bool, Stop> {
-        ask_for_gaps(self.gaps(outer), runs, chance)
+        ask_for_gaps(self.gaps(outer), pieces, chance)
     }
 }

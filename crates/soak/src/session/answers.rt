@@ -1,0 +1,83 @@
+//! Calls that ask, of which `gaps` alone takes memory.
+
+use crate::difference::Stop;
+use crate::model::{Ends, Lookup, Model};
+use crate::points::Piece;
+use crate::soaked::{Mark, PointRange, Soaked};
+use rangemap_core::kind::Interval;
+use std::alloc::{AllocError, Global};
+
+/// `get`, `get_key_value` and `contains_key`, at the start of the range of one point
+pub fn get<'a, S: Soaked<'a>>(subject: &S, model: &Model<'a>, point: u8) -> Result<bool, Stop> {
+    let range = S::Range::between(model.chance.heap, point, point)?;
+    let key = S::Kind::start(&range);
+    let lookup = Lookup {
+        piece: piece_of(subject.get_key_value(key)),
+        mark: mark_of(subject.get(key)),
+        is_held: subject.contains_key(key),
+    };
+    model.check_lookup(point, lookup)
+}
+
+/// `first_range_value`, `last_range_value` and `is_empty`
+pub fn ends<'a, S: Soaked<'a>>(subject: &S, model: &Model<'a>) -> Result<bool, Stop> {
+    let ends = Ends {
+        first: piece_of(subject.first_range_value()),
+        last: piece_of(subject.last_range_value()),
+        is_empty: subject.is_empty(),
+    };
+    model.check_ends(ends)
+}
+
+/// `overlaps` and `overlapping`
+pub fn overlapping<'a, S: Soaked<'a>>(
+    subject: &S,
+    model: &Model<'a>,
+    first: u8,
+    last: u8,
+) -> Result<bool, Stop> {
+    let query = S::Range::between(model.chance.heap, first, last)?;
+    let mut pairs = Vec::new(model.alloc);
+    subject.append_overlapping(&query, &mut pairs)?;
+    let list = pieces(model.alloc, &pairs)?;
+    model.check_overlapping((first, last), &list, subject.overlaps(&query))
+}
+
+/// `gaps`, by `try_next` or by `next`
+pub fn gaps<'a, S: Soaked<'a>>(
+    subject: &S,
+    model: &mut Model<'a>,
+    first: u8,
+    last: u8,
+) -> Result<bool, Stop> {
+    let outer = S::Range::between(model.chance.heap, first, last)?;
+    let free = model.free(first, last)?;
+    subject.ask_for_gaps(&outer, &free, &mut model.chance)
+}
+
+/// Returns the stored list.
+pub fn list<'a, S: Soaked<'a>>(alloc: Global, subject: &S) -> Result<Vec<Piece>, AllocError> {
+    let mut pairs = Vec::new(alloc);
+    subject.append_all(&mut pairs)?;
+    pieces(alloc, &pairs)
+}
+
+fn pieces<'a, R: PointRange<'a>, V: Mark<'a>>(
+    alloc: Global,
+    pairs: &[(R, V)],
+) -> Result<Vec<Piece>, AllocError> {
+    let mut pieces = Vec::new(alloc);
+    for (range, value) in pairs {
+        pieces.push(range.piece(value.mark()))?;
+    }
+    Ok(pieces)
+}
+
+fn piece_of<'a, R: PointRange<'a>, V: Mark<'a>>(found: Option<(&R, &V)>) -> Option<Piece> {
+    let (range, value) = found?;
+    Some(range.piece(value.mark()))
+}
+
+fn mark_of<'a, V: Mark<'a>>(found: Option<&V>) -> Option<u8> {
+    Some(found?.mark())
+}

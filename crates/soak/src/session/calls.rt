@@ -1,0 +1,105 @@
+//! Calls that change the container, and calls that make another.
+
+use super::answers::{get, list};
+use crate::call::Change;
+use crate::difference::Stop;
+use crate::model::Model;
+use crate::pairs::{self, pair, pairs, range};
+use crate::points::{Points, Run};
+use crate::soaked::Soaked;
+use std::alloc::AllocError;
+
+/// `insert`, `remove`, `extend` or `clear`.
+pub fn change<'a, S: Soaked<'a>>(
+    subject: &mut S,
+    model: &mut Model<'a>,
+    change: &Change,
+) -> Result<bool, Stop> {
+    let heap = model.chance.heap;
+    let held = heap.held();
+    let is_accepted = match change {
+        Change::Insert(run) => {
+            let (range, value) = pair::<S>(heap, *run)?;
+            model.chance.refuse_one();
+            subject.insert(range, value).is_ok()
+        }
+        Change::Remove(run) => {
+            let range = range::<S>(heap, *run)?;
+            model.chance.refuse_one();
+            subject.remove(range).is_ok()
+        }
+        Change::Extend(runs) => {
+            let pairs = pairs::<S>(heap, model.alloc, runs)?;
+            model.chance.refuse_one();
+            pairs::extend(subject, pairs).is_ok()
+        }
+        Change::Clear => {
+            subject.clear();
+            true
+        }
+    };
+    model.change(change, is_accepted, held)
+}
+
+/// `clone`, the copy of which takes the container's place.
+pub fn copy<'a, S: Soaked<'a>>(subject: &mut S, model: &mut Model<'a>) -> Result<bool, Stop> {
+    let held = model.chance.heap.held();
+    model.chance.refuse_one();
+    let made = subject.copied();
+    let is_refused = check_made(subject, model, &made, &model.points, held)?;
+    if let Ok(copy) = made {
+        *subject = copy;
+        model.take_copy(subject.len());
+    }
+    Ok(is_refused)
+}
+
+/// `from_iter`
+pub fn collect<'a, S: Soaked<'a>>(
+    subject: &S,
+    model: &mut Model<'a>,
+    runs: &[Run; 3],
+) -> Result<bool, Stop> {
+    let held = model.chance.heap.held();
+    let pairs = pairs::<S>(model.chance.heap, model.alloc, runs)?;
+    model.chance.refuse_one();
+    let made = pairs::collect::<S>(model.chance.heap, pairs);
+    check_made(subject, model, &made, &Points::of(runs), held)
+}
+
+/// `|` or `&` with a set that is made for it; of a map, a lookup.
+pub fn combine<'a, S: Soaked<'a>>(
+    subject: &S,
+    model: &mut Model<'a>,
+    runs: &[Run; 3],
+    is_union: bool,
+) -> Result<bool, Stop> {
+    let pairs = pairs::<S>(model.chance.heap, model.alloc, runs)?;
+    let other = pairs::collect::<S>(model.chance.heap, pairs)?;
+    let held = model.chance.heap.held();
+    model.chance.refuse_one();
+    let Some(made) = subject.combined(&other, is_union) else {
+        model.chance.refuse_none();
+        let point = model.chance.byte();
+        return get(subject, model, point);
+    };
+    let points = model.points.combined(&Points::of(runs), is_union);
+    check_made(subject, model, &made, &points, held)
+}
+
+/// Compares a container that was made, unless it was refused, with the points that it is to have,
+/// and with this one. Answers whether it was refused.
+fn check_made<'a, S: Soaked<'a>>(
+    subject: &S,
+    model: &Model<'a>,
+    made: &Result<S, AllocError>,
+    points: &Points,
+    held: u64,
+) -> Result<bool, Stop> {
+    let is_refused = model.answer(made.is_ok(), held)?;
+    if let Ok(made) = made {
+        let list = list(model.alloc, made)?;
+        model.check_made(points, &list, made.len(), *made == *subject, held)?;
+    }
+    Ok(is_refused)
+}
