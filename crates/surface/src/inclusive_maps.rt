@@ -7,12 +7,11 @@ ghost use Rattle.rangemap.specs.Clones.{KeysCloneFaithfully, ValuesCloneFaithful
 ghost use Rattle.rangemap.specs.NonEmptyPairs.{GivesNonEmpty};
 ghost use Rattle.rangemap.specs.Ranges.{AreNonEmpty, closed};
 
-use crate::root::is_eq;
+use crate::root;
 use rangemap::inclusive_map::{Gaps, IntoIter, Iter, Overlapping, RangeInclusiveMap};
 use rangemap::{Form, ReadError, StepFns, StepLite, WriteError};
 use serde_json::Value;
 use std::alloc::{AllocError, Allocator, Global};
-use std::cmp::Ordering;
 use std::fmt::Debug;
 use std::hash::{Hash, Hasher};
 use std::iter::IntoIterator;
@@ -112,18 +111,14 @@ pub fn compare<
     right: &RangeInclusiveMap<K, V, S, A>,
     state: &mut H,
 ) -> bool {
-    let _: Ordering = left.cmp(right);
-    let _: Option<Ordering> = left.partial_cmp(right);
-    left.hash(state);
-    is_eq(left);
-    left == right || left < right
+    root::compare(left, right, state)
 }
 
 pub fn text<K: StepLite + Clone + Debug, V: Eq + Clone + Debug, A: Allocator>(
     alloc: Global,
     map: &RangeInclusiveMap<K, V, K, A>,
 ) -> Result<String, AllocError> {
-    format!(in alloc; "{map:?}")
+    root::text(alloc, map)
 }
 
 pub fn write<

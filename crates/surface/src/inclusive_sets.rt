@@ -7,14 +7,13 @@ ghost use Rattle.rangemap.specs.Clones.{KeysCloneFaithfully};
 ghost use Rattle.rangemap.specs.Ranges.{closed};
 ghost use Rattle.rangemap.specs.Sets.{AreNonEmptyRanges, GivesNonEmptyRanges};
 
-use crate::root::is_eq;
+use crate::root;
 use rangemap::inclusive_set::{
     Gaps, Intersection, IntoIter, Iter, Overlapping, RangeInclusiveSet, Union,
 };
 use rangemap::{Form, ReadError, StepFns, StepLite, WriteError};
 use serde_json::Value;
 use std::alloc::{AllocError, Allocator, Global};
-use std::cmp::Ordering;
 use std::fmt::Debug;
 use std::hash::{Hash, Hasher};
 use std::iter::IntoIterator;
@@ -106,18 +105,14 @@ pub fn compare<T: Ord + Clone + Hash, S: StepFns<T>, A: Allocator, H: Hasher>(
     right: &RangeInclusiveSet<T, S, A>,
     state: &mut H,
 ) -> bool {
-    let _: Ordering = left.cmp(right);
-    let _: Option<Ordering> = left.partial_cmp(right);
-    left.hash(state);
-    is_eq(left);
-    left == right || left < right
+    root::compare(left, right, state)
 }
 
 pub fn text<T: StepLite + Clone + Debug, A: Allocator>(
     alloc: Global,
     set: &RangeInclusiveSet<T, T, A>,
 ) -> Result<String, AllocError> {
-    format!(in alloc; "{set:?}")
+    root::text(alloc, set)
 }
 
 pub fn write<T: StepLite + Clone, A: Allocator, E, WK: Fn(&T) -> Result<Value, E>>(

@@ -6,9 +6,23 @@ use std::alloc::{AllocError, Allocator};
 use std::iter::{DoubleEndedIterator, Iterator};
 use std::ops::{Range, RangeInclusive};
 
-fn both_ends<T: Drop, I: DoubleEndedIterator<Item = T> + Drop>(_items: I) {}
+// items `T` are lent, and items `G` given away
+fn both_ends<
+    T: Drop,
+    G: Drop,
+    Iter: DoubleEndedIterator<Item = T> + Drop,
+    IntoIter: DoubleEndedIterator<Item = G> + Drop,
+    Overlapping: DoubleEndedIterator<Item = T> + Drop,
+>(_iter: Iter, _into_iter: IntoIter, _overlapping: Overlapping) {}
 
 fn front<T: Drop, I: Iterator<Item = T> + Drop>(_items: I) {}
+
+fn fronts<
+    T: Drop,
+    Gaps: Iterator<Item = T> + Drop,
+    Union: Iterator<Item = T> + Drop,
+    Intersection: Iterator<Item = T> + Drop,
+>(_gaps: Gaps, _union: Union, _intersection: Intersection) {}
 
 pub fn of_maps<'a, K: Ord + Clone, V: Eq + Clone, A: Allocator>(
     iter: map::Iter<'a, K, V>,
@@ -18,9 +32,7 @@ pub fn of_maps<'a, K: Ord + Clone, V: Eq + Clone, A: Allocator>(
 ) -> Result<Option<Range<K>>, AllocError>
     requires { KeysCloneFaithfully K.is_clone K.cmp }
 {
-    both_ends::<(&'a Range<K>, &'a V), _>(iter);
-    both_ends::<(Range<K>, V), _>(into_iter);
-    both_ends::<(&'a Range<K>, &'a V), _>(overlapping);
+    both_ends::<(&'a Range<K>, &'a V), (Range<K>, V), _, _, _>(iter, into_iter, overlapping);
     let first = gaps.try_next()?;
     front::<Result<Range<K>, AllocError>, _>(gaps);
     Ok(first)
@@ -34,9 +46,7 @@ pub fn of_trees<'a, K: Ord + Clone, V: Eq + Clone, A: Allocator + Clone>(
 ) -> Result<Option<Range<K>>, AllocError>
     requires { KeysCloneFaithfully K.is_clone K.cmp }
 {
-    both_ends::<(&'a Range<K>, &'a V), _>(iter);
-    both_ends::<(Range<K>, V), _>(into_iter);
-    both_ends::<(&'a Range<K>, &'a V), _>(overlapping);
+    both_ends::<(&'a Range<K>, &'a V), (Range<K>, V), _, _, _>(iter, into_iter, overlapping);
     let first = gaps.try_next()?;
     front::<Result<Range<K>, AllocError>, _>(gaps);
     Ok(first)
@@ -50,9 +60,11 @@ pub fn of_closed_maps<'a, K: Ord + Clone, V: Eq + Clone, S: StepFns<K>, A: Alloc
 ) -> Result<Option<RangeInclusive<K>>, AllocError>
     requires { KeysCloneFaithfully K.is_clone K.cmp }
 {
-    both_ends::<(&'a RangeInclusive<K>, &'a V), _>(iter);
-    both_ends::<(RangeInclusive<K>, V), _>(into_iter);
-    both_ends::<(&'a RangeInclusive<K>, &'a V), _>(overlapping);
+    both_ends::<(&'a RangeInclusive<K>, &'a V), (RangeInclusive<K>, V), _, _, _>(
+        iter,
+        into_iter,
+        overlapping,
+    );
     let first = gaps.try_next()?;
     front::<Result<RangeInclusive<K>, AllocError>, _>(gaps);
     Ok(first)
@@ -68,17 +80,13 @@ pub fn of_sets<'a, T: Ord + Clone, A: Allocator>(
 ) -> Result<[Option<Range<T>>; 3], AllocError>
     requires { KeysCloneFaithfully T.is_clone T.cmp }
 {
-    both_ends::<&'a Range<T>, _>(iter);
-    both_ends::<Range<T>, _>(into_iter);
-    both_ends::<&'a Range<T>, _>(overlapping);
+    both_ends::<&'a Range<T>, Range<T>, _, _, _>(iter, into_iter, overlapping);
     let firsts = [
         gaps.try_next()?,
         union.try_next()?,
         intersection.try_next()?,
     ];
-    front::<Result<Range<T>, AllocError>, _>(gaps);
-    front::<Result<Range<T>, AllocError>, _>(union);
-    front::<Result<Range<T>, AllocError>, _>(intersection);
+    fronts::<Result<Range<T>, AllocError>, _, _, _>(gaps, union, intersection);
     Ok(firsts)
 }
 
@@ -92,16 +100,12 @@ pub fn of_closed_sets<'a, T: Ord + Clone, S: StepFns<T>, A: Allocator>(
 ) -> Result<[Option<RangeInclusive<T>>; 3], AllocError>
     requires { KeysCloneFaithfully T.is_clone T.cmp }
 {
-    both_ends::<&'a RangeInclusive<T>, _>(iter);
-    both_ends::<RangeInclusive<T>, _>(into_iter);
-    both_ends::<&'a RangeInclusive<T>, _>(overlapping);
+    both_ends::<&'a RangeInclusive<T>, RangeInclusive<T>, _, _, _>(iter, into_iter, overlapping);
     let firsts = [
         gaps.try_next()?,
         union.try_next()?,
         intersection.try_next()?,
     ];
-    front::<Result<RangeInclusive<T>, AllocError>, _>(gaps);
-    front::<Result<RangeInclusive<T>, AllocError>, _>(union);
-    front::<Result<RangeInclusive<T>, AllocError>, _>(intersection);
+    fronts::<Result<RangeInclusive<T>, AllocError>, _, _, _>(gaps, union, intersection);
     Ok(firsts)
 }

@@ -4,12 +4,11 @@ ghost use Rattle.rangemap.specs.Clones.{KeysCloneFaithfully, ValuesCloneFaithful
 ghost use Rattle.rangemap.specs.NonEmptyPairs.{GivesNonEmpty};
 ghost use Rattle.rangemap.specs.Ranges.{AreNonEmpty, half_open};
 
-use crate::root::is_eq;
+use crate::root;
 use rangemap::map::{Gaps, IntoIter, Iter, Overlapping, RangeMap};
 use rangemap::{Form, ReadError, WriteError};
 use serde_json::Value;
 use std::alloc::{AllocError, Allocator, Global};
-use std::cmp::Ordering;
 use std::fmt::Debug;
 use std::hash::{Hash, Hasher};
 use std::iter::IntoIterator;
@@ -88,18 +87,14 @@ pub fn compare<K: Ord + Clone + Hash, V: Ord + Clone + Hash, A: Allocator, H: Ha
     right: &RangeMap<K, V, A>,
     state: &mut H,
 ) -> bool {
-    let _: Ordering = left.cmp(right);
-    let _: Option<Ordering> = left.partial_cmp(right);
-    left.hash(state);
-    is_eq(left);
-    left == right || left < right
+    root::compare(left, right, state)
 }
 
 pub fn text<K: Ord + Clone + Debug, V: Eq + Clone + Debug, A: Allocator>(
     alloc: Global,
     map: &RangeMap<K, V, A>,
 ) -> Result<String, AllocError> {
-    format!(in alloc; "{map:?}")
+    root::text(alloc, map)
 }
 
 pub fn write<

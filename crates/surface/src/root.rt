@@ -7,7 +7,9 @@ use rangemap::{
     StepLite, WriteError, range_inclusive_map, range_inclusive_set, range_map, range_set,
 };
 use std::alloc::{AllocError, Global};
+use std::cmp::Ordering;
 use std::fmt::Debug;
+use std::hash::{Hash, Hasher};
 
 pub fn lite_steps<T: StepLite>(x: &T) -> (T, T)
     requires greater { HasGreater T.is_key T.cmp x.now }
@@ -53,7 +55,21 @@ pub fn integers(
     over_itself(character);
 }
 
-pub fn is_eq<C: Eq>(_container: &C) {}
+fn is_eq<C: Eq>(_container: &C) {}
+
+// what a container derives is called for all of them here, since a call of a trait's method on a
+// container is dear to prove
+pub fn compare<C: Ord + Hash, H: Hasher>(left: &C, right: &C, state: &mut H) -> bool {
+    let _: Ordering = left.cmp(right);
+    let _: Option<Ordering> = left.partial_cmp(right);
+    left.hash(state);
+    is_eq(left);
+    left == right || left < right
+}
+
+pub fn text<C: Debug>(alloc: Global, container: &C) -> Result<String, AllocError> {
+    format!(in alloc; "{container:?}")
+}
 
 fn derives_part<P: Clone + Copy + Debug + PartialEq + Eq>(_p: P) {}
 

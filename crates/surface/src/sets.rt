@@ -4,12 +4,11 @@ ghost use Rattle.rangemap.specs.Clones.{KeysCloneFaithfully};
 ghost use Rattle.rangemap.specs.Ranges.{half_open};
 ghost use Rattle.rangemap.specs.Sets.{AreNonEmptyRanges, GivesNonEmptyRanges};
 
-use crate::root::is_eq;
+use crate::root;
 use rangemap::set::{Gaps, Intersection, IntoIter, Iter, Overlapping, RangeSet, Union};
 use rangemap::{Form, ReadError, WriteError};
 use serde_json::Value;
 use std::alloc::{AllocError, Allocator, Global};
-use std::cmp::Ordering;
 use std::fmt::Debug;
 use std::hash::{Hash, Hasher};
 use std::iter::IntoIterator;
@@ -90,18 +89,14 @@ pub fn compare<T: Ord + Clone + Hash, A: Allocator, H: Hasher>(
     right: &RangeSet<T, A>,
     state: &mut H,
 ) -> bool {
-    let _: Ordering = left.cmp(right);
-    let _: Option<Ordering> = left.partial_cmp(right);
-    left.hash(state);
-    is_eq(left);
-    left == right || left < right
+    root::compare(left, right, state)
 }
 
 pub fn text<T: Ord + Clone + Debug, A: Allocator>(
     alloc: Global,
     set: &RangeSet<T, A>,
 ) -> Result<String, AllocError> {
-    format!(in alloc; "{set:?}")
+    root::text(alloc, set)
 }
 
 pub fn write<T: Ord + Clone, A: Allocator, E, WK: Fn(&T) -> Result<Value, E>>(

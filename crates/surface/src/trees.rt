@@ -4,10 +4,9 @@ ghost use Rattle.rangemap.specs.Clones.{KeysCloneFaithfully, ValuesCloneFaithful
 ghost use Rattle.rangemap.specs.NonEmptyPairs.{GivesNonEmpty};
 ghost use Rattle.rangemap.specs.Ranges.{AreNonEmpty, half_open};
 
-use crate::root::is_eq;
+use crate::root;
 use rangemap::tree_map::{Gaps, IntoIter, Iter, Overlapping, RangeMap};
 use std::alloc::{AllocError, Allocator, Global};
-use std::cmp::Ordering;
 use std::fmt::Debug;
 use std::hash::{Hash, Hasher};
 use std::iter::IntoIterator;
@@ -91,16 +90,12 @@ pub fn compare<K: Ord + Clone + Hash, V: Ord + Clone + Hash, A: Allocator + Clon
     right: &RangeMap<K, V, A>,
     state: &mut H,
 ) -> bool {
-    let _: Ordering = left.cmp(right);
-    let _: Option<Ordering> = left.partial_cmp(right);
-    left.hash(state);
-    is_eq(left);
-    left == right || left < right
+    root::compare(left, right, state)
 }
 
 pub fn text<K: Ord + Clone + Debug, V: Eq + Clone + Debug, A: Allocator + Clone>(
     alloc: Global,
     map: &RangeMap<K, V, A>,
 ) -> Result<String, AllocError> {
-    format!(in alloc; "{map:?}")
+    root::text(alloc, map)
 }
