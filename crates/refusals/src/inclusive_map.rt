@@ -1,8 +1,7 @@
 //! Calls on maps over closed ranges that are refused memory: the growth of a map and each clone of
 //! a key, in its turn.
 
-use crate::trials::gaps::check_gap_refusals;
-use crate::trials::maps::check_refusals;
+use crate::tried::Tried;
 use refusing::Refusing;
 use rows::{CostlyMap, MANY};
 use std::test::Fail;
@@ -14,7 +13,8 @@ mod makers;
 #[test]
 fn each_request_may_be_refused(rt: HostRuntime) -> Result<(), Fail> {
     let heap = Refusing::new(rt.alloc(), MANY);
-    check_refusals::<CostlyMap<'_>>(
+    CostlyMap::check_refusals(
+        &heap,
         &heap,
         &[
             ("", "insert 0..=255 a", "0..=255 a", 1),
@@ -44,5 +44,5 @@ fn each_request_may_be_refused(rt: HostRuntime) -> Result<(), Fail> {
 fn each_request_of_a_gap_may_be_refused(rt: HostRuntime) -> Result<(), Fail> {
     let heap = Refusing::new(rt.alloc(), MANY);
     let row = ("10..=249 a", "0..=255", "0..=9, 250..=255", 1);
-    check_gap_refusals::<CostlyMap<'_>>(&heap, row)
+    CostlyMap::check_gap_refusals(&heap, &heap, row)
 }

@@ -1,8 +1,7 @@
 //! Calls on sets of closed ranges that are refused memory: the growth of a set and each clone of a
 //! key, in its turn.
 
-use crate::trials::gaps::check_gap_refusals;
-use crate::trials::maps::check_refusals;
+use crate::tried::Tried;
 use refusing::Refusing;
 use rows::{CostlySet, MANY};
 use std::test::Fail;
@@ -15,7 +14,8 @@ mod operations;
 #[test]
 fn each_request_may_be_refused(rt: HostRuntime) -> Result<(), Fail> {
     let heap = Refusing::new(rt.alloc(), MANY);
-    check_refusals::<CostlySet<'_>>(
+    CostlySet::check_refusals(
+        &heap,
         &heap,
         &[
             ("", "insert 0..=255", "0..=255", 1),
@@ -33,5 +33,5 @@ fn each_request_may_be_refused(rt: HostRuntime) -> Result<(), Fail> {
 fn each_request_of_a_gap_may_be_refused(rt: HostRuntime) -> Result<(), Fail> {
     let heap = Refusing::new(rt.alloc(), MANY);
     let row = ("10..=249", "0..=255", "0..=9, 250..=255", 1);
-    check_gap_refusals::<CostlySet<'_>>(&heap, row)
+    CostlySet::check_gap_refusals(&heap, &heap, row)
 }

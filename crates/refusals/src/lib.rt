@@ -25,3 +25,5 @@ mod set;
 mod tree_map;
 #[cfg(test)]
 mod trials;
+#[cfg(test)]
+mod tried;

@@ -1,8 +1,7 @@
 //! Rows about calls on maps over half-open ranges that are refused memory: the growth of a map and
 //! each clone of a text or a key, in its turn.
 
-use crate::trials::gaps::check_gap_refusals;
-use crate::trials::maps::check_refusals;
+use crate::tried::Tried;
 use rangemap::RangeMap;
 use refusing::Refusing;
 use rows::{Costly, Heap, MANY, Names, Texts};
@@ -14,7 +13,8 @@ pub mod makers;
 #[test]
 fn each_request_may_be_refused(rt: HostRuntime) -> Result<(), Fail> {
     let heap = Refusing::new(rt.alloc(), MANY);
-    check_refusals::<Texts<'_>>(
+    Texts::check_refusals(
+        &heap,
         &heap,
         &[
             ("", "insert 0..10 a", "0..10 a", 1),
@@ -44,7 +44,8 @@ fn each_request_may_be_refused(rt: HostRuntime) -> Result<(), Fail> {
 #[tactic(auto, using(rangemap::proofs::TextKeys::clones_tie))]
 fn each_clone_of_a_key_may_be_refused(rt: HostRuntime) -> Result<(), Fail> {
     let heap = Refusing::new(rt.alloc(), MANY);
-    check_refusals::<Names<'_>>(
+    Names::check_refusals(
+        &heap,
         &heap,
         &[(
             "a..k a, u..z b",
@@ -62,5 +63,5 @@ type CostlyRanges<'a> = RangeMap<Costly<'a>, char, &'a Heap>;
 #[test]
 fn each_clone_of_a_gap_may_be_refused(rt: HostRuntime) -> Result<(), Fail> {
     let heap = Refusing::new(rt.alloc(), MANY);
-    check_gap_refusals::<CostlyRanges<'_>>(&heap, ("1..3 a", "0..5", "0..1, 3..5", 2))
+    CostlyRanges::check_gap_refusals(&heap, &heap, ("1..3 a", "0..5", "0..1, 3..5", 2))
 }

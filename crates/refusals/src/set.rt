@@ -1,8 +1,7 @@
 //! Rows about calls on sets of half-open ranges that are refused memory: the growth of a set and
 //! each clone of a key, in its turn.
 
-use crate::trials::gaps::check_gap_refusals;
-use crate::trials::maps::check_refusals;
+use crate::tried::Tried;
 use refusing::Refusing;
 use rows::{HalfOpenCostlySet, MANY, NamedSet};
 use std::test::Fail;
@@ -16,7 +15,8 @@ mod operations;
 #[test]
 fn each_request_may_be_refused(rt: HostRuntime) -> Result<(), Fail> {
     let heap = Refusing::new(rt.alloc(), MANY);
-    check_refusals::<HalfOpenCostlySet<'_>>(
+    HalfOpenCostlySet::check_refusals(
+        &heap,
         &heap,
         &[
             ("", "insert 0..10", "0..10", 1),
@@ -34,5 +34,5 @@ fn each_request_may_be_refused(rt: HostRuntime) -> Result<(), Fail> {
 #[tactic(auto, using(rangemap::proofs::TextKeys::clones_tie))]
 fn each_clone_of_a_gap_may_be_refused(rt: HostRuntime) -> Result<(), Fail> {
     let heap = Refusing::new(rt.alloc(), MANY);
-    check_gap_refusals::<NamedSet<'_>>(&heap, ("b..d", "a..f", "a..b, d..f", 2))
+    NamedSet::check_gap_refusals(&heap, &heap, ("b..d", "a..f", "a..b, d..f", 2))
 }

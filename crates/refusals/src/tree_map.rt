@@ -1,11 +1,9 @@
 //! Rows about calls on maps in a tree that are refused memory: each node, each list of keys and
 //! each clone of a key or a text, in its turn.
 
-use crate::trials::items::try_both;
-use crate::trials::maps::check_refusals;
-use crate::trials::{Answer, Trial, check_trial};
+use crate::tried::Tried;
 use refusing::Refusing;
-use rows::{CostlyTree, Heap, InRows, MANY, TreeTexts, made_of};
+use rows::{CostlyTree, MANY, TreeTexts};
 use std::test::Fail;
 
 mod makers;
@@ -23,7 +21,8 @@ const GROWN: &str = "0..1 a, 1..2 b, 2..3 a, 3..4 b, 4..5 a, 5..6 b, 6..7 a, 7..
 #[test]
 fn a_refused_insert_leaves_the_map(rt: HostRuntime) -> Result<(), Fail> {
     let heap = Refusing::new(rt.alloc(), MANY);
-    check_refusals::<TreeTexts<'_>>(
+    TreeTexts::check_refusals(
+        &heap,
         &heap,
         &[("0..10 a", "insert 3..6 b", "0..3 a, 3..6 b, 6..10 a", 1)],
     )
@@ -32,7 +31,8 @@ fn a_refused_insert_leaves_the_map(rt: HostRuntime) -> Result<(), Fail> {
 #[test]
 fn each_request_may_be_refused(rt: HostRuntime) -> Result<(), Fail> {
     let heap = Refusing::new(rt.alloc(), MANY);
-    check_refusals::<CostlyTree<'_>>(
+    CostlyTree::check_refusals(
+        &heap,
         &heap,
         &[
             // The first pair takes the tree and the key that it stands at.
@@ -55,19 +55,9 @@ fn each_request_may_be_refused(rt: HostRuntime) -> Result<(), Fail> {
     )
 }
 
-/// The gaps about a pair, from a key in the first to one in the second.
-struct Gaps;
-
-impl Trial for Gaps {
-    fn is_accepted(&self, heap: &Heap, left: u64) -> Answer {
-        let map: CostlyTree<'_> = made_of(heap, "1..3 a")?;
-        let outer_range = CostlyTree::range(heap, "0..5")?;
-        let gaps = (map.gaps(&outer_range), map.gaps(&outer_range));
-        try_both::<CostlyTree<'_>, _>(heap, gaps, "0..1, 3..5", left)
-    }
-}
-
+// Both ends of a gap are cloned.
 #[test]
 fn each_clone_of_a_gap_may_be_refused(rt: HostRuntime) -> Result<(), Fail> {
-    check_trial(&Refusing::new(rt.alloc(), MANY), &Gaps, 2)
+    let heap = Refusing::new(rt.alloc(), MANY);
+    CostlyTree::check_gap_refusals(&heap, &heap, ("1..3 a", "0..5", "0..1, 3..5", 2))
 }

@@ -76,7 +76,7 @@ where
 }
 
 /// Makes a container of the pairs of each list.
-pub fn make_all<M: InRows>(alloc: M::Alloc, lists: &[&str]) -> Result<Vec<M, M::Alloc>, Fail>
+pub(crate) fn make_all<M: InRows>(alloc: M::Alloc, lists: &[&str]) -> Result<Vec<M, M::Alloc>, Fail>
 where
     M::Alloc: Copy,
     requires faithful_keys { KeysCloneFaithfully M.Key.is_clone M.Key.cmp }

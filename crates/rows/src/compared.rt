@@ -136,7 +136,7 @@ pub fn check_ranges<M: InRows>(ranges: &[M::Range], list: &str) -> Result<(), Fa
 
 /// Compares which calls of a replay were accepted, unless it was refused memory, and the containers
 /// that it left, with a row. A plus stands for each call that was accepted, and a minus for another.
-pub fn check_replayed<M: InRows>(
+pub(crate) fn check_replayed<M: InRows>(
     answers: Result<Vec<bool>, AllocError>,
     expected: &str,
     all: &[M],

@@ -77,7 +77,7 @@ where
 
 /// Makes the calls of a list on maps.
 #[tactic(auto, using(crate::proofs::OneMore::all_and_one))]
-pub fn calls_of<M: InRows>(
+pub(crate) fn calls_of<M: InRows>(
     alloc: M::Alloc,
     calls: &str,
 ) -> Result<Vec<Call<M::Range, M::Value, M::Alloc>, M::Alloc>, Fail>
@@ -118,7 +118,7 @@ where
 
 /// Makes the calls of a list on sets.
 #[tactic(auto, using(crate::proofs::OneMore::all_and_one))]
-pub fn set_calls_of<S: InRows<Value = ()>>(
+pub(crate) fn set_calls_of<S: InRows<Value = ()>>(
     alloc: S::Alloc,
     calls: &str,
 ) -> Result<Vec<SetCall<S::Range, S::Alloc>, S::Alloc>, Fail>

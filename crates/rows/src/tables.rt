@@ -1,6 +1,6 @@
 //! Tables of rows, compared by one function for every container.
 //!
-//! A test hands its table over and does no more: each call on a container that its body makes is
+//! A test hands its table to `Tested` and does no more: each call on a container that its body makes is
 //! proved of that container's type anew, which takes most of a test's proof.
 ghost use Rattle.rangemap.specs.Clones.{KeysCloneFaithfully, ValuesCloneFaithfully};
 
@@ -18,7 +18,7 @@ use std::test::Fail;
 pub type Row<'t> = (&'t str, &'t str, &'t str);
 
 /// Compares the answers of all rows.
-pub fn check_rows<M: InRows>(alloc: M::Alloc, rows: &[Row<'_>]) -> Result<(), Fail>
+pub(crate) fn check_rows<M: InRows>(alloc: M::Alloc, rows: &[Row<'_>]) -> Result<(), Fail>
 where
     M::Alloc: Copy,
     requires faithful_keys { KeysCloneFaithfully M.Key.is_clone M.Key.cmp }
@@ -83,7 +83,7 @@ fn check_equality<M: InRows>(map: &M, other: &M, answer: &str) -> Result<(), Fai
 }
 
 /// Compares what each of some containers holds with its list.
-pub fn check_each<M: InRows>(all: &[M], lists: &[&str]) -> Result<(), Fail> {
+pub(crate) fn check_each<M: InRows>(all: &[M], lists: &[&str]) -> Result<(), Fail> {
     same(all.len() == lists.len(), "the count of containers differs")?;
     for (map, list) in all.iter().zip(lists) {
         check_row(map, *list)?;

@@ -2,7 +2,7 @@
 
 use crate::noted::Noted;
 use rangemap::RangeInclusiveMap;
-use rows::check_rows;
+use rows::Tested;
 use std::alloc::Global;
 use std::test::Fail;
 
@@ -15,9 +15,18 @@ mod taken;
 /// A map over numbers.
 pub type Map = RangeInclusiveMap<u32, char, u32, Global>;
 
+/// A map over bytes.
+type Bytes = RangeInclusiveMap<u8, bool, u8, Global>;
+
+/// A map over signed bytes by their own steps.
+type SignedBytes = RangeInclusiveMap<i8, bool, i8, Global>;
+
+/// A map to values that are equal in part.
+type Notes = RangeInclusiveMap<u32, Noted, u32, Global>;
+
 #[test]
 fn ranges_with_no_key_between_are_joined(rt: HostRuntime) -> Result<(), Fail> {
-    check_rows::<Map>(
+    Map::check_rows(
         rt.alloc(),
         &[
             ("insert 0..=4 a, insert 5..=9 a", "holds", "0..=9 a"),
@@ -83,7 +92,7 @@ fn ranges_with_no_key_between_are_joined(rt: HostRuntime) -> Result<(), Fail> {
 
 #[test]
 fn bytes_go_to_their_end(rt: HostRuntime) -> Result<(), Fail> {
-    check_rows::<RangeInclusiveMap<u8, bool, u8, Global>>(
+    Bytes::check_rows(
         rt.alloc(),
         &[
             (
@@ -120,7 +129,7 @@ fn bytes_go_to_their_end(rt: HostRuntime) -> Result<(), Fail> {
         ],
     )?;
     // Ends are removed.
-    check_rows::<RangeInclusiveMap<i8, bool, i8, Global>>(
+    SignedBytes::check_rows(
         rt.alloc(),
         &[
             (
@@ -139,7 +148,7 @@ fn bytes_go_to_their_end(rt: HostRuntime) -> Result<(), Fail> {
 
 #[test]
 fn the_newest_of_equal_values_stays(rt: HostRuntime) -> Result<(), Fail> {
-    check_rows::<RangeInclusiveMap<u32, Noted, u32, Global>>(
+    Notes::check_rows(
         rt.alloc(),
         &[
             ("insert 0..=3 x, insert 4..=7 y", "holds", "0..=7 y"),

@@ -17,20 +17,25 @@ pub fn check_laws<M: InRows<Alloc = Global>>(alloc: Global, rows: &[Row<'_>]) ->
     requires faithful_keys { KeysCloneFaithfully M.Key.is_clone M.Key.cmp }
     requires faithful_values { ValuesCloneFaithfully M.Value.is_clone M.Value.eq }
 {
-    for (law, stored, call, outcome) in rows {
-        let map: M = made_of(alloc, *stored)?;
-        match *law {
-            "alike" => check_alike(alloc, map, made_of(alloc, *stored)?, *call)?,
-            "insert" => check_insert(alloc, map, *call, *outcome)?,
-            "remove" => check_remove(alloc, map, *call, *outcome)?,
-            "twice" => check_twice(alloc, map, made_of(alloc, *stored)?, *call, *outcome)?,
-            "taken back" => {
-                check_taken_back(alloc, map, made_of(alloc, *stored)?, *call, *outcome)?
-            }
-            _ => check_parted(alloc, &map, *call, *outcome)?,
-        }
+    for row in rows {
+        check_law::<M>(alloc, row)?;
     }
     Ok(())
+}
+
+/// Runs the law of a row.
+fn check_law<M: InRows<Alloc = Global>>(alloc: Global, row: &Row<'_>) -> Result<(), Fail>
+    requires faithful_keys { KeysCloneFaithfully M.Key.is_clone M.Key.cmp }
+    requires faithful_values { ValuesCloneFaithfully M.Value.is_clone M.Value.eq }
+{
+    let (law, stored, call, outcome) = *row;
+    let map: M = made_of(alloc, stored)?;
+    match law {
+        "insert" => check_insert(alloc, map, call, outcome),
+        "remove" => check_remove(alloc, map, call, outcome),
+        "parted" => check_parted(alloc, &map, call, outcome),
+        _ => check_equal(alloc, map, made_of(alloc, stored)?, row),
+    }
 }
 
 /// The range and the value of a pair.
@@ -48,24 +53,37 @@ fn pair_of<M: InRows<Alloc = Global>>(
 /// Why a law was not kept.
 const OTHERWISE: &str = "two maps are compared otherwise";
 
-/// Equal maps are alike, and are no more after one more insert into one of them.
-fn check_alike<M: InRows<Alloc = Global>>(
+/// Equal maps are alike, and are no more after one more insert into one of them. An insert into both
+/// leaves the pairs, made once or twice; so does a remove from both, whether or not its range was
+/// inserted before it.
+fn check_equal<M: InRows<Alloc = Global>>(
     alloc: Global,
-    left: M,
-    mut right: M,
-    pair: &str,
+    mut one: M,
+    mut other: M,
+    row: &Row<'_>,
 ) -> Result<(), Fail>
     requires faithful_keys { KeysCloneFaithfully M.Key.is_clone M.Key.cmp }
     requires faithful_values { ValuesCloneFaithfully M.Value.is_clone M.Value.eq }
 {
-    let before = laws::equal_exactly_when_alike(&left, &right);
-    let (range, value) = pair_of::<M>(alloc, pair)?;
-    right.insert(range, value)?;
-    let behind = laws::equal_exactly_when_alike(&left, &right);
-    if (before, behind) != ((true, false), (false, true)) {
+    if laws::equal_exactly_when_alike(&one, &other) != (true, false) {
         return Err(Fail::new(OTHERWISE));
     }
-    Ok(())
+    let (range, value) = pair_of::<M>(alloc, row.2)?;
+    match row.0 {
+        "twice" => laws::insert_twice_equals_once(&mut one, &mut other, &range, &value)?,
+        "taken back" => {
+            laws::remove_after_insert_equals_remove(&mut one, &mut other, &range, &value)?
+        }
+        _ => {
+            other.insert(range, value)?;
+            if laws::equal_exactly_when_alike(&one, &other) == (false, true) {
+                return Ok(());
+            }
+            return Err(Fail::new(OTHERWISE));
+        }
+    }
+    check_row(&one, row.3)?;
+    check_row(&other, row.3)
 }
 
 /// An insert leaves the other pairs.
@@ -95,46 +113,6 @@ fn check_remove<M: InRows<Alloc = Global>>(
 {
     laws::remove_changes_its_range_alone(&mut map, M::range(alloc, range)?)?;
     check_row(&map, pairs)
-}
-
-/// An insert into equal maps leaves the pairs, made once or twice.
-fn check_twice<M: InRows<Alloc = Global>>(
-    alloc: Global,
-    mut once: M,
-    mut twice: M,
-    pair: &str,
-    pairs: &str,
-) -> Result<(), Fail>
-    requires faithful_keys { KeysCloneFaithfully M.Key.is_clone M.Key.cmp }
-    requires faithful_values { ValuesCloneFaithfully M.Value.is_clone M.Value.eq }
-{
-    if laws::equal_exactly_when_alike(&once, &twice) != (true, false) {
-        return Err(Fail::new(OTHERWISE));
-    }
-    let (range, value) = pair_of::<M>(alloc, pair)?;
-    laws::insert_twice_equals_once(&mut once, &mut twice, &range, &value)?;
-    check_row(&once, pairs)?;
-    check_row(&twice, pairs)
-}
-
-/// A remove from equal maps leaves the pairs, whether or not its range was inserted before it.
-fn check_taken_back<M: InRows<Alloc = Global>>(
-    alloc: Global,
-    mut changed: M,
-    mut removed: M,
-    pair: &str,
-    pairs: &str,
-) -> Result<(), Fail>
-    requires faithful_keys { KeysCloneFaithfully M.Key.is_clone M.Key.cmp }
-    requires faithful_values { ValuesCloneFaithfully M.Value.is_clone M.Value.eq }
-{
-    if laws::equal_exactly_when_alike(&changed, &removed) != (true, false) {
-        return Err(Fail::new(OTHERWISE));
-    }
-    let (range, value) = pair_of::<M>(alloc, pair)?;
-    laws::remove_after_insert_equals_remove(&mut changed, &mut removed, &range, &value)?;
-    check_row(&changed, pairs)?;
-    check_row(&removed, pairs)
 }
 
 /// Gaps and covered keys make up a range.

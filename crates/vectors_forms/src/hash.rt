@@ -4,10 +4,11 @@
 //! feeds less than its pairs would still hash alike where it is equal.
 ghost use Rattle.std.specs.Prelude.{◌≡◌, ◌+◌, ◌*◌, ◌%◌, ◌^◌, fold};
 
+use crate::containers::{ClosedMap, ClosedSet, Map, Set, TreeMap};
 use crate::same::assert_same;
 use rangemap::laws::comparisons::{equal_maps_hash_alike, equality_agrees_with_order};
-use rangemap::{RangeInclusiveMap, RangeInclusiveSet, RangeMap, RangeSet, range_map, tree_map};
-use rows::{SignedSteps, make_all};
+use rangemap::{RangeInclusiveMap, range_map};
+use rows::{SignedSteps, Tested};
 use std::alloc::Global;
 use std::cmp::Ordering;
 use std::hash::{Hash, Hasher};
@@ -63,9 +64,9 @@ fn each_part_of_a_pair_is_fed(rt: HostRuntime) -> Result<(), Fail> {
         "0..5 b",
         "0..5 a, 7..8 a",
     ];
-    let made = make_all::<RangeMap<u32, char, Global>>(rt.alloc(), &lists)?;
+    let made = Map::make_all(rt.alloc(), &lists)?;
     assert_fed(&rt, made.as_slice())?;
-    let made = make_all::<tree_map::RangeMap<u32, char, Global>>(rt.alloc(), &lists)?;
+    let made = TreeMap::make_all(rt.alloc(), &lists)?;
     assert_fed(&rt, made.as_slice())
 }
 
@@ -78,17 +79,17 @@ fn each_part_of_a_closed_pair_is_fed(rt: HostRuntime) -> Result<(), Fail> {
         "1..=5 a",
         "0..=5 b",
     ];
-    let made = make_all::<RangeInclusiveMap<u32, char, u32, Global>>(rt.alloc(), &lists)?;
+    let made = ClosedMap::make_all(rt.alloc(), &lists)?;
     assert_fed(&rt, made.as_slice())
 }
 
 #[test]
 fn each_end_of_a_range_is_fed(rt: HostRuntime) -> Result<(), Fail> {
     let lists = ["0..5", "0..3, 3..5", "0..6", "1..5"];
-    let made = make_all::<RangeSet<u32, Global>>(rt.alloc(), &lists)?;
+    let made = Set::make_all(rt.alloc(), &lists)?;
     assert_fed(&rt, made.as_slice())?;
     let lists = ["0..=5", "0..=2, 3..=5", "0..=6", "1..=5"];
-    let made = make_all::<RangeInclusiveSet<u32, u32, Global>>(rt.alloc(), &lists)?;
+    let made = ClosedSet::make_all(rt.alloc(), &lists)?;
     assert_fed(&rt, made.as_slice())
 }
 
@@ -100,7 +101,7 @@ fn the_laws_of_comparisons_make_their_calls(rt: HostRuntime) -> Result<(), Fail>
 }
 
 /// Runs the laws on a map and a copy of it.
-fn check_same<R: Abort>(rt: &R, one: &RangeMap<u32, char, Global>) -> Result<(), Fail> {
+fn check_same<R: Abort>(rt: &R, one: &Map) -> Result<(), Fail> {
     let same = one.clone()?;
     assert_same(
         rt,
@@ -116,10 +117,7 @@ fn check_same<R: Abort>(rt: &R, one: &RangeMap<u32, char, Global>) -> Result<(),
 }
 
 /// Runs the law on a map and a greater one.
-fn check_greater<R: AllocGlobal + Abort>(
-    rt: &R,
-    one: &RangeMap<u32, char, Global>,
-) -> Result<(), Fail> {
+fn check_greater<R: AllocGlobal + Abort>(rt: &R, one: &Map) -> Result<(), Fail> {
     let greater = range_map! { in rt.alloc(); 0..6u32 => 'a' }?;
     assert_same(
         rt,

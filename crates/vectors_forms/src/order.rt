@@ -1,9 +1,8 @@
 //! Rows about the order of containers.
 
+use crate::containers::{ClosedMap, ClosedSet, Map, Set, TreeMap};
 use crate::same::assert_same;
-use rangemap::{RangeInclusiveMap, RangeInclusiveSet, RangeMap, RangeSet, tree_map};
-use rows::make_all;
-use std::alloc::Global;
+use rows::Tested;
 use std::cmp::Ordering;
 use std::process::Abort;
 use std::test::Fail;
@@ -58,7 +57,7 @@ fn maps_lie_by_their_first_difference(rt: HostRuntime) -> Result<(), Fail> {
         "0..6 a",
         "1..2 a",
     ];
-    let made = make_all::<RangeMap<u32, char, Global>>(rt.alloc(), &lists)?;
+    let made = Map::make_all(rt.alloc(), &lists)?;
     assert_ascending(&rt, made.as_slice());
     Ok(())
 }
@@ -79,7 +78,7 @@ fn closed_maps_lie_by_their_first_difference(rt: HostRuntime) -> Result<(), Fail
         "0..=6 a",
         "1..=2 a",
     ];
-    let made = make_all::<RangeInclusiveMap<u32, char, u32, Global>>(rt.alloc(), &lists)?;
+    let made = ClosedMap::make_all(rt.alloc(), &lists)?;
     assert_ascending(&rt, made.as_slice());
     Ok(())
 }
@@ -98,7 +97,7 @@ fn maps_in_a_tree_lie_by_their_first_difference(rt: HostRuntime) -> Result<(), F
         "0..2 a, 4..6 c",
         "0..3 a",
     ];
-    let made = make_all::<tree_map::RangeMap<u32, char, Global>>(rt.alloc(), &lists)?;
+    let made = TreeMap::make_all(rt.alloc(), &lists)?;
     assert_ascending(&rt, made.as_slice());
     Ok(())
 }
@@ -117,7 +116,7 @@ fn sets_lie_by_their_first_difference(rt: HostRuntime) -> Result<(), Fail> {
         "0..6",
         "1..2",
     ];
-    let made = make_all::<RangeSet<u32, Global>>(rt.alloc(), &lists)?;
+    let made = Set::make_all(rt.alloc(), &lists)?;
     assert_ascending(&rt, made.as_slice());
     Ok(())
 }
@@ -134,7 +133,7 @@ fn closed_sets_lie_by_their_first_difference(rt: HostRuntime) -> Result<(), Fail
         "0..=5, 7..=8",
         "0..=6",
     ];
-    let made = make_all::<RangeInclusiveSet<u32, u32, Global>>(rt.alloc(), &lists)?;
+    let made = ClosedSet::make_all(rt.alloc(), &lists)?;
     assert_ascending(&rt, made.as_slice());
     Ok(())
 }

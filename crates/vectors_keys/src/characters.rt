@@ -1,7 +1,7 @@
 //! A set of characters, whose ranges touch over the surrogates.
 
 use rangemap::RangeInclusiveSet;
-use rows::check_rows;
+use rows::Tested;
 use std::alloc::Global;
 use std::test::Fail;
 
@@ -10,7 +10,7 @@ type Chars = RangeInclusiveSet<char, char, Global>;
 
 #[test]
 fn characters_touch_over_the_surrogates(rt: HostRuntime) -> Result<(), Fail> {
-    check_rows::<Chars>(
+    Chars::check_rows(
         rt.alloc(),
         &[
             (

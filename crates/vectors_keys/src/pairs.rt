@@ -3,7 +3,7 @@ ghost use Rattle.std.specs.Prelude.{◌^◌};
 ghost use Rattle.vectors_keys.specs.Pairs.{IsPair, pair_after, pair_before, pair_follows, pair_precedes};
 
 use rangemap::{RangeInclusiveSet, StepFns};
-use rows::check_rows;
+use rows::Tested;
 use std::alloc::Global;
 use std::test::Fail;
 
@@ -48,7 +48,7 @@ type Pairs = RangeInclusiveSet<(u8, u8), PairSteps, Global>;
 
 #[test]
 fn pairs_are_stepped_through(rt: HostRuntime) -> Result<(), Fail> {
-    check_rows::<Pairs>(
+    Pairs::check_rows(
         rt.alloc(),
         &[
             // Pairs touch over their second byte.

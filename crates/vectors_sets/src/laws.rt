@@ -4,7 +4,7 @@ ghost use Rattle.rangemap.specs.Clones.{KeysCloneFaithfully};
 use crate::{inclusive_set, set};
 use rangemap::container::Combine;
 use rangemap::laws::sets::{Operator, absorbs, associates, commutes, distributes, is_idempotent};
-use rows::{check_text, make_all};
+use rows::{Tested, check_text};
 use std::alloc::Global;
 use std::fmt::Debug;
 use std::test::Fail;
@@ -90,7 +90,7 @@ fn check_laws<S: Combine + Debug>(
 
 #[test]
 fn operators_keep_their_laws(rt: HostRuntime) -> Result<(), Fail> {
-    let sets = make_all::<set::Set>(rt.alloc(), &["0..5", "5..10", "3..7"])?;
+    let sets = set::Set::make_all(rt.alloc(), &["0..5", "5..10", "3..7"])?;
     check_laws(
         rt.alloc(),
         sets.as_slice(),
@@ -102,7 +102,7 @@ fn operators_keep_their_laws(rt: HostRuntime) -> Result<(), Fail> {
 
 #[test]
 fn operators_of_closed_sets_keep_their_laws(rt: HostRuntime) -> Result<(), Fail> {
-    let sets = make_all::<inclusive_set::Set>(rt.alloc(), &["0..=4", "5..=9", "3..=6"])?;
+    let sets = inclusive_set::Set::make_all(rt.alloc(), &["0..=4", "5..=9", "3..=6"])?;
     check_laws(
         rt.alloc(),
         sets.as_slice(),

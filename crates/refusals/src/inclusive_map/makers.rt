@@ -1,13 +1,12 @@
 //! Maps over closed ranges that are made of pairs and of other maps, with each request for memory
 //! refused in its turn.
 
-use crate::trials::makers::check_makers;
-use crate::trials::maps::is_made;
 use crate::trials::{Answer, Trial, check_trial, replays};
+use crate::tried::Tried;
 use rangemap::RangeInclusiveMap;
 use rangemap::inclusive_map::{replay, replay_with_step_fns};
 use refusing::Refusing;
-use rows::{CostlyMap, Heap, InRows, MANY, SignedSteps, calls_of, changes_of};
+use rows::{CostlyMap, Heap, InRows, MANY, SignedSteps, Tested, changes_of};
 use std::test::Fail;
 
 /// What is left of a range about another inside it.
@@ -21,7 +20,7 @@ impl Trial for From {
         let outer = CostlyMap::range(heap, "0..=9")?;
         let inner = CostlyMap::range(heap, "3..=5")?;
         heap.refuse_after(left);
-        is_made(
+        CostlyMap::is_made(
             RangeInclusiveMap::from(heap, [(outer, 'a'), (inner, 'b')]),
             STORED,
         )
@@ -37,7 +36,7 @@ struct Replay;
 impl Trial for Replay {
     fn is_accepted(&self, heap: &Heap, left: u64) -> Answer {
         let mut maps: Vec<Bytes<'_>, &Heap> = Vec::new(heap);
-        let calls = calls_of::<Bytes<'_>>(heap, "new, insert 0..=255 true, clone")?;
+        let calls = Bytes::calls_of(heap, "new, insert 0..=255 true, clone")?;
         heap.refuse_after(left);
         let answers = replay(heap, &mut maps, calls);
         replays::is_accepted(&answers, maps.as_slice(), 2, left)
@@ -66,7 +65,7 @@ fn what_makes_a_map_may_be_refused(rt: HostRuntime) -> Result<(), Fail> {
     // of `extend` and `from_iter` the first growth, and a clone of the stored end of each piece of
     // the first pair; of `from` a list too
     let kept = ["", "0..=9 a", "0..=9 a"];
-    check_makers::<CostlyMap<'_>>(&heap, "0..=9 a + 3..=5 b", &kept, STORED)?;
+    CostlyMap::check_makers(&heap, &heap, "0..=9 a + 3..=5 b", &kept, STORED)?;
     check_trial(&heap, &From, 4)?;
     // of a replay, which changes nothing without room, three lists, and that of each map
     check_trial(&heap, &Replay, 5)?;

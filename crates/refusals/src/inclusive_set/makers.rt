@@ -1,13 +1,13 @@
 //! Closed sets that are made of ranges and of other sets, with each request for memory refused in
 //! its turn.
 
-use crate::trials::maps::is_made;
-use crate::trials::sets::{check_growths, check_makers};
+use crate::trials::sets::check_growths;
 use crate::trials::{Answer, Trial, check_trial, replays};
+use crate::tried::Tried;
 use rangemap::RangeInclusiveSet;
 use rangemap::inclusive_set::{replay, replay_with_step_fns};
 use refusing::Refusing;
-use rows::{CostlySet, Heap, InRows, MANY, SignedSteps, changes_of, set_calls_of};
+use rows::{CostlySet, Heap, InRows, MANY, SignedSteps, Tested, changes_of};
 use std::test::Fail;
 
 /// A set of numbers.
@@ -34,10 +34,11 @@ const HUNDRED: &str =
 fn a_refused_extend_keeps_what_came_before(rt: HostRuntime) -> Result<(), Fail> {
     let heap = Refusing::new(rt.alloc(), MANY);
     // Each of five growths doubles the room, so one is refused after some ranges were kept.
-    check_growths::<Numbers<'_>>(&heap, HUNDRED, 5)?;
+    check_growths::<Numbers<'_>>(&heap, &heap, HUNDRED, 5)?;
     // The first range takes a list, and each other is joined with what is stored, which clones both
     // ends.
-    check_makers::<CostlySet<'_>>(
+    CostlySet::check_makers(
+        &heap,
         &heap,
         "0..=4 + 5..=9 + 10..=14",
         &["", "0..=4", "0..=4", "0..=9", "0..=9"],
@@ -53,7 +54,7 @@ impl Trial for From {
         let first = CostlySet::range(heap, "0..=4")?;
         let second = CostlySet::range(heap, "9..=255")?;
         heap.refuse_after(left);
-        is_made(
+        CostlySet::is_made(
             RangeInclusiveSet::from(heap, [first, second]),
             "0..=4, 9..=255",
         )
@@ -69,10 +70,7 @@ struct Replay;
 impl Trial for Replay {
     fn is_accepted(&self, heap: &Heap, left: u64) -> Answer {
         let mut sets: Vec<Bytes<'_>, &Heap> = Vec::new(heap);
-        let calls = set_calls_of::<Bytes<'_>>(
-            heap,
-            "new, insert 0..=255, union 0 0, intersection 0 1",
-        )?;
+        let calls = Bytes::calls_of(heap, "new, insert 0..=255, union 0 0, intersection 0 1")?;
         heap.refuse_after(left);
         let answers = replay(heap, &mut sets, calls);
         replays::is_accepted(&answers, sets.as_slice(), 3, left)
@@ -101,7 +99,7 @@ fn what_makes_a_set_may_be_refused(rt: HostRuntime) -> Result<(), Fail> {
     // two lists
     check_trial(&heap, &From, 2)?;
     let list = "0..=4, 10..=14, 20..=24";
-    check_makers::<Numbers<'_>>(&heap, "0..=4 + 10..=14 + 20..=24", &[""], list)?;
+    Numbers::check_makers(&heap, &heap, "0..=4 + 10..=14 + 20..=24", &[""], list)?;
     // of a replay, which changes nothing without room, three lists, and that of each set
     check_trial(&heap, &Replay, 6)?;
     check_trial(&heap, &ReplayWithStepFns, 5)

@@ -17,5 +17,10 @@ fn each_request_may_be_refused(rt: HostRuntime) -> Result<(), Fail> {
         "0..=7, 9..=255",
         "4..=4, 11..=12",
     );
-    check_refusals::<Closed<Costly<'_>>, Costly<'_>, RangeInclusive<Costly<'_>>>(&heap, row, (2, 5))
+    check_refusals::<Closed<Costly<'_>>, Costly<'_>, RangeInclusive<Costly<'_>>, _>(
+        &heap,
+        &heap,
+        row,
+        (2, 5),
+    )
 }

@@ -1,12 +1,11 @@
 //! Maps that are made of pairs and of other maps, with each request for memory refused in its turn.
 
-use crate::trials::makers::check_makers;
-use crate::trials::maps::is_made;
 use crate::trials::{Answer, Trial, check_trial, replays};
+use crate::tried::Tried;
 use rangemap::RangeMap;
 use rangemap::map::replay;
 use refusing::Refusing;
-use rows::{Heap, MANY, Texts, calls_of};
+use rows::{Heap, MANY, Tested, Texts};
 use std::test::Fail;
 
 /// Pairs that are given.
@@ -20,7 +19,7 @@ pub const MADE: &str = "0..3 a, 3..6 b, 6..10 a, 20..25 c";
 #[test]
 fn an_extend_keeps_what_the_inserts_keep(rt: HostRuntime) -> Result<(), Fail> {
     let heap = Refusing::new(rt.alloc(), MANY);
-    check_makers::<Texts<'_>>(&heap, GIVEN, &["", "0..10 a", "0..10 a"], MADE)
+    Texts::check_makers(&heap, &heap, GIVEN, &["", "0..10 a", "0..10 a"], MADE)
 }
 
 /// A map made of two pairs.
@@ -32,7 +31,7 @@ impl Trial for From {
         let second = String::from_str(heap, "b")?;
         heap.refuse_after(left);
         let made = RangeMap::from(heap, [(0u32..10, first), (3..6, second)]);
-        is_made(made, "0..3 a, 3..6 b, 6..10 a")
+        Texts::is_made(made, "0..3 a, 3..6 b, 6..10 a")
     }
 }
 
@@ -45,7 +44,7 @@ struct Replay;
 impl Trial for Replay {
     fn is_accepted(&self, heap: &Heap, left: u64) -> Answer {
         let mut maps: Vec<Numbers<'_>, &Heap> = Vec::new(heap);
-        let calls = calls_of::<Numbers<'_>>(heap, "new, insert 0..10 a, clone, remove 4..5")?;
+        let calls = Numbers::calls_of(heap, "new, insert 0..10 a, clone, remove 4..5")?;
         heap.refuse_after(left);
         let answers = replay(heap, &mut maps, calls);
         replays::is_accepted(&answers, maps.as_slice(), 2, left)

@@ -1,13 +1,13 @@
 //! Sets that are made of ranges and of other sets, with each request for memory refused in its
 //! turn.
 
-use crate::trials::maps::is_made;
-use crate::trials::sets::{check_growths, check_makers};
+use crate::trials::sets::check_growths;
 use crate::trials::{Answer, Trial, check_trial, replays};
+use crate::tried::Tried;
 use rangemap::RangeSet;
 use rangemap::set::replay;
 use refusing::Refusing;
-use rows::{HalfOpenCostlySet, Heap, InRows, MANY, set_calls_of};
+use rows::{HalfOpenCostlySet, Heap, InRows, MANY, Tested};
 use std::test::Fail;
 
 /// A set of numbers.
@@ -33,10 +33,11 @@ const HUNDRED: &str =
 fn a_refused_extend_keeps_what_came_before(rt: HostRuntime) -> Result<(), Fail> {
     let heap = Refusing::new(rt.alloc(), MANY);
     // Each of five growths doubles the room, so one is refused after some ranges were kept.
-    check_growths::<Numbers<'_>>(&heap, HUNDRED, 5)?;
+    check_growths::<Numbers<'_>>(&heap, &heap, HUNDRED, 5)?;
     // The first range takes a list, and each other is joined with what is stored, which clones both
     // ends.
-    check_makers::<HalfOpenCostlySet<'_>>(
+    HalfOpenCostlySet::check_makers(
+        &heap,
         &heap,
         "0..5 + 5..10 + 10..15",
         &["", "0..5", "0..5", "0..10", "0..10"],
@@ -52,7 +53,7 @@ impl Trial for From {
         let first = HalfOpenCostlySet::range(heap, "0..5")?;
         let second = HalfOpenCostlySet::range(heap, "7..10")?;
         heap.refuse_after(left);
-        is_made(RangeSet::from(heap, [first, second]), "0..5, 7..10")
+        HalfOpenCostlySet::is_made(RangeSet::from(heap, [first, second]), "0..5, 7..10")
     }
 }
 
@@ -62,7 +63,7 @@ struct Replay;
 impl Trial for Replay {
     fn is_accepted(&self, heap: &Heap, left: u64) -> Answer {
         let mut sets: Vec<Numbers<'_>, &Heap> = Vec::new(heap);
-        let calls = set_calls_of::<Numbers<'_>>(
+        let calls = Numbers::calls_of(
             heap,
             "new, insert 0..10, clone, union 0 1, intersection 0 1",
         )?;
@@ -78,7 +79,7 @@ fn what_makes_a_set_may_be_refused(rt: HostRuntime) -> Result<(), Fail> {
     // two lists
     check_trial(&heap, &From, 2)?;
     let list = "0..5, 10..15, 20..25";
-    check_makers::<Numbers<'_>>(&heap, "0..5 + 10..15 + 20..25", &[""], list)?;
+    Numbers::check_makers(&heap, &heap, "0..5 + 10..15 + 20..25", &[""], list)?;
     // of a replay, which changes nothing without room, three lists, and that of each set
     check_trial(&heap, &Replay, 7)
 }

@@ -12,5 +12,5 @@ use std::test::Fail;
 fn each_request_may_be_refused(rt: HostRuntime) -> Result<(), Fail> {
     let heap = Refusing::new(rt.alloc(), MANY);
     let row = ("0..3, 7..10", "2..5, 9..13", "0..5, 7..13", "2..3, 9..10");
-    check_refusals::<HalfOpen, Costly<'_>, Range<Costly<'_>>>(&heap, row, (2, 5))
+    check_refusals::<HalfOpen, Costly<'_>, Range<Costly<'_>>, _>(&heap, &heap, row, (2, 5))
 }

@@ -3,12 +3,11 @@
 
 use crate::map::makers::{GIVEN, MADE};
 use crate::trials::appends::check_append_refusals;
-use crate::trials::makers::check_makers;
-use crate::trials::maps::is_made;
 use crate::trials::{Answer, Trial, check_trial, replays};
+use crate::tried::Tried;
 use rangemap::tree_map::{RangeMap, replay};
 use refusing::Refusing;
-use rows::{CostlyMap, CostlyTree, Heap, InRows, MANY, TreeTexts, calls_of};
+use rows::{CostlyMap, CostlyTree, Heap, InRows, MANY, Tested, TreeTexts};
 use std::test::Fail;
 
 /// What is left of a range about another inside it.
@@ -18,9 +17,10 @@ const INSERTED: &str = "0..2 a, 2..5 b, 5..10 a";
 fn an_extend_keeps_what_the_inserts_keep(rt: HostRuntime) -> Result<(), Fail> {
     let heap = Refusing::new(rt.alloc(), MANY);
     // The first pair takes the tree. The second, inside it, takes a clone of its text.
-    check_makers::<TreeTexts<'_>>(&heap, GIVEN, &["", "0..10 a"], MADE)?;
+    TreeTexts::check_makers(&heap, &heap, GIVEN, &["", "0..10 a"], MADE)?;
     // The first pair takes the tree and a key, the second what an insert inside it takes.
-    check_makers::<CostlyTree<'_>>(
+    CostlyTree::check_makers(
+        &heap,
         &heap,
         "0..10 a + 2..5 b",
         &[
@@ -38,7 +38,7 @@ impl Trial for From {
         let outer = CostlyTree::range(heap, "0..10")?;
         let inner = CostlyTree::range(heap, "2..5")?;
         heap.refuse_after(left);
-        is_made(RangeMap::from(heap, [(outer, 'a'), (inner, 'b')]), INSERTED)
+        CostlyTree::is_made(RangeMap::from(heap, [(outer, 'a'), (inner, 'b')]), INSERTED)
     }
 }
 
@@ -48,7 +48,7 @@ struct Replay;
 impl Trial for Replay {
     fn is_accepted(&self, heap: &Heap, left: u64) -> Answer {
         let mut maps: Vec<CostlyTree<'_>, &Heap> = Vec::new(heap);
-        let calls = calls_of::<CostlyTree<'_>>(heap, "new, insert 0..10 a, clone, remove 2..5")?;
+        let calls = CostlyTree::calls_of(heap, "new, insert 0..10 a, clone, remove 2..5")?;
         heap.refuse_after(left);
         let answers = replay(heap, &mut maps, calls);
         replays::is_accepted(&answers, maps.as_slice(), 2, left)
@@ -71,6 +71,6 @@ fn a_refused_append_leaves_the_list(rt: HostRuntime) -> Result<(), Fail> {
     let heap = Refusing::new(rt.alloc(), MANY);
     let twice = "0..2 a, 5..10 a, 0..2 a, 5..10 a";
     let row = ("0..2 a, 5..10 a", "0..2 a + 5..10 a", twice);
-    check_append_refusals::<CostlyTree<'_>>(&heap, row, "1..6", 4)?;
-    check_append_refusals::<CostlyMap<'_>>(&heap, row, "1..6", 4)
+    check_append_refusals::<CostlyTree<'_>>(&heap, &heap, row, "1..6", 4)?;
+    check_append_refusals::<CostlyMap<'_>>(&heap, &heap, row, "1..6", 4)
 }

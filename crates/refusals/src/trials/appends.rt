@@ -13,39 +13,45 @@ pub type Row<'t> = (&'t str, &'t str, &'t str);
 
 /// Appends all pairs of a map, and those that a query overlaps, which has to overlap all, with each
 /// request refused in its turn, and compares how many are made. No block of a list may stay held.
-pub fn check_append_refusals<'a, M: InRows<Alloc = &'a Heap>>(
-    heap: &'a Heap,
+pub fn check_append_refusals<M: InRows>(
+    heap: &Heap,
+    alloc: M::Alloc,
     row: Row<'_>,
     query: &str,
     requests: u64,
 ) -> Result<(), Fail>
+where
+    M::Alloc: Copy,
     requires faithful_keys { KeysCloneFaithfully M.Key.is_clone M.Key.cmp }
     requires faithful_values { ValuesCloneFaithfully M.Value.is_clone M.Value.eq }
 {
-    let map: M = made_of(heap, row.0)?;
-    let query = M::range(heap, query)?;
+    let map: M = made_of(alloc, row.0)?;
+    let query = M::range(alloc, query)?;
     let held = heap.held();
     for left in 0..=requests {
         let is_granted = left == requests;
-        let is_found = try_append_overlapping(heap, &map, &query, row, left)?;
+        let is_found = try_append_overlapping(heap, alloc, &map, &query, row, left)?;
         check_turn(heap, held, is_found == is_granted)?;
-        let is_told = try_append_all(heap, &map, row, left)?;
+        let is_told = try_append_all(heap, alloc, &map, row, left)?;
         check_turn(heap, held, is_told == is_granted)?;
     }
     Ok(())
 }
 
 /// Tries `append_all`.
-fn try_append_all<'a, M: InRows<Alloc = &'a Heap>>(
-    heap: &'a Heap,
+fn try_append_all<M: InRows>(
+    heap: &Heap,
+    alloc: M::Alloc,
     map: &M,
     row: Row<'_>,
     left: u64,
 ) -> Answer
+where
+    M::Alloc: Copy,
     requires faithful_keys { KeysCloneFaithfully M.Key.is_clone M.Key.cmp }
     requires faithful_values { ValuesCloneFaithfully M.Value.is_clone M.Value.eq }
 {
-    let mut list = pairs_of::<M>(heap, row.1)?;
+    let mut list = pairs_of::<M>(alloc, row.1)?;
     heap.refuse_after(left);
     let answer = map.append_all(&mut list);
     heap.refuse_after(MANY);
@@ -53,17 +59,20 @@ fn try_append_all<'a, M: InRows<Alloc = &'a Heap>>(
 }
 
 /// Tries `append_overlapping`.
-fn try_append_overlapping<'a, M: InRows<Alloc = &'a Heap>>(
-    heap: &'a Heap,
+fn try_append_overlapping<M: InRows>(
+    heap: &Heap,
+    alloc: M::Alloc,
     map: &M,
     query: &M::Range,
     row: Row<'_>,
     left: u64,
 ) -> Answer
+where
+    M::Alloc: Copy,
     requires faithful_keys { KeysCloneFaithfully M.Key.is_clone M.Key.cmp }
     requires faithful_values { ValuesCloneFaithfully M.Value.is_clone M.Value.eq }
 {
-    let mut list = pairs_of::<M>(heap, row.1)?;
+    let mut list = pairs_of::<M>(alloc, row.1)?;
     heap.refuse_after(left);
     let answer = map.append_overlapping(query, &mut list);
     heap.refuse_after(MANY);

@@ -13,15 +13,18 @@ pub type Row<'t> = (&'t str, &'t str, &'t str, u64);
 
 /// Asks a container for the first of two gaps, with each request refused in its turn, and compares
 /// how many are made. No block of a gap may stay held.
-pub fn check_gap_refusals<'a, M: InRows<Alloc = &'a Heap> + LeaveGaps>(
-    heap: &'a Heap,
+pub fn check_gap_refusals<M: InRows + LeaveGaps>(
+    heap: &Heap,
+    alloc: M::Alloc,
     row: Row<'_>,
 ) -> Result<(), Fail>
+where
+    M::Alloc: Copy,
     requires faithful_keys { KeysCloneFaithfully M.Key.is_clone M.Key.cmp }
     requires faithful_values { ValuesCloneFaithfully M.Value.is_clone M.Value.eq }
 {
-    let map: M = made_of(heap, row.0)?;
-    let outer_range = M::range(heap, row.1)?;
+    let map: M = made_of(alloc, row.0)?;
+    let outer_range = M::range(alloc, row.1)?;
     let held = heap.held();
     for left in 0..=row.3 {
         let gaps = (map.gaps(&outer_range), map.gaps(&outer_range));

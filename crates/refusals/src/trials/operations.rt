@@ -9,6 +9,7 @@ use rangemap::range_set::Set;
 use rangemap_maps::kinds::OwnSteps;
 use rangemap_operations::set_range::{SetKind, SetRange};
 use rows::{FromEnds, Heap, MANY, Word, made_of};
+use std::alloc::Allocator;
 use std::test::Fail;
 
 /// Two sets of two ranges, the two items of their union, and those of their intersection.
@@ -16,19 +17,21 @@ pub type Row<'t> = (&'t str, &'t str, &'t str, &'t str);
 
 /// Tries both iterators and both operators on the sets of a row, with each request refused in its
 /// turn, and compares how many an item makes and how many a set. No block may stay held.
-pub fn check_refusals<'a, Q, T, R>(
-    heap: &'a Heap,
+pub fn check_refusals<Q, T, R, A>(
+    heap: &Heap,
+    alloc: A,
     row: Row<'_>,
     requests: (u64, u64),
 ) -> Result<(), Fail>
 where
     Q: OwnSteps<T, R> + SetKind<T, R>,
-    T: Ord + Clone + Word<&'a Heap>,
+    T: Ord + Clone + Word<A>,
     R: SetRange<Key = T> + FromEnds<T>,
+    A: Allocator + Copy,
     requires { KeysCloneFaithfully T.is_clone T.cmp }
 {
-    let one: Set<Q, T, R, &'a Heap> = made_of(heap, row.0)?;
-    let other: Set<Q, T, R, &'a Heap> = made_of(heap, row.1)?;
+    let one: Set<Q, T, R, A> = made_of(alloc, row.0)?;
+    let other: Set<Q, T, R, A> = made_of(alloc, row.1)?;
     let held = heap.held();
     for left in 0..=requests.1 {
         let are_given = try_items(heap, &one, &other, row, left)?;
@@ -40,23 +43,24 @@ where
 }
 
 /// Tries the items of the union and of the intersection, which are refused alike.
-fn try_items<'a, Q, T, R>(
-    heap: &'a Heap,
-    one: &Set<Q, T, R, &'a Heap>,
-    other: &Set<Q, T, R, &'a Heap>,
+fn try_items<Q, T, R, A>(
+    heap: &Heap,
+    one: &Set<Q, T, R, A>,
+    other: &Set<Q, T, R, A>,
     row: Row<'_>,
     left: u64,
 ) -> Answer
 where
     Q: OwnSteps<T, R> + SetKind<T, R>,
-    T: Ord + Clone + Word<&'a Heap>,
+    T: Ord + Clone + Word<A>,
     R: SetRange<Key = T> + FromEnds<T>,
+    A: Allocator + Copy,
     requires { KeysCloneFaithfully T.is_clone T.cmp }
 {
     let items = (one.union(other), one.union(other));
-    let is_either = try_both::<Set<Q, T, R, &'a Heap>, _>(heap, items, row.2, left)?;
+    let is_either = try_both::<Set<Q, T, R, A>, _>(heap, items, row.2, left)?;
     let items = (one.intersection(other), one.intersection(other));
-    let is_common = try_both::<Set<Q, T, R, &'a Heap>, _>(heap, items, row.3, left)?;
+    let is_common = try_both::<Set<Q, T, R, A>, _>(heap, items, row.3, left)?;
     check_that(
         is_either == is_common,
         "an intersection is refused otherwise",
@@ -65,17 +69,18 @@ where
 }
 
 /// Tries `|` and `&`, which make a set of the row or nothing, and are refused alike.
-fn try_sets<'a, Q, T, R>(
-    heap: &'a Heap,
-    one: &Set<Q, T, R, &'a Heap>,
-    other: &Set<Q, T, R, &'a Heap>,
+fn try_sets<Q, T, R, A>(
+    heap: &Heap,
+    one: &Set<Q, T, R, A>,
+    other: &Set<Q, T, R, A>,
     row: Row<'_>,
     left: u64,
 ) -> Answer
 where
     Q: OwnSteps<T, R> + SetKind<T, R>,
-    T: Ord + Clone + Word<&'a Heap>,
+    T: Ord + Clone + Word<A>,
     R: SetRange<Key = T> + FromEnds<T>,
+    A: Allocator + Copy,
     requires { KeysCloneFaithfully T.is_clone T.cmp }
 {
     heap.refuse_after(left);

@@ -3,7 +3,7 @@
 
 use super::Map;
 use rangemap::RangeInclusiveMap;
-use rows::{check_counted_back, check_each, check_text, check_three};
+use rows::{check_counted_back, check_text, check_three};
 use std::test::Fail;
 
 #[test]
@@ -27,7 +27,11 @@ fn a_chain_is_taken(rt: HostRuntime) -> Result<(), Fail> {
         rt.alloc(),
         (0..3u32).map(|i| (10 * i..=10 * i + 9, 'b')),
     )?;
-    check_each(&[extended, made], &["0..=4 a, 10..=14 a", "0..=29 b"])
+    check_text(
+        rt.alloc(),
+        &(extended, made),
+        "({0..=4: 'a', 10..=14: 'a'}, {0..=29: 'b'})",
+    )
 }
 
 #[test]

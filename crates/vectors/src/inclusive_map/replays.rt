@@ -1,39 +1,32 @@
 //! Rows over closed ranges made by both replays, where every call is accepted.
 
 use super::steps::SignedMap;
-use rangemap::RangeInclusiveMap;
+use super::{Bytes, SignedBytes};
 use rangemap::inclusive_map::{replay, replay_with_step_fns};
-use rows::{calls_of, changes_of, check_replayed};
-use std::alloc::Global;
+use rows::{Tested, changes_of};
 use std::test::Fail;
-
-/// A map over bytes.
-type Bytes = RangeInclusiveMap<u8, bool, u8, Global>;
-
-/// A map over signed bytes by their own steps.
-type SignedBytes = RangeInclusiveMap<i8, bool, i8, Global>;
 
 #[test]
 fn bytes_go_to_their_end(rt: HostRuntime) -> Result<(), Fail> {
-    let calls = calls_of::<Bytes>(
+    let calls = Bytes::calls_of(
         rt.alloc(),
         "new, insert 0..=127 false, insert 128..=255 true, insert 128..=255 false",
     )?;
     let mut maps: Vec<Bytes, _> = Vec::new(rt.alloc());
     let answers = replay(rt.alloc(), &mut maps, calls);
-    check_replayed(answers, "++++", maps.as_slice(), &["0..=255 false"])
+    Bytes::check_replayed(answers, "++++", maps.as_slice(), &["0..=255 false"])
 }
 
 #[test]
 fn ends_are_removed(rt: HostRuntime) -> Result<(), Fail> {
-    let calls = calls_of::<SignedBytes>(
+    let calls = SignedBytes::calls_of(
         rt.alloc(),
         "from -128..=127 true, clone, remove -128..=-128, remove 127..=127",
     )?;
     let mut maps: Vec<SignedBytes, _> = Vec::new(rt.alloc());
     let answers = replay(rt.alloc(), &mut maps, calls);
     let left = ["-127..=126 true", "-128..=127 true"];
-    check_replayed(answers, "++++", maps.as_slice(), &left)
+    SignedBytes::check_replayed(answers, "++++", maps.as_slice(), &left)
 }
 
 #[test]
@@ -45,7 +38,7 @@ fn changes_by_own_steps(rt: HostRuntime) -> Result<(), Fail> {
     )?;
     let mut maps: Vec<Bytes, _> = Vec::new(rt.alloc());
     let answers = replay_with_step_fns(rt.alloc(), &mut maps, changes);
-    check_replayed(answers, "++++++", maps.as_slice(), &["1..=254 false"])
+    Bytes::check_replayed(answers, "++++++", maps.as_slice(), &["1..=254 false"])
 }
 
 #[test]
@@ -58,5 +51,5 @@ fn changes_by_steps_of_another_type(rt: HostRuntime) -> Result<(), Fail> {
     let mut maps: Vec<SignedMap, _> = Vec::new(rt.alloc());
     let answers = replay_with_step_fns(rt.alloc(), &mut maps, changes);
     let left = ["-127..=126 true", "-128..=127 true", "-128..=127 true"];
-    check_replayed(answers, "+++++++", maps.as_slice(), &left)
+    SignedMap::check_replayed(answers, "+++++++", maps.as_slice(), &left)
 }

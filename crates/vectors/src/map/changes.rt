@@ -1,10 +1,7 @@
 //! Rows about `insert`, `remove` and `clear`.
 
-use super::{Map, TreeMap};
-use crate::noted::Noted;
-use rangemap::{RangeMap, tree_map};
-use rows::{Row, check_rows};
-use std::alloc::Global;
+use super::{Flags, Map, Notes, TreeFlags, TreeMap, TreeNotes};
+use rows::{Row, Tested};
 use std::test::Fail;
 
 #[test]
@@ -22,14 +19,14 @@ fn what_is_covered_is_replaced(rt: HostRuntime) -> Result<(), Fail> {
             "0..10 false",
         ),
     ];
-    check_rows::<RangeMap<u32, bool, Global>>(rt.alloc(), &rows)?;
-    check_rows::<tree_map::RangeMap<u32, bool, Global>>(rt.alloc(), &rows)
+    Flags::check_rows(rt.alloc(), &rows)?;
+    TreeFlags::check_rows(rt.alloc(), &rows)
 }
 
 #[test]
 fn pieces_are_kept_and_joined(rt: HostRuntime) -> Result<(), Fail> {
-    check_rows::<Map>(rt.alloc(), &PIECES)?;
-    check_rows::<TreeMap>(rt.alloc(), &PIECES)
+    Map::check_rows(rt.alloc(), &PIECES)?;
+    TreeMap::check_rows(rt.alloc(), &PIECES)
 }
 
 /// Rows for a map in a sorted vector and one in a tree.
@@ -108,6 +105,6 @@ fn the_newest_of_equal_values_stays(rt: HostRuntime) -> Result<(), Fail> {
         ("insert 0..4 x, insert 4..8 y", "holds", "0..8 y"),
         ("insert 0..4 x, insert 4..8 y", "at 0", "0..8 y"),
     ];
-    check_rows::<RangeMap<u32, Noted, Global>>(rt.alloc(), &rows)?;
-    check_rows::<tree_map::RangeMap<u32, Noted, Global>>(rt.alloc(), &rows)
+    Notes::check_rows(rt.alloc(), &rows)?;
+    TreeNotes::check_rows(rt.alloc(), &rows)
 }

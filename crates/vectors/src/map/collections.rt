@@ -2,7 +2,7 @@
 
 use crate::same::assert_same;
 use rangemap::RangeMap;
-use rows::{check_counted_back, check_each, check_text};
+use rows::{check_counted_back, check_text};
 use std::test::Fail;
 
 #[test]
@@ -11,13 +11,11 @@ fn pairs_are_inserted_in_order(rt: HostRuntime) -> Result<(), Fail> {
     let copy = extended.clone()?;
     extended.extend((1u32..3).map(|i| (10 * i..10 * i + 5, 'c')))?;
     let made = RangeMap::from_iter(rt.alloc(), (0u32..3).map(|i| (0..i + 1, 'd')))?;
-    check_each(
-        &[extended, copy, made],
-        &[
-            "0..3 a, 3..6 b, 6..10 a, 10..15 c, 20..25 c",
-            "0..3 a, 3..6 b, 6..10 a",
-            "0..3 d",
-        ],
+    check_text(
+        rt.alloc(),
+        &(extended, copy, made),
+        "({0..3: 'a', 3..6: 'b', 6..10: 'a', 10..15: 'c', 20..25: 'c'}, \
+        {0..3: 'a', 3..6: 'b', 6..10: 'a'}, {0..3: 'd'})",
     )
 }
 

@@ -2,13 +2,13 @@
 //! and the parts of it that are free.
 
 use super::{Map, TreeMap};
-use rows::{Row, check_rows, check_three, made_of};
+use rows::{Row, Tested, check_three};
 use std::test::Fail;
 
 #[test]
 fn what_is_asked_is_answered(rt: HostRuntime) -> Result<(), Fail> {
-    check_rows::<Map>(rt.alloc(), &ASKED)?;
-    check_rows::<TreeMap>(rt.alloc(), &ASKED)
+    Map::check_rows(rt.alloc(), &ASKED)?;
+    TreeMap::check_rows(rt.alloc(), &ASKED)
 }
 
 /// Rows for a map in a sorted vector and one in a tree.
@@ -55,10 +55,10 @@ const ASKED: [Row<'static>; 22] = [
 fn overlapping_pairs_come_from_both_ends(rt: HostRuntime) -> Result<(), Fail> {
     let stored = "0..2 a, 2..4 b, 4..6 a, 8..9 c";
     let query = 1..8;
-    let map: Map = made_of(rt.alloc(), stored)?;
+    let map = Map::made_of(rt.alloc(), stored)?;
     let found = ((&(0..2), &'a'), (&(2..4), &'b'), (&(4..6), &'a'));
     check_three(map.overlapping(&query), found, false)?;
-    let map: TreeMap = made_of(rt.alloc(), stored)?;
+    let map = TreeMap::made_of(rt.alloc(), stored)?;
     let found = ((&(0..2), &'a'), (&(2..4), &'b'), (&(4..6), &'a'));
     check_three(map.overlapping(&query), found, false)
 }

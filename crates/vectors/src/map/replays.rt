@@ -1,25 +1,21 @@
 //! Rows made by `replay`, where every call is accepted, and calls that name no map.
 
-use super::Map;
-use rangemap::RangeMap;
+use super::{Flags, Map};
 use rangemap::map::replay;
-use rows::{calls_of, check_replayed};
+use rows::Tested;
 use std::alloc::Global;
 use std::test::Fail;
 
-/// A map to truth values.
-type Flags = RangeMap<u32, bool, Global>;
-
 #[test]
 fn insert_inside_and_back(rt: HostRuntime) -> Result<(), Fail> {
-    let calls = calls_of::<Flags>(
+    let calls = Flags::calls_of(
         rt.alloc(),
         "new, insert 0..10 false, insert 3..6 true, clone, insert 3..6 false",
     )?;
     let mut maps: Vec<Flags, _> = Vec::new(rt.alloc());
     let answers = replay(rt.alloc(), &mut maps, calls);
     let left = ["0..10 false", "0..3 false, 3..6 true, 6..10 false"];
-    check_replayed(answers, "+++++", maps.as_slice(), &left)
+    Flags::check_replayed(answers, "+++++", maps.as_slice(), &left)
 }
 
 #[test]
@@ -49,6 +45,6 @@ fn maps_of_maps_and_of_pairs(rt: HostRuntime) -> Result<(), Fail> {
 /// Makes the calls, and compares which are accepted, and what the maps hold then.
 fn check_replay(alloc: Global, calls: &str, accepted: &str, lists: &[&str]) -> Result<(), Fail> {
     let mut maps: Vec<Map, _> = Vec::new(alloc);
-    let answers = replay(alloc, &mut maps, calls_of::<Map>(alloc, calls)?);
-    check_replayed(answers, accepted, maps.as_slice(), lists)
+    let answers = replay(alloc, &mut maps, Map::calls_of(alloc, calls)?);
+    Map::check_replayed(answers, accepted, maps.as_slice(), lists)
 }

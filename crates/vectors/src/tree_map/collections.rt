@@ -1,7 +1,7 @@
 //! Rows about maps in a tree that are made of pairs and of other maps, and that hand their pairs over.
 
 use rangemap::tree_map::RangeMap;
-use rows::{check_counted_back, check_each};
+use rows::{check_counted_back, check_text};
 use std::test::Fail;
 
 #[test]
@@ -10,13 +10,11 @@ fn a_map_is_made_of_pairs_and_of_a_map(rt: HostRuntime) -> Result<(), Fail> {
     let copy = extended.clone()?;
     extended.extend((1u32..3).map(|i| (10 * i..10 * i + 5, 'c')))?;
     let made = RangeMap::from_iter(rt.alloc(), (0u32..3).map(|i| (0..i + 1, 'd')))?;
-    check_each(
-        &[extended, copy, made],
-        &[
-            "0..3 a, 3..6 b, 6..10 a, 10..15 c, 20..25 c",
-            "0..3 a, 3..6 b, 6..10 a",
-            "0..3 d",
-        ],
+    check_text(
+        rt.alloc(),
+        &(extended, copy, made),
+        "({0..3: 'a', 3..6: 'b', 6..10: 'a', 10..15: 'c', 20..25: 'c'}, \
+        {0..3: 'a', 3..6: 'b', 6..10: 'a'}, {0..3: 'd'})",
     )
 }
 

@@ -1,12 +1,12 @@
 //! Rows about inserts and removals, and about equality after them.
 
 use super::{Bytes, Set};
-use rows::check_rows;
+use rows::Tested;
 use std::test::Fail;
 
 #[test]
 fn ranges_with_no_key_between_are_joined(rt: HostRuntime) -> Result<(), Fail> {
-    check_rows::<Set>(
+    Set::check_rows(
         rt.alloc(),
         &[
             ("insert 7..=7", "holds", "7..=7"),
@@ -41,7 +41,7 @@ fn ranges_with_no_key_between_are_joined(rt: HostRuntime) -> Result<(), Fail> {
 #[test]
 fn bytes_go_to_their_end(rt: HostRuntime) -> Result<(), Fail> {
     let ends = "insert 0..=9, insert 250..=255";
-    check_rows::<Bytes>(
+    Bytes::check_rows(
         rt.alloc(),
         &[
             (

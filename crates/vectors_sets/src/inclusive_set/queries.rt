@@ -3,14 +3,14 @@
 
 use super::Set;
 use crate::same::assert_same;
-use rows::{check_rows, check_three, made_of};
+use rows::{Tested, check_three};
 use std::process::Abort;
 use std::test::Fail;
 
 #[test]
 fn what_is_asked_is_answered(rt: HostRuntime) -> Result<(), Fail> {
     let two = "insert 0..=100, insert 200..=300";
-    check_rows::<Set>(
+    Set::check_rows(
         rt.alloc(),
         &[
             (two, "holds", "0..=100, 200..=300"),
@@ -33,7 +33,7 @@ fn what_is_asked_is_answered(rt: HostRuntime) -> Result<(), Fail> {
 
 #[test]
 fn gaps_lie_between_the_ranges(rt: HostRuntime) -> Result<(), Fail> {
-    let set: Set = made_of(rt.alloc(), "0..=100, 200..=300, 400..=500")?;
+    let set = Set::made_of(rt.alloc(), "0..=100, 200..=300, 400..=500")?;
     take_gaps(&rt, &set)
 }
 
@@ -53,7 +53,7 @@ fn take_gaps<R: Abort>(rt: &R, set: &Set) -> Result<(), Fail> {
 
 #[test]
 fn ranges_come_from_both_ends(rt: HostRuntime) -> Result<(), Fail> {
-    let set: Set = made_of(rt.alloc(), "0..=1, 3..=3, 5..=5, 8..=9")?;
+    let set = Set::made_of(rt.alloc(), "0..=1, 3..=3, 5..=5, 8..=9")?;
     let query = 1..=7;
     check_three(
         set.overlapping(&query),

@@ -2,7 +2,7 @@
 
 use super::{Bytes, Set};
 use rangemap::inclusive_set::{replay, replay_with_step_fns};
-use rows::{changes_of, check_replayed, set_calls_of};
+use rows::{Tested, changes_of};
 use std::test::Fail;
 
 #[test]
@@ -14,12 +14,12 @@ fn bytes_by_own_steps(rt: HostRuntime) -> Result<(), Fail> {
     )?;
     let answers = replay_with_step_fns(rt.alloc(), &mut sets, changes);
     let left = ["0..=9, 250..=255", "0..=255"];
-    check_replayed(answers, "+++++", sets.as_slice(), &left)
+    Bytes::check_replayed(answers, "+++++", sets.as_slice(), &left)
 }
 
 #[test]
 fn two_sets_are_put_together(rt: HostRuntime) -> Result<(), Fail> {
-    let calls = set_calls_of::<Set>(
+    let calls = Set::calls_of(
         rt.alloc(),
         "from 0..=4, from 5..=9, union 0 1, 1: extend 4..=4, intersection 0 1, 2: remove 3..=6, \
         clear, new, 4: insert 0..=9, 4: insert 250..=255, 4: clone, 5: insert 10..=249",
@@ -34,5 +34,5 @@ fn two_sets_are_put_together(rt: HostRuntime) -> Result<(), Fail> {
         "0..=9, 250..=255",
         "0..=255",
     ];
-    check_replayed(answers, "++++++++++++", sets.as_slice(), &left)
+    Set::check_replayed(answers, "++++++++++++", sets.as_slice(), &left)
 }

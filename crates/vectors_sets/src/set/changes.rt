@@ -1,12 +1,12 @@
 //! Rows about inserts and removals, and about equality after them.
 
 use super::Set;
-use rows::check_rows;
+use rows::Tested;
 use std::test::Fail;
 
 #[test]
 fn ranges_that_overlap_or_touch_are_joined(rt: HostRuntime) -> Result<(), Fail> {
-    check_rows::<Set>(
+    Set::check_rows(
         rt.alloc(),
         &[
             ("insert 0..5", "holds", "0..5"),

@@ -4,7 +4,7 @@ use super::Set;
 use super::replays::check_replay;
 use rangemap::RangeSet;
 use rangemap::set::{Intersection, Iter, Union};
-use rows::{check_listed, check_text, made_of};
+use rows::{Tested, check_listed, check_text};
 use std::alloc::Global;
 use std::test::Fail;
 
@@ -43,7 +43,7 @@ fn both_sets_are_put_together(rt: HostRuntime) -> Result<(), Fail> {
 /// Compares the items and the sets that each row has.
 fn check_operations(alloc: Global, rows: &[Row<'_>]) -> Result<(), Fail> {
     for (left, right, hulls, either, common, both) in rows {
-        let (left, right): (Set, Set) = (made_of(alloc, *left)?, made_of(alloc, *right)?);
+        let (left, right) = (Set::made_of(alloc, *left)?, Set::made_of(alloc, *right)?);
         check_listed(alloc, left.union(&right), *hulls)?;
         check_text(alloc, &(&left | &right)?, *either)?;
         check_listed(alloc, left.intersection(&right), *common)?;

@@ -2,14 +2,14 @@
 //! the parts of it that are free.
 
 use super::Set;
-use rows::{check_rows, check_three, made_of};
+use rows::{Tested, check_three};
 use std::test::Fail;
 
 #[test]
 fn what_is_asked_is_answered(rt: HostRuntime) -> Result<(), Fail> {
     let two = "insert 0..100, insert 200..300";
     let apart = "insert 1..3, insert 5..7";
-    check_rows::<Set>(
+    Set::check_rows(
         rt.alloc(),
         &[
             (two, "holds", "0..100, 200..300"),
@@ -42,7 +42,7 @@ fn what_is_asked_is_answered(rt: HostRuntime) -> Result<(), Fail> {
 
 #[test]
 fn ranges_come_from_both_ends(rt: HostRuntime) -> Result<(), Fail> {
-    let set: Set = made_of(rt.alloc(), "0..2, 3..4, 5..6, 8..9")?;
+    let set = Set::made_of(rt.alloc(), "0..2, 3..4, 5..6, 8..9")?;
     let query = 1..8;
     check_three(set.overlapping(&query), (&(0..2), &(3..4), &(5..6)), false)
 }

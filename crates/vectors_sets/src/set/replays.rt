@@ -2,7 +2,7 @@
 
 use super::Set;
 use rangemap::set::replay;
-use rows::{check_replayed, set_calls_of};
+use rows::Tested;
 use std::alloc::Global;
 use std::test::Fail;
 
@@ -14,8 +14,8 @@ pub fn check_replay(
     lists: &[&str],
 ) -> Result<(), Fail> {
     let mut sets: Vec<Set, _> = Vec::new(alloc);
-    let answers = replay(alloc, &mut sets, set_calls_of::<Set>(alloc, calls)?);
-    check_replayed(answers, accepted, sets.as_slice(), lists)
+    let answers = replay(alloc, &mut sets, Set::calls_of(alloc, calls)?);
+    Set::check_replayed(answers, accepted, sets.as_slice(), lists)
 }
 
 #[test]
