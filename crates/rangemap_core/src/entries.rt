@@ -13,6 +13,7 @@ use crate::kind::Kind;
 use crate::probe::Probe;
 use crate::search::count_up_to;
 
+pub mod changes;
 pub mod clones;
 pub mod compare;
 pub mod hash;

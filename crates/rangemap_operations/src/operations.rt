@@ -15,6 +15,7 @@ use std::alloc::AllocError;
 use std::iter::Iterator;
 use std::marker::{Model, PhantomData};
 
+pub mod inserts;
 pub mod intersection;
 pub mod item;
 pub mod union;

@@ -1,13 +1,12 @@
 //! Union and intersection of two sets: as iterators, and as sets.
-ghost use Rattle.std.specs.Prelude.{◌≡◌, [], ◌++◌, OnOk};
-ghost use Rattle.rangemap.specs.Clones.{KeysCloneFaithfully};
-ghost use Rattle.rangemap.specs.Sets.{Adds, AreCommon, AreHulls, CoverEither};
+ghost use Rattle.std.specs.Prelude.{◌++◌};
+ghost use Rattle.rangemap.specs.Sets.{AreCommon, AreHulls, CoverEither};
 
 use super::Set;
 use rangemap_maps::kinds::OwnSteps;
+use rangemap_operations::operations::inserts::insert_items;
 use rangemap_operations::operations::intersection::Intersection;
 use rangemap_operations::operations::union::Union;
-use rangemap_operations::operations::{Combined, Operation};
 use rangemap_operations::set_range::{SetKind, SetRange};
 use std::alloc::{AllocError, Allocator};
 use std::ops::{BitAnd, BitOr};
@@ -47,21 +46,6 @@ impl<Q: SetKind<T, R>, T: Ord + Clone, R: SetRange<Key = T>, A: Allocator> Set<Q
     {
         Intersection::new(self.iter(), other.iter())
     }
-
-    // Inserts the items of a union or an intersection.
-    fn insert_items<O: Operation<R>>(
-        &mut self,
-        mut items: Combined<'_, O, R>,
-    ) -> Result<(), AllocError>
-        requires faithful_keys { KeysCloneFaithfully T.is_clone T.cmp }
-        ensures { OnOk result (Adds Q.kind self.old items.entry self.new) }
-    {
-        let _ = self.iter();
-        while let Some(item) = items.try_next()? {
-            self.insert(item)?;
-        }
-        Ok(())
-    }
 }
 
 impl<
@@ -88,7 +72,7 @@ impl<
     /// `Err` says that memory or a clone was refused.
     fn bitor(self, other: &'a Set<Q, T, R, A>) -> Result<Set<Q, T, R, A>, AllocError> {
         let mut all = Set::new(self.pairs.allocator().clone()?);
-        all.insert_items(self.union(other))?;
+        insert_items(&mut all.pairs, self.union(other))?;
         Ok(all)
     }
 }
@@ -117,7 +101,7 @@ impl<
     /// `Err` says that memory or a clone was refused.
     fn bitand(self, other: &'a Set<Q, T, R, A>) -> Result<Set<Q, T, R, A>, AllocError> {
         let mut all = Set::new(self.pairs.allocator().clone()?);
-        all.insert_items(self.intersection(other))?;
+        insert_items(&mut all.pairs, self.intersection(other))?;
         Ok(all)
     }
 }

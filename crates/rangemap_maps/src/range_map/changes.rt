@@ -5,11 +5,7 @@ ghost use Rattle.rangemap_core.specs.Ranges.{IsCanonOf, erase, overlapped, overr
 
 use super::Map;
 use crate::kinds::Stored;
-use rangemap_core::entries::pieces::piece;
-use rangemap_core::entries::stretch::{left_side, middle, right_side, stretch};
-use rangemap_core::kind::{Endpoint, known_ends};
-use rangemap_core::overlapping::overlap;
-use rangemap_core::splice::splice;
+use rangemap_core::entries::changes;
 use std::alloc::{AllocError, Allocator};
 
 impl<Q: Stored<K, R>, K: Ord + Clone, R: Drop, V: Eq + Clone, A: Allocator> Map<Q, K, R, V, A> {
@@ -47,28 +43,7 @@ impl<Q: Stored<K, R>, K: Ord + Clone, R: Drop, V: Eq + Clone, A: Allocator> Map<
         ensures growth { OnOk result (length self.new ≤ length self.old + 2) }
         ensures growth_where_all_are_equal { OnOk result (((v w : V) → V.eq v w ≡ true) → length self.new ≤ length self.old + 1) }
     {
-        known_ends::<Q, K, R>(&range);
-        let pairs = self.pairs.as_slice();
-        let (start, end) = stretch::<Q, K, R, V>(pairs, &range, &value);
-        let left = left_side::<Q, K, R, V>(pairs, start, end, &range, &value)?;
-        let right = right_side::<Q, K, R, V>(pairs, start, end, &range, &value)?;
-        let middle = middle::<Q, K, R, V>(
-            pairs,
-            start,
-            end,
-            left.is_taken,
-            right.is_taken,
-            range,
-            &value,
-        )?;
-        splice(
-            &mut self.pairs,
-            start,
-            end,
-            left.piece,
-            Some((middle, value)),
-            right.piece,
-        )
+        changes::insert::<Q, K, R, V, A>(&mut self.pairs, range, value)
     }
 
     /// Takes every key of `range` out.
@@ -101,21 +76,7 @@ impl<Q: Stored<K, R>, K: Ord + Clone, R: Drop, V: Eq + Clone, A: Allocator> Map<
         ensures growth { OnOk result (length self.new ≤ length self.old + 1) }
         ensures meets_nothing { overlapped Q.kind self.old range ≡ [] → IsOk result × (self.new ≡ self.old) }
     {
-        known_ends::<Q, K, R>(&range);
-        let pairs = self.pairs.as_slice();
-        let (start, end) = overlap::<Q, K, R, V>(pairs, &range);
-        if start == end {
-            return Ok(());
-        }
-        let first = &pairs[start];
-        let before = Endpoint::Start(&first.0);
-        let from = Endpoint::Start(&range);
-        let left = piece::<Q, K, R, V>(before, from, &first.1)?;
-        let last = &pairs[end - 1];
-        let to = Endpoint::End(&range);
-        let behind = Endpoint::End(&last.0);
-        let right = piece::<Q, K, R, V>(to, behind, &last.1)?;
-        splice(&mut self.pairs, start, end, left, None, right)
+        changes::remove::<Q, K, R, V, A>(&mut self.pairs, range)
     }
 
     /// Takes every key out. The memory is kept for later inserts.
