@@ -1,5 +1,6 @@
 -- Clones of pairs, and gaps, that are put behind a list one after another.
-use Rattle.std.proofs.Common.{◌≡◌, Bool, true, false, List, [], ◌∷◌, ◌++◌, cond, map, Option, None, Ok, append_assoc, append-nil, refl, subst, sym, ap, ◌∙◌}
+use Rattle.std.proofs.Common.{◌≡◌, Bool, true, false, ℕ, List, [], ◌∷◌, ◌++◌, cond, length, map, take, Option, None, Ok, append_assoc, append-nil, refl, subst, sym, ap, ◌∙◌}
+use Rattle.std.proofs.Math.Seq.{take-append_seam}
 use Rattle.std.specs.Borrow.{Bor}
 use Rattle.std.specs.Iterator.{Drains, Yields}
 use Rattle.std.specs.Map.Iter.{TakesFirst, deref_pair}
@@ -28,6 +29,18 @@ module _ {K X V : Type 0} (k : RangeKind K X) (eq : V → V → Bool) where
     ap (λ xs. same_pairs k eq xs (so_far.0 ++ copy ∷ [])) (map-append deref_pair items (item ∷ [])) ∙ same_pairs-last k eq (map deref_pair items) so_far.0 (deref_pair item) copy so_far.2 same,
   )
 
+  -- one more of a list
+  pub Appends-next : (pairs : List (X × V)) (pair copy : X × V) (old mid new : List (X × V)) → Appends k eq pairs old mid → same_pair k eq pair copy ≡ true → new ≡ mid ++ copy ∷ [] → Appends k eq (pairs ++ pair ∷ []) old new
+  Appends-next pairs pair copy old mid new so_far same more = (
+    so_far.0 ++ copy ∷ [],
+    more ∙ ap (λ xs. xs ++ copy ∷ []) so_far.1 ∙ append_assoc old so_far.0 (copy ∷ []),
+    same_pairs-last k eq pairs so_far.0 pair copy so_far.2 same,
+  )
+
+  -- what was put behind is cut off again
+  pub cut_back : (pairs old now new : List (X × V)) (n : ℕ) → Appends k eq pairs old now → n ≡ length old → new ≡ take n now → new ≡ old
+  cut_back pairs old now new n so_far is cut = cut ∙ ap (λ xs. take n xs) so_far.1 ∙ ap (λ m. take m (old ++ so_far.0)) is ∙ take-append_seam old so_far.0
+
   -- all that an iterator gave, which shows the list
   pub Appends-drained : (list it : List (X × V)) (old new : List (X × V)) → it ≡ list → (items : List (Bor X × Bor V)) × Drains (TakesFirst deref_pair) it items × Appends k eq (map deref_pair items) old new → Appends k eq list old new
   Appends-drained list it old new is h =
@@ -42,16 +55,17 @@ module _ {K X V : Type 0} (k : RangeKind K X) (eq : V → V → Bool) where
   pub list_stored : (it list : List (X × V)) → it ≡ list → IsCanonical k eq list → GivesStored k (TakesFirst deref_pair) it
   list_stored it list is can = each_shown deref_pair (λ pair. IsStorable k pair.0) it list is (all_storable k eq list can)
 
-  pub overlapped_stored : (it list : List (X × V)) (query : X) → it ≡ overlapped k list query → IsCanonical k eq list → GivesStored k (TakesFirst deref_pair) it
-  overlapped_stored it list query is can = each_shown deref_pair (λ pair. IsStorable k pair.0) it (overlapped k list query) is (met list (all_storable k eq list can))
+  -- what may be stored of all pairs may be of those that a query meets
+  pub met_storable : (query : X) (ps : List (X × V)) → Every (λ pair. IsStorable k pair.0) ps → Every (λ pair. IsStorable k pair.0) (overlapped k ps query)
+  met_storable query [] all = tt
+  met_storable query (p ∷ ps) all = one (k.meets query p.0) all.0 (met_storable query ps all.1)
     where
-      one : (b : Bool) (p : X × V) (ps : List (X × V)) → IsStorable k p.0 → Every (λ pair. IsStorable k pair.0) ps → Every (λ pair. IsStorable k pair.0) (cond b (p ∷ ps) ps)
-      one true p ps s rest = (s, rest)
-      one false p ps s rest = rest
+      one : (b : Bool) → IsStorable k p.0 → Every (λ pair. IsStorable k pair.0) (overlapped k ps query) → Every (λ pair. IsStorable k pair.0) (cond b (p ∷ overlapped k ps query) (overlapped k ps query))
+      one true s rest = (s, rest)
+      one false s rest = rest
 
-      met : (ps : List (X × V)) → Every (λ pair. IsStorable k pair.0) ps → Every (λ pair. IsStorable k pair.0) (overlapped k ps query)
-      met [] all = tt
-      met (p ∷ ps) all = one (k.meets query p.0) p (overlapped k ps query) all.0 (met ps all.1)
+  pub overlapped_stored : (it list : List (X × V)) (query : X) → it ≡ overlapped k list query → IsCanonical k eq list → GivesStored k (TakesFirst deref_pair) it
+  overlapped_stored it list query is can = each_shown deref_pair (λ pair. IsStorable k pair.0) it (overlapped k list query) is (met_storable query list (all_storable k eq list can))
 
 taken_same : {K X : Type 0} (k : RangeKind K X) (all items left : List X) → Yields (GivesRange k) all (map Ok items) left → (taken : List X) × (all ≡ taken ++ left) × AreSame k taken items
 taken_same k all [] left y = ([], y, tt)

@@ -140,6 +140,17 @@ pub(crate) fn split_begun<'a, I: Interval<K, R>, K: Ord + Clone, R, V>(
     }
 }
 
+/// Returns the pairs of a canonical list that overlap the query, which may be empty or reversed.
+pub fn overlapped<'a, Q: Kind<K, R>, K: Ord + Clone, R, V: Eq>(
+    pairs: &'a [(R, V)],
+    query: &R,
+) -> &'a [(R, V)]
+    requires { IsCanonical Q.kind V.eq pairs.now }
+    ensures { result.now ≡ overlapped Q.kind pairs.now query.now }
+{
+    take_begun::<Q, K, R, V>(overlapping_tail::<Q, K, R, V>(pairs, query), query)
+}
+
 // The pairs that start before the query ends, where these come first: by a search.
 fn take_begun<'a, I: Interval<K, R>, K: Ord + Clone, R, V>(
     pairs: &'a [(R, V)],

@@ -7,6 +7,8 @@ ghost use Rattle.std.specs.Iterator.{Drains, IsFinite};
 ghost use Rattle.std.specs.Map.Iter.{deref_pair};
 ghost use Rattle.rangemap_core.specs.Appends.{Appends, GivesStored};
 ghost use Rattle.rangemap_core.specs.Clones.{KeysCloneFaithfully, ValuesCloneFaithfully};
+ghost use Rattle.rangemap_core.specs.Ranges.{IsStorable};
+ghost use Rattle.rangemap_core.specs.engine.Stretch.{Every};
 
 use crate::entries::clones::clone_pair;
 use crate::kind::Kind;
@@ -38,6 +40,35 @@ pub fn append_clones<
     let len = out.len();
     for (range, value) in pairs {
         let is_pushed = match clone_pair::<Q, K, R, V>(range, value) {
+            Ok(copy) => out.push(copy).is_ok(),
+            Err(_) => false,
+        };
+        if !is_pushed {
+            out.truncate(len);
+            return Err(AllocError);
+        }
+    }
+    Ok(())
+}
+
+/// Appends clones of stored pairs.
+///
+/// # Errors
+///
+/// As for `append_clones`.
+pub fn append_pairs<Q: Kind<K, R>, K: Ord + Clone, R: Drop, V: Eq + Clone, B: Allocator>(
+    pairs: &[(R, V)],
+    out: &mut Vec<(R, V), B>,
+) -> Result<(), AllocError>
+    requires stored { Every (λ pair. IsStorable Q.kind pair.0) pairs.now }
+    requires faithful_keys { KeysCloneFaithfully K.is_clone K.cmp }
+    requires faithful_values { ValuesCloneFaithfully V.is_clone V.eq }
+    ensures ok { OnOk result (Appends Q.kind V.eq pairs.now out.old.items out.new.items) }
+    ensures err { OnErr result (out.new.items ≡ out.old.items) }
+{
+    let len = out.len();
+    for pair in pairs {
+        let is_pushed = match clone_pair::<Q, K, R, V>(&pair.0, &pair.1) {
             Ok(copy) => out.push(copy).is_ok(),
             Err(_) => false,
         };

@@ -2,7 +2,8 @@
 
 use super::Map;
 use crate::kinds::{OwnSteps, Stored};
-use rangemap_core::container::{Collect, Container, TryClone, append_clones, append_gaps};
+use rangemap_core::container::{Collect, Container, TryClone, append_gaps, append_pairs};
+use rangemap_core::overlapping::overlapped;
 use std::alloc::{AllocError, Allocator};
 use std::iter::IntoIterator;
 
@@ -77,7 +78,7 @@ impl<Q: Stored<K, R>, K: Ord + Clone, R: Drop, V: Eq + Clone, A: Allocator> Cont
     }
 
     fn append_all<B: Allocator>(&self, out: &mut Vec<(R, V), B>) -> Result<(), AllocError> {
-        append_clones::<Q, K, R, V, _, B>(self.iter(), out)
+        append_pairs::<Q, K, R, V, B>(self.pairs.as_slice(), out)
     }
 
     fn append_overlapping<B: Allocator>(
@@ -85,8 +86,7 @@ impl<Q: Stored<K, R>, K: Ord + Clone, R: Drop, V: Eq + Clone, A: Allocator> Cont
         range: &R,
         out: &mut Vec<(R, V), B>,
     ) -> Result<(), AllocError> {
-        self.known();
-        append_clones::<Q, K, R, V, _, B>(self.overlapping(range), out)
+        append_pairs::<Q, K, R, V, B>(overlapped::<Q, K, R, V>(self.pairs.as_slice(), range), out)
     }
 
     fn append_gaps<B: Allocator>(
