@@ -1,8 +1,3 @@
-pub mod ResultLemmas
-pub mod FilterLemmas
-pub mod StartLemmas
-pub mod EntryLemmas
-pub mod TakenLemmas
 pub mod SplitLemmas
 pub mod NearLemmas
 pub mod InsertSideLemmas

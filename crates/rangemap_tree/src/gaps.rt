@@ -6,8 +6,9 @@ ghost use Rattle.rangemap_core.specs.Clones.{KeysCloneFaithfully};
 ghost use Rattle.rangemap_core.specs.MadeRanges.{GivesRange, TakesRange};
 ghost use Rattle.rangemap_core.specs.Ranges.{AreGaps, IsCanonical, half_open};
 
-use crate::by_start::ByStart;
-use crate::overlapping::Overlapping;
+use crate::overlapping::overlapping_pairs;
+use rangemap_by_start::ByStart;
+use rangemap_by_start::overlapping::Overlapping;
 use rangemap_core::half_open::HalfOpen;
 use rangemap_core::kind::{Endpoint, Kind};
 use std::alloc::{AllocError, Allocator};
@@ -48,7 +49,7 @@ impl<'a, K: Ord + Clone, V> Gaps<'a, K, V> {
         requires { IsCanonical (half_open K.cmp) V.eq pairs.now }
         ensures { AreGaps (half_open K.cmp) (map (λ pair. pair.0) pairs.now) outer_range.now result }
     {
-        let mut pairs = Overlapping::new(pairs, outer_range);
+        let mut pairs = overlapping_pairs(pairs, outer_range);
         Gaps {
             from: Endpoint::Start(outer_range),
             next: next_range(&mut pairs),

@@ -3,7 +3,8 @@ ghost use Rattle.std.specs.Prelude.{◌≡◌, [], ◌-◌, length, slice_get, i
 ghost use Rattle.std.specs.Option.{option_copied, option_map};
 ghost use Rattle.rangemap_core.specs.Ranges.{AreGaps, IsCanonical, covering, half_open, overlapped, value_at};
 
-use crate::by_start::ByStart;
+use crate::overlapping::overlapping_pairs;
+use rangemap_by_start::ByStart;
 use std::alloc::Allocator;
 use std::marker::Model;
 use std::ops::Range;
@@ -16,9 +17,9 @@ mod remove;
 mod text;
 
 pub use crate::gaps::Gaps;
-pub use crate::into_iter::IntoIter;
-pub use crate::iter::Iter;
-pub use crate::overlapping::Overlapping;
+pub use rangemap_by_start::into_iter::IntoIter;
+pub use rangemap_by_start::iter::Iter;
+pub use rangemap_by_start::overlapping::Overlapping;
 
 /// A map of disjoint half-open ranges to values, which joins ranges that touch and have equal
 /// values.
@@ -169,7 +170,7 @@ impl<K: Ord + Clone, V: Eq + Clone, A: Allocator + Clone> RangeMap<K, V, A> {
     pub fn overlapping<'a>(&'a self, range: &'a Range<K>) -> Overlapping<'a, K, V>
         ensures { result ≡ overlapped (half_open K.cmp) self.now range.now }
     {
-        Overlapping::new(&self.pairs, range)
+        overlapping_pairs(&self.pairs, range)
     }
 
     /// Returns whether `overlapping` has an item for the range.
@@ -177,7 +178,7 @@ impl<K: Ord + Clone, V: Eq + Clone, A: Allocator + Clone> RangeMap<K, V, A> {
         ensures any { result ≡ nat_lt 0 (length (overlapped (half_open K.cmp) self.now range.now)) }
         ensures canonical { IsCanonical (half_open K.cmp) V.eq self.now }
     {
-        Overlapping::new(&self.pairs, range).next().is_some()
+        overlapping_pairs(&self.pairs, range).next().is_some()
     }
 
     /// Returns the parts of `outer_range` that no stored range covers, in order.

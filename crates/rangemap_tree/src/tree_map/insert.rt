@@ -6,11 +6,11 @@ ghost use Rattle.std.specs.declared.ops.Bound.TheVariants.{Excluded};
 ghost use Rattle.rangemap_core.specs.Clones.{KeysCloneFaithfully, ValuesCloneFaithfully};
 ghost use Rattle.rangemap_core.specs.Ranges.{IsCanonOf, IsCanonical, half_open, override, value_at};
 ghost use Rattle.rangemap_tree.specs.Sides.{IsLeft, IsRight};
-ghost use Rattle.rangemap_tree.specs.Starts.{AreStarts, before, from, past, up_to};
+ghost use Rattle.rangemap_by_start.specs.Starts.{AreStarts, before, from, past, up_to};
 ghost use Rattle.std.specs.Option.{unwrap_or};
 
 use super::RangeMap;
-use crate::by_start::ByStart;
+use rangemap_by_start::ByStart;
 use std::alloc::{AllocError, Allocator};
 use std::ops::{Bound, Range};
 

@@ -3,10 +3,10 @@ ghost use Rattle.std.specs.Prelude.{◌≡◌, ◌∷◌, ◌++◌, List, [], �
 ghost use Rattle.rangemap_core.specs.Clones.{KeysCloneFaithfully, ValuesCloneFaithfully};
 ghost use Rattle.rangemap_core.specs.Ranges.{IsCanonOf, IsCanonical, erase, half_open, overlapped, value_at};
 ghost use Rattle.rangemap_tree.specs.Sides.{IsLeftCut, IsRightCut};
-ghost use Rattle.rangemap_tree.specs.Starts.{before};
+ghost use Rattle.rangemap_by_start.specs.Starts.{before};
 
 use super::RangeMap;
-use crate::by_start::ByStart;
+use rangemap_by_start::ByStart;
 use std::alloc::{AllocError, Allocator};
 use std::ops::{Bound, Range};
 

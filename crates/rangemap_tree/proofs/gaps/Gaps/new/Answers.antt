@@ -12,4 +12,4 @@ returns g c =
     let q = c.args.outer_range.now in
     subst (AreGaps k (map (λ p. p.0) c.args.pairs.now) q)
     (looked_ahead g.K.Ord.cmp (AtStart q) q c.next_range.result _ _ c.next_range.ensures)
-    (rw c.new-pairs.ensures (are_gaps (half_open_placed g.met.K.Ord.total) g.V.PartialEq.eq q (record { start_is_key = tt; end_is_key = tt }) c.args.pairs.now c.requires))
+    (rw c.overlapping_pairs-pairs.ensures (are_gaps (half_open_placed g.met.K.Ord.total) g.V.PartialEq.eq q (record { start_is_key = tt; end_is_key = tt }) c.args.pairs.now c.requires))

@@ -2,10 +2,10 @@ use Rattle.std.proofs.Common.{◌≡◌, ◌≤◌, ◌+◌, List, ◌∷◌, �
 use Rattle.std.specs.declared.ops.Range.{Range}
 use Rattle.rangemap_core.specs.Ranges.{half_open, IsCanonical, IsCanonOf, override, value_at}
 use Rattle.rangemap_core.proofs.InsertSideLemmas.{on_ok}
-use Rattle.rangemap_tree.specs.Starts.{before, from, recut, piece_list}
+use Rattle.rangemap_by_start.specs.Starts.{before, from, recut, piece_list}
 use Rattle.rangemap_tree.proofs.ChangeLemmas.{cut_at, inserted, inserted_length, middle_full, new_at, past_at, piece_length}
-use Rattle.rangemap_tree.proofs.ResultLemmas.{by_result}
-use Rattle.rangemap_tree.proofs.StartLemmas.{turned}
+use Rattle.rangemap_by_start.proofs.ResultLemmas.{by_result}
+use Rattle.rangemap_by_start.proofs.StartLemmas.{turned}
 use Rattle.rangemap_tree.proofs.tree_map.RangeMap.insert.Goals as goal
 
 pub starts_within-requires-clause-range : goal.starts_within-requires-clause-range

@@ -4,8 +4,8 @@ use Rattle.rangemap_core.specs.engine.EndpointKinds.{half_open_placed}
 use Rattle.rangemap_core.specs.Ranges.{half_open, IsCanonical, IsCanonOf, erase, overlapped, value_at}
 use Rattle.rangemap_core.proofs.PlaceLemmas.{to_spaced}
 use Rattle.rangemap_core.proofs.InsertSideLemmas.{on_ok}
-use Rattle.rangemap_tree.proofs.ResultLemmas.{by_result}
-use Rattle.rangemap_tree.specs.Starts.{before, from, recut, piece_list}
+use Rattle.rangemap_by_start.proofs.ResultLemmas.{by_result}
+use Rattle.rangemap_by_start.specs.Starts.{before, from, recut, piece_list}
 use Rattle.rangemap_tree.proofs.SplitLemmas.{gt_of_le, less_if_above}
 use Rattle.rangemap_tree.proofs.RemoveSideLemmas.{untouched_by, untouched_none, last_overlaps}
 use Rattle.rangemap_tree.proofs.ChangeLemmas.{in_order, removed, removed_length, unmoved}

@@ -4,7 +4,7 @@ use Rattle.std.specs.declared.ops.Range.{Range}
 use Rattle.rangemap_core.specs.engine.EndpointKinds.{half_open_placed}
 use Rattle.rangemap_core.proofs.PlaceLemmas.{to_spaced}
 use Rattle.rangemap_core.proofs.PlaceOrderLemmas.{less_from}
-use Rattle.rangemap_tree.specs.Starts.{before}
+use Rattle.rangemap_by_start.specs.Starts.{before}
 use Rattle.rangemap_tree.proofs.NearLemmas.{last_before, none_before, taken_none, taken_some}
 use Rattle.rangemap_tree.proofs.tree_map.insert.last_before.Goals as goal
 

@@ -6,7 +6,7 @@ use Rattle.rangemap_core.proofs.PlaceLemmas.{to_spaced}
 use Rattle.rangemap_core.proofs.ListLemmas.{IsApart-from_lt}
 use Rattle.rangemap_core.proofs.PlaceOrderLemmas.{less_from, not_lt_ge}
 use Rattle.rangemap_tree.specs.Sides.{shape}
-use Rattle.rangemap_tree.proofs.StartLemmas.{turned}
+use Rattle.rangemap_by_start.proofs.StartLemmas.{turned}
 use Rattle.rangemap_tree.proofs.InsertSideLemmas.{left_none, left_apart, left_joined, left_parted}
 use Rattle.rangemap_tree.proofs.tree_map.insert.left_side.Goals as goal
 

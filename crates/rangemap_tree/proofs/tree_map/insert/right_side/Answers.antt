@@ -4,7 +4,7 @@ use Rattle.std.specs.declared.ops.Range.{Range}
 use Rattle.rangemap_core.specs.engine.EndpointKinds.{half_open_placed}
 use Rattle.rangemap_core.proofs.PlaceLemmas.{to_spaced}
 use Rattle.rangemap_core.proofs.PlaceOrderLemmas.{less_from}
-use Rattle.rangemap_tree.proofs.StartLemmas.{turned}
+use Rattle.rangemap_by_start.proofs.StartLemmas.{turned}
 use Rattle.rangemap_tree.proofs.NearLemmas.{taken_none, taken_some}
 use Rattle.rangemap_tree.proofs.SplitLemmas.{gt_of_le, less_if_above}
 use Rattle.rangemap_tree.proofs.InsertSideLemmas.{right_none, right_within, right_touch, right_joined, right_parted}

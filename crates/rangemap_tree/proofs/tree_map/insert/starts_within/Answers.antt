@@ -5,7 +5,7 @@ use Rattle.std.specs.declared.ops.Bound.TheVariants.{Excluded}
 use Rattle.std.specs.declared.ops.Range.{Range}
 use Rattle.rangemap_core.specs.engine.EndpointKinds.{half_open_placed}
 use Rattle.rangemap_core.proofs.PlaceLemmas.{to_spaced}
-use Rattle.rangemap_tree.specs.Starts.{AreStarts}
+use Rattle.rangemap_by_start.specs.Starts.{AreStarts}
 use Rattle.rangemap_tree.proofs.NearLemmas.{none_within, none_within_none, taken_none, taken_some}
 use Rattle.rangemap_tree.proofs.tree_map.insert.starts_within.Goals as goal
 use Rattle.rangemap_tree.proofs.tree_map.insert.starts_within.Goals.{in_default-via-in-Some+else-is_gt, in_default-via-in_default}

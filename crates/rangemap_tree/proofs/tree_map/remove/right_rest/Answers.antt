@@ -2,7 +2,7 @@ use Rattle.std.proofs.Common.{◌∙◌, sym, ap, is_le}
 use Rattle.std.specs.declared.ops.Range.{Range}
 use Rattle.rangemap_core.specs.engine.EndpointKinds.{half_open_placed}
 use Rattle.rangemap_core.proofs.PlaceLemmas.{to_spaced}
-use Rattle.rangemap_tree.proofs.StartLemmas.{turned}
+use Rattle.rangemap_by_start.proofs.StartLemmas.{turned}
 use Rattle.rangemap_tree.proofs.SplitLemmas.{gt_of_le, less_if_above}
 use Rattle.rangemap_tree.proofs.RemoveSideLemmas.{right_uncut_by, right_cut_by}
 use Rattle.rangemap_tree.proofs.tree_map.remove.right_rest.Goals as goal
