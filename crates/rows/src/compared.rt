@@ -3,24 +3,14 @@ ghost use Rattle.rangemap.specs.Clones.{KeysCloneFaithfully};
 
 use crate::in_rows::InRows;
 use crate::lists::{first_word, last_item, take_item};
-use crate::tables::check_each;
 use readers::{ReadsGaps, ReadsPairs};
 use std::alloc::AllocError;
 use std::marker::PhantomData;
 use std::test::Fail;
 
-/// Tells what is not as a row has it.
-pub(crate) fn same(is_same: bool, what: &str) -> Result<(), Fail> {
-    if is_same {
-        Ok(())
-    } else {
-        Err(Fail::new(what))
-    }
-}
-
 /// What comes, compared with the items of a list, one after another.
 #[derive(Drop)]
-pub(crate) struct Compared<'t, M> {
+struct Compared<'t, M> {
     // The items that are still to come.
     rest: &'t str,
     count: usize,
@@ -30,7 +20,7 @@ pub(crate) struct Compared<'t, M> {
 
 impl<'t, M: InRows> Compared<'t, M> {
     /// Nothing was compared with this list yet.
-    pub(crate) fn with(list: &'t str) -> Self {
+    fn with(list: &'t str) -> Self {
         Compared {
             rest: list,
             count: 0,
@@ -39,10 +29,9 @@ impl<'t, M: InRows> Compared<'t, M> {
         }
     }
 
-    /// Shows that what came was the items of the list, and all of them.
-    pub(crate) fn check(&self) -> Result<(), Fail> {
-        same(self.are_equal, "an item differs")?;
-        same(self.rest.is_empty(), "an item is missing")
+    /// Whether what came was the items of the list, and all of them.
+    fn is_all(&self) -> bool {
+        self.are_equal && self.rest.is_empty()
     }
 }
 
@@ -83,72 +72,71 @@ pub(crate) fn is_pair<M: InRows>(
 /// Compares the pairs of a container, their number, and the first and the last of them, with those
 /// of a list.
 pub fn check_row<M: InRows>(map: &M, pairs: &str) -> Result<(), Fail> {
-    let mut compared: Compared<'_, M> = Compared::with(pairs);
-    map.read_all(&mut compared)?;
-    compared.check()?;
-    let counted = (map.len(), map.is_empty());
-    same(
-        counted == (compared.count, pairs.is_empty()),
-        "the count differs",
-    )?;
-    let mut first = pairs;
-    let are_ends = is_pair::<M>(map.first_range_value(), take_item(&mut first))
-        && is_pair::<M>(map.last_range_value(), last_item(pairs));
-    same(are_ends, "an end differs")
+    if holds(map, pairs)? {
+        Ok(())
+    } else {
+        Err(Fail::new(format_args!("a container holds not {pairs}")))
+    }
 }
 
-/// Compares the pairs that a query overlaps with a list.
-pub(crate) fn check_overlapping<M: InRows>(
-    map: &M,
-    query: &M::Range,
-    pairs: &str,
-) -> Result<(), Fail> {
+/// Whether a container has the pairs of a list, their number, and the first and the last of them.
+pub(crate) fn holds<M: InRows>(map: &M, pairs: &str) -> Result<bool, AllocError> {
     let mut compared: Compared<'_, M> = Compared::with(pairs);
-    map.read_overlapping(query, &mut compared)?;
-    compared.check()?;
-    same(
-        map.overlaps(query) != pairs.is_empty(),
-        "`overlaps` differs",
+    map.read_all(&mut compared)?;
+    let mut first = pairs;
+    Ok(
+        compared.is_all()
+            && map.len() == compared.count
+            && map.is_empty() == pairs.is_empty()
+            && is_pair::<M>(map.first_range_value(), take_item(&mut first))
+            && is_pair::<M>(map.last_range_value(), last_item(pairs)),
     )
 }
 
-/// Compares the gaps in an outer range with a list.
-pub(crate) fn check_gaps<M: InRows>(map: &M, outer_range: &M::Range, gaps: &str) -> Result<(), Fail>
+/// Whether a query overlaps the pairs of a list.
+pub(crate) fn has_overlapping<M: InRows>(
+    map: &M,
+    query: &M::Range,
+    pairs: &str,
+) -> Result<bool, AllocError> {
+    let mut compared: Compared<'_, M> = Compared::with(pairs);
+    map.read_overlapping(query, &mut compared)?;
+    Ok(compared.is_all() && map.overlaps(query) != pairs.is_empty())
+}
+
+/// Whether an outer range has the gaps of a list.
+pub(crate) fn has_gaps<M: InRows>(
+    map: &M,
+    outer_range: &M::Range,
+    gaps: &str,
+) -> Result<bool, AllocError>
     requires faithful_keys { KeysCloneFaithfully M.Key.is_clone M.Key.cmp }
 {
     let mut compared: Compared<'_, M> = Compared::with(gaps);
     map.read_gaps(outer_range, &mut compared)?;
-    compared.check()
+    Ok(compared.is_all())
 }
 
-/// Compares ranges with a list.
-pub fn check_ranges<M: InRows>(ranges: &[M::Range], list: &str) -> Result<(), Fail> {
+/// Whether a key has a pair, or none where the text is empty, by each call that looks for a key.
+pub(crate) fn has_found<M: InRows>(map: &M, key: &M::Key, pair: &str) -> bool {
+    let pair = if pair.is_empty() { None } else { Some(pair) };
+    let is_value = match (map.get(key), pair) {
+        (Some(value), Some(pair)) => M::is_value(value, first_word(pair).1),
+        (value, pair) => value.is_none() && pair.is_none(),
+    };
+    is_value
+        && map.contains_key(key) == pair.is_some()
+        && is_pair::<M>(map.get_key_value(key), pair)
+}
+
+/// Whether ranges are those of a list.
+pub(crate) fn are_ranges<M: InRows>(ranges: &[M::Range], list: &str) -> bool {
     let mut rest = list;
     for range in ranges {
-        let is_next = match take_item(&mut rest) {
-            Some(item) => M::is_range(range, item),
-            None => false,
-        };
-        same(is_next, "a range differs")?;
+        match take_item(&mut rest) {
+            Some(item) if M::is_range(range, item) => {}
+            _ => return false,
+        }
     }
-    same(rest.is_empty(), "a range is missing")
-}
-
-/// Compares which calls of a replay were accepted, unless it was refused memory, and the containers
-/// that it left, with a row. A plus stands for each call that was accepted, and a minus for another.
-pub(crate) fn check_replayed<M: InRows>(
-    answers: Result<Vec<bool>, AllocError>,
-    expected: &str,
-    all: &[M],
-    lists: &[&str],
-) -> Result<(), Fail> {
-    let answers = answers?;
-    same(
-        answers.len() == expected.len(),
-        "the count of answers differs",
-    )?;
-    for (answer, sign) in answers.iter().zip(expected.bytes()) {
-        same(*answer == (sign == b'+'), "an answer differs")?;
-    }
-    check_each(all, lists)
+    rest.is_empty()
 }

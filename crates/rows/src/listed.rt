@@ -1,7 +1,6 @@
 //! What has a debug text, compared with it.
 ghost use Rattle.std.specs.Iterator.{IsFinite};
 
-use crate::compared::same;
 use std::alloc::{AllocError, Global};
 use std::fmt::{Debug, Write};
 use std::test::Fail;
@@ -10,7 +9,7 @@ use std::test::Fail;
 pub fn check_text<T: Debug>(alloc: Global, value: &T, text: &str) -> Result<(), Fail> {
     let mut written = String::new(alloc);
     write!(written, "{value:?}")?;
-    same(written.as_str() == text, "a text differs")
+    same(written.as_str(), text)
 }
 
 /// Compares the debug texts of an iterator's items, parted by commas.
@@ -27,5 +26,14 @@ pub fn check_listed<T: Debug + Drop, I: Iterator<Item = Result<T, AllocError>> +
         let comma = if written.is_empty() { "" } else { ", " };
         write!(written, "{comma}{:?}", item?)?;
     }
-    same(written.as_str() == list, "an item differs")
+    same(written.as_str(), list)
+}
+
+/// Tells of a text that is not as a row has it.
+fn same(found: &str, expected: &str) -> Result<(), Fail> {
+    if found == expected {
+        Ok(())
+    } else {
+        Err(Fail::new(format_args!("{found} is not {expected}")))
+    }
 }

@@ -2,6 +2,8 @@
 //!
 //! A list has its items between commas; an item is a range, and in a map a space and its value.
 
+use std::test::Fail;
+
 /// Takes the first item off a list that has one.
 pub(crate) fn take_item<'t>(list: &mut &'t str) -> Option<&'t str> {
     if list.is_empty() {
@@ -32,4 +34,11 @@ pub(crate) fn first_word(text: &str) -> (&str, &str) {
 pub(crate) fn ends(range: &str) -> (&str, &str) {
     let (start, end) = range.split_once("..").unwrap_or((range, ""));
     (start, end.strip_prefix('=').unwrap_or(end))
+}
+
+/// The three parts of a row, of which the last may be empty.
+pub fn parts(row: &str) -> Result<(&str, &str, &str), Fail> {
+    let (first, rest) = row.split_once(" | ").ok_or("a row has three parts")?;
+    let (second, third) = rest.split_once(" |").ok_or("a row has three parts")?;
+    Ok((first, second, third.trim()))
 }

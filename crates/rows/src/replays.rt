@@ -10,10 +10,12 @@ ghost use Rattle.rangemap.specs.SetHistories.{SetHasNonEmptyRanges};
 ghost use Rattle.rangemap.specs.Sets.{AreNonEmptyRanges};
 
 use crate::calls::read_change;
+use crate::compared::check_row;
 use crate::in_rows::InRows;
 use crate::lists::first_word;
 use rangemap_laws::calls::sets::SetCall;
 use rangemap_laws::calls::{Call, Change};
+use std::alloc::AllocError;
 use std::test::Fail;
 
 /// Divides the place from a call.
@@ -77,7 +79,7 @@ where
 
 /// Makes the calls of a list on maps.
 #[tactic(auto, using(crate::proofs::OneMore::all_and_one))]
-pub(crate) fn calls_of<M: InRows>(
+pub fn calls_of<M: InRows>(
     alloc: M::Alloc,
     calls: &str,
 ) -> Result<Vec<Call<M::Range, M::Value, M::Alloc>, M::Alloc>, Fail>
@@ -118,7 +120,7 @@ where
 
 /// Makes the calls of a list on sets.
 #[tactic(auto, using(crate::proofs::OneMore::all_and_one))]
-pub(crate) fn set_calls_of<S: InRows<Value = ()>>(
+pub fn set_calls_of<S: InRows<Value = ()>>(
     alloc: S::Alloc,
     calls: &str,
 ) -> Result<Vec<SetCall<S::Range, S::Alloc>, S::Alloc>, Fail>
@@ -183,4 +185,40 @@ fn set_call<S: InRows<Value = ()>>(change: Change<S::Range, ()>) -> SetCall<S::R
         Change::Clear { at } => SetCall::Clear { at },
         Change::Clone { at } => SetCall::Clone { at },
     }
+}
+
+/// Compares which calls of a replay were accepted, unless it was refused memory, and what the
+/// containers hold that it left. A plus stands for each call that was accepted, and a minus for
+/// another; the lists of the containers have a semicolon between them.
+pub fn check_replayed<M: InRows>(
+    answers: Result<Vec<bool>, AllocError>,
+    accepted: &str,
+    all: &[M],
+    lists: &str,
+) -> Result<(), Fail> {
+    if !are_accepted(&answers?, accepted) {
+        return Err(Fail::new(format_args!("accepted are not {accepted}")));
+    }
+    if lists.split(';').count() != all.len() {
+        return Err(Fail::new(format_args!("{} containers are left", all.len())));
+    }
+    check_each(all, lists)
+}
+
+/// Whether a call was accepted where there is a plus, and no other.
+fn are_accepted(answers: &[bool], accepted: &str) -> bool {
+    for (answer, sign) in answers.iter().zip(accepted.bytes()) {
+        if *answer != (sign == b'+') {
+            return false;
+        }
+    }
+    answers.len() == accepted.len()
+}
+
+/// Compares what each container holds with its list.
+fn check_each<M: InRows>(all: &[M], lists: &str) -> Result<(), Fail> {
+    for (map, list) in all.iter().zip(lists.split(';')) {
+        check_row(map, list.trim())?;
+    }
+    Ok(())
 }

@@ -2,11 +2,9 @@
 ghost use Rattle.std.specs.Prelude.{IfOk};
 ghost use Rattle.std.specs.List.{AllByRecursion};
 
-use crate::calls::{made_of, make_all};
-use crate::compared::check_replayed;
+use crate::calls::make_all;
 use crate::in_rows::FromEnds;
 use crate::replays::{calls_of, set_calls_of};
-use crate::tables::{Row, check_rows};
 use crate::words::Word;
 use rangemap::range_set::Set;
 use rangemap::tree_map;
@@ -15,7 +13,7 @@ use rangemap_laws::calls::sets::SetCall;
 use rangemap_maps::kinds::Stored;
 use rangemap_maps::range_map::Map;
 use rangemap_operations::set_range::{SetKind, SetRange};
-use std::alloc::{AllocError, Allocator};
+use std::alloc::Allocator;
 use std::ops::Range;
 use std::test::Fail;
 
@@ -37,14 +35,6 @@ pub trait Tested: Sized {
     /// That no range that a call is given is empty.
     ghost is_call: { Self.Call → Type 0 };
 
-    /// Compares the answers of all rows.
-    fn check_rows(alloc: Self::Alloc, rows: &[Row<'_>]) -> Result<(), Fail>
-        requires { clones_are_faithful };
-
-    /// Makes a container of the pairs of a list, by inserts.
-    fn made_of(alloc: Self::Alloc, pairs: &str) -> Result<Self, Fail>
-        requires { clones_are_faithful };
-
     /// Makes a container of the pairs of each list.
     fn make_all(alloc: Self::Alloc, lists: &[&str]) -> Result<Vec<Self, Self::Alloc>, Fail>
         requires { clones_are_faithful };
@@ -52,14 +42,6 @@ pub trait Tested: Sized {
     /// Makes the calls of a list.
     fn calls_of(alloc: Self::Alloc, calls: &str) -> Result<Vec<Self::Call, Self::Alloc>, Fail>
         ensures { IfOk result (λ all. AllByRecursion is_call all.items) };
-
-    /// Compares which calls of a replay were accepted, and the containers that it left, with a row.
-    fn check_replayed(
-        answers: Result<Vec<bool>, AllocError>,
-        expected: &str,
-        all: &[Self],
-        lists: &[&str],
-    ) -> Result<(), Fail>;
 }
 
 impl<
@@ -80,29 +62,12 @@ impl<
 
     ghost is_call = { HasNonEmptyRanges Q.kind };
 
-    fn check_rows(alloc: A, rows: &[Row<'_>]) -> Result<(), Fail> {
-        check_rows::<Self>(alloc, rows)
-    }
-
-    fn made_of(alloc: A, pairs: &str) -> Result<Self, Fail> {
-        made_of(alloc, pairs)
-    }
-
     fn make_all(alloc: A, lists: &[&str]) -> Result<Vec<Self, A>, Fail> {
         make_all(alloc, lists)
     }
 
     fn calls_of(alloc: A, calls: &str) -> Result<Vec<Call<R, V, A>, A>, Fail> {
         calls_of::<Self>(alloc, calls)
-    }
-
-    fn check_replayed(
-        answers: Result<Vec<bool>, AllocError>,
-        expected: &str,
-        all: &[Self],
-        lists: &[&str],
-    ) -> Result<(), Fail> {
-        check_replayed(answers, expected, all, lists)
     }
 }
 
@@ -120,29 +85,12 @@ impl<K: Ord + Clone + Word<A>, V: Eq + Clone + Word<A>, A: Allocator + Copy> Tes
 
     ghost is_call = { HasNonEmptyRanges (half_open K.cmp) };
 
-    fn check_rows(alloc: A, rows: &[Row<'_>]) -> Result<(), Fail> {
-        check_rows::<Self>(alloc, rows)
-    }
-
-    fn made_of(alloc: A, pairs: &str) -> Result<Self, Fail> {
-        made_of(alloc, pairs)
-    }
-
     fn make_all(alloc: A, lists: &[&str]) -> Result<Vec<Self, A>, Fail> {
         make_all(alloc, lists)
     }
 
     fn calls_of(alloc: A, calls: &str) -> Result<Vec<Call<Range<K>, V, A>, A>, Fail> {
         calls_of::<Self>(alloc, calls)
-    }
-
-    fn check_replayed(
-        answers: Result<Vec<bool>, AllocError>,
-        expected: &str,
-        all: &[Self],
-        lists: &[&str],
-    ) -> Result<(), Fail> {
-        check_replayed(answers, expected, all, lists)
     }
 }
 
@@ -163,28 +111,11 @@ impl<
 
     ghost is_call = { SetHasNonEmptyRanges Q.kind };
 
-    fn check_rows(alloc: A, rows: &[Row<'_>]) -> Result<(), Fail> {
-        check_rows::<Self>(alloc, rows)
-    }
-
-    fn made_of(alloc: A, ranges: &str) -> Result<Self, Fail> {
-        made_of(alloc, ranges)
-    }
-
     fn make_all(alloc: A, lists: &[&str]) -> Result<Vec<Self, A>, Fail> {
         make_all(alloc, lists)
     }
 
     fn calls_of(alloc: A, calls: &str) -> Result<Vec<SetCall<R, A>, A>, Fail> {
         set_calls_of::<Self>(alloc, calls)
-    }
-
-    fn check_replayed(
-        answers: Result<Vec<bool>, AllocError>,
-        expected: &str,
-        all: &[Self],
-        lists: &[&str],
-    ) -> Result<(), Fail> {
-        check_replayed(answers, expected, all, lists)
     }
 }

@@ -1,9 +1,9 @@
 //! The worked rows of maps, as tests over the crate that users name.
 //!
-//! A folder for each container, with a file for each part of it. A row gives the calls that are
-//! made on an empty container, what it is asked then, and what it answers; the crate `rows` compares
-//! it, and `laws` runs the laws, for every container alike. docs/TESTS.md leads from each row to its
-//! test, and from each wrong body to its edit.
+//! A file and a folder for each container. A row gives the calls that are made on an empty container,
+//! what it is asked then, and what it answers; the crate `rows` compares it for every container
+//! alike, and `tables` says for which. docs/TESTS.md leads from each row to its test, and from each
+//! wrong body to its edit.
 #![tactic(auto)]
 
 #[cfg(test)]
@@ -15,12 +15,12 @@ mod laws;
 #[cfg(test)]
 mod map;
 #[cfg(test)]
-mod noted;
-#[cfg(test)]
 mod same;
 #[cfg(test)]
 mod searches;
 #[cfg(test)]
 mod segments;
+#[cfg(test)]
+mod tables;
 #[cfg(test)]
 mod tree_map;

@@ -1,13 +1,13 @@
 //! Rows over half-open ranges, which a map in a sorted vector and one in a tree both pass.
 
-use crate::noted::Noted;
+use crate::laws::check_commute;
+use crate::tables::check_half_open;
 use rangemap::{RangeMap, tree_map};
+use rows::check_three;
 use std::alloc::Global;
+use std::test::Fail;
 
-mod changes;
 mod collections;
-mod laws;
-mod queries;
 mod replays;
 
 /// A map over numbers.
@@ -16,14 +16,129 @@ pub type Map = RangeMap<u32, char, Global>;
 /// The same in a tree.
 pub type TreeMap = tree_map::RangeMap<u32, char, Global>;
 
-/// A map to truth values.
-type Flags = RangeMap<u32, bool, Global>;
+// Inside a stored range, and its own value back.
+#[test]
+fn what_is_covered_is_replaced(rt: HostRuntime) -> Result<(), Fail> {
+    check_half_open(
+        rt.alloc(),
+        "
+        insert 0..10 f, insert 3..6 t | holds | 0..3 f, 3..6 t, 6..10 f
+        insert 0..10 f, insert 3..6 t, insert 3..6 f | holds | 0..10 f
+        ",
+    )
+}
 
-/// The same in a tree.
-type TreeFlags = tree_map::RangeMap<u32, bool, Global>;
+// All of some pairs and parts of others are covered; what is removed is cut out, and a map that was cleared
+// takes pairs again; equality forgets the calls, and a clone is equal.
+#[test]
+fn pieces_are_kept_and_joined(rt: HostRuntime) -> Result<(), Fail> {
+    check_half_open(
+        rt.alloc(),
+        "
+        insert 0..2 a, insert 3..4 b, insert 5..6 c, insert 7..8 d, insert 9..12 e, insert 1..10 f | holds | 0..1 a, 1..10 f, 10..12 e
+        insert 5..8 a, insert 2..5 b, insert 2..8 b | holds | 2..8 b
+        insert 0..5 a, insert 5..9 b, insert 5..7 a | holds | 0..7 a, 7..9 b
+        insert 0..2 a, insert 4..6 a, insert 2..4 a | holds | 0..6 a
+        insert 0..2 a, insert 4..6 b, insert 8..10 a, insert 1..9 c | holds | 0..1 a, 1..9 c, 9..10 a
+        insert 0..2 a, insert 4..6 b, insert 8..10 a, insert 1..9 a | holds | 0..10 a
 
-/// A map to values that are equal in part.
-type Notes = RangeMap<u32, Noted, Global>;
+        insert 0..10 a, remove 3..6 | holds | 0..3 a, 6..10 a
+        insert 0..10 a, remove 3..6, remove 4..5 | holds | 0..3 a, 6..10 a
+        insert 0..10 a, insert 10..20 b, insert 20..30 a, remove 5..25 | holds | 0..5 a, 25..30 a
+        insert 0..2 a, insert 2..4 b, remove 2..4 | holds | 0..2 a
+        insert 0..2 a, remove 2..6 | holds | 0..2 a
+        insert 0..10 a, insert 10..20 b, clear | holds |
+        insert 0..10 a, clear, insert 1..2 b | holds | 1..2 b
 
-/// The same in a tree.
-type TreeNotes = tree_map::RangeMap<u32, Noted, Global>;
+        insert 0..10 a, insert 3..6 b, insert 3..6 a | equals 0..10 a | true
+        insert 0..5 a | equals 0..6 a | false
+        insert 0..10 a, insert 3..6 b | clone | 0..3 a, 3..6 b, 6..10 a
+        ",
+    )
+}
+
+#[test]
+fn the_newest_of_equal_values_stays(rt: HostRuntime) -> Result<(), Fail> {
+    check_half_open(
+        rt.alloc(),
+        "
+        insert 0..4 ax, insert 4..8 ay | holds | 0..8 ay
+        insert 0..4 ax, insert 4..8 ay | at 0 | 0..8 ay
+        ",
+    )
+}
+
+// A query may be empty, reversed or touch; gaps lie before, between and behind stored ranges.
+#[test]
+fn what_is_asked_is_answered(rt: HostRuntime) -> Result<(), Fail> {
+    check_half_open(
+        rt.alloc(),
+        "
+        remove 0..3 | at 5 |
+        remove 0..3 | holds |
+        insert 0..10 a, insert 20..30 b | holds | 0..10 a, 20..30 b
+        insert 0..10 a, insert 20..30 b | at 0 | 0..10 a
+        insert 0..10 a, insert 20..30 b | at 9 | 0..10 a
+        insert 0..10 a, insert 20..30 b | at 10 |
+        insert 0..10 a, insert 20..30 b | at 20 | 20..30 b
+        insert 0..10 a, insert 20..30 b | at 29 | 20..30 b
+        insert 0..10 a, insert 20..30 b | at 30 |
+
+        insert 0..10 a | overlapping 7..3 | 0..10 a
+        insert 0..5 a, insert 5..10 b | overlapping 5..5 |
+        insert 0..5 a, insert 5..10 b | overlapping 7..3 |
+        insert 3..8 a | overlapping 5..5 | 3..8 a
+        insert 5..8 a | overlapping 5..5 |
+        insert 3..8 a | overlapping 8..0 |
+        insert 0..2 a, insert 2..4 b, insert 8..9 c | overlapping 1..8 | 0..2 a, 2..4 b
+
+        new | gaps 0..3 | 0..3
+        insert 0..2 a, insert 2..4 b | gaps 0..4 |
+        insert 0..2 a, insert 2..4 b | gaps 1..6 | 4..6
+        insert 1..3 a, insert 5..7 a | gaps 0..8 | 0..1, 3..5, 7..8
+        insert 1..3 a, insert 5..7 a | gaps 4..4 |
+        insert 1..3 a, insert 5..7 a | gaps 8..0 |
+        ",
+    )
+}
+
+#[test]
+fn changes_and_gaps_keep_their_laws(rt: HostRuntime) -> Result<(), Fail> {
+    check_half_open(
+        rt.alloc(),
+        "
+        insert 0..10 a, insert 3..6 b | law alike 3..5 a |
+        insert 0..10 a | law insert 3..6 b | 0..3 a, 3..6 b, 6..10 a
+        insert 0..10 a, insert 3..6 b | law remove 2..7 | 0..2 a, 7..10 a
+        insert 0..10 a | law twice 3..6 b | 0..3 a, 3..6 b, 6..10 a
+        insert 0..10 a | law back 3..6 b | 0..3 a, 6..10 a
+        insert 1..3 a, insert 5..7 b | law parted 0..8 | 0..1, 3..5, 7..8
+        ",
+    )
+}
+
+#[test]
+fn inserts_with_no_common_key_commute(rt: HostRuntime) -> Result<(), Fail> {
+    let (stored, pairs) = ("0..10 a", "0..2 a, 2..12 b");
+    let (first, second) = (2..4, 4..12);
+    let pair = (&first, &'b');
+    check_commute::<Map>(rt.alloc(), stored, pair, (&second, &'b'), pairs)?;
+    check_commute::<TreeMap>(rt.alloc(), stored, pair, (&second, &'b'), pairs)
+}
+
+#[test]
+fn overlapping_pairs_come_from_both_ends(rt: HostRuntime) -> Result<(), Fail> {
+    let query = 1..8;
+    let map = RangeMap::from(
+        rt.alloc(),
+        [(0..2u32, 'a'), (2..4, 'b'), (4..6, 'a'), (8..9, 'c')],
+    )?;
+    let found = ((&(0..2), &'a'), (&(2..4), &'b'), (&(4..6), &'a'));
+    check_three(map.overlapping(&query), found, false)?;
+    let map = tree_map::RangeMap::from(
+        rt.alloc(),
+        [(0..2u32, 'a'), (2..4, 'b'), (4..6, 'a'), (8..9, 'c')],
+    )?;
+    let found = ((&(0..2), &'a'), (&(2..4), &'b'), (&(4..6), &'a'));
+    check_three(map.overlapping(&query), found, false)
+}

@@ -1,15 +1,14 @@
 //! Rows about `segments`: a query's keys, each stretch with its value or with none, over a map, a
 //! set and a map in a tree.
 
-use crate::map::{Map, TreeMap};
 use rangemap::container::segments;
-use rangemap::range_inclusive_set;
-use rows::{Tested, check_text};
+use rangemap::{RangeMap, range_inclusive_set, tree_map};
+use rows::check_text;
 use std::test::Fail;
 
 #[test]
 fn stretches_of_a_map(rt: HostRuntime) -> Result<(), Fail> {
-    let map = Map::made_of(rt.alloc(), "1..3 a, 5..7 b, 7..12 c")?;
+    let map = RangeMap::from(rt.alloc(), [(1..3u32, 'a'), (5..7, 'b'), (7..12, 'c')])?;
     let found = (
         segments(rt.alloc(), &map, &(2..9))?,
         segments(rt.alloc(), &map, &(4..4))?,
@@ -41,7 +40,7 @@ fn stretches_of_a_set(rt: HostRuntime) -> Result<(), Fail> {
 
 #[test]
 fn stretches_of_a_map_in_a_tree(rt: HostRuntime) -> Result<(), Fail> {
-    let map = TreeMap::made_of(rt.alloc(), "0..4 a, 6..8 b, 10..14 c")?;
+    let map = tree_map::RangeMap::from(rt.alloc(), [(0..4u32, 'a'), (6..8, 'b'), (10..14, 'c')])?;
     let found = (
         segments(rt.alloc(), &map, &(3..12))?,
         segments(rt.alloc(), &map, &(20..20))?,

@@ -3,7 +3,7 @@ ghost use Rattle.std.specs.Prelude.{◌^◌};
 ghost use Rattle.vectors_keys.specs.Pairs.{IsPair, pair_after, pair_before, pair_follows, pair_precedes};
 
 use rangemap::{RangeInclusiveSet, StepFns};
-use rows::Tested;
+use rows::check_rows;
 use std::alloc::Global;
 use std::test::Fail;
 
@@ -46,24 +46,16 @@ impl StepFns<(u8, u8)> for PairSteps {
 /// Pairs of bytes.
 type Pairs = RangeInclusiveSet<(u8, u8), PairSteps, Global>;
 
+// Pairs touch over their second byte, and the last pair is not stepped past.
 #[test]
 fn pairs_are_stepped_through(rt: HostRuntime) -> Result<(), Fail> {
-    Pairs::check_rows(
+    check_rows::<Pairs>(
         rt.alloc(),
-        &[
-            // Pairs touch over their second byte.
-            ("insert 0/0..=1/255, insert 2/0..=2/0", "holds", "0/0..=2/0"),
-            // The last pair is not stepped past.
-            (
-                "insert 0/0..=2/0, insert 2/2..=255/255",
-                "gaps 0/0..=255/255",
-                "2/1..=2/1",
-            ),
-            (
-                "insert 0/0..=2/0, insert 2/2..=255/255, remove 255/255..=255/255",
-                "holds",
-                "0/0..=2/0, 2/2..=255/254",
-            ),
-        ],
+        "
+        insert 0/0..=1/255, insert 2/0..=2/0 | holds | 0/0..=2/0
+        insert 0/0..=2/0, insert 2/2..=255/255 | gaps 0/0..=255/255 | 2/1..=2/1
+        insert 0/0..=2/0, insert 2/2..=255/255, remove 255/255..=255/255 | holds | \
+        0/0..=2/0, 2/2..=255/254
+        ",
     )
 }

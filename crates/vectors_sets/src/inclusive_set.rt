@@ -1,16 +1,110 @@
 //! Rows over sets of closed ranges.
 
+use crate::same::assert_same;
+use crate::tables::{check_bytes, check_closed};
 use rangemap::RangeInclusiveSet;
+use rows::check_three;
 use std::alloc::Global;
+use std::process::Abort;
+use std::test::Fail;
 
-mod changes;
 mod collections;
 mod operations;
-mod queries;
 mod replays;
 
 /// A set of numbers.
 pub type Set = RangeInclusiveSet<u32, u32, Global>;
 
-/// A set of bytes.
-pub type Bytes = RangeInclusiveSet<u8, u8, Global>;
+// A removal cuts what it meets, and equality forgets the calls.
+#[test]
+fn ranges_with_no_key_between_are_joined(rt: HostRuntime) -> Result<(), Fail> {
+    check_closed(
+        rt.alloc(),
+        "
+        insert 7..=7 | holds | 7..=7
+        insert 0..=4, insert 5..=9 | holds | 0..=9
+        insert 0..=4, insert 6..=9 | holds | 0..=4, 6..=9
+        insert 0..=2, insert 6..=8, insert 3..=6 | holds | 0..=8
+        insert 0..=4294967294, insert 4294967295..=4294967295 | holds | 0..=4294967295
+
+        insert 0..=9, remove 0..=9 | holds |
+        insert 0..=9, remove 3..=5 | holds | 0..=2, 6..=9
+        insert 0..=2, insert 6..=9, remove 4..=4 | holds | 0..=2, 6..=9
+
+        insert 0..=9, remove 3..=5, insert 3..=5 | equals 0..=9 | true
+        insert 0..=9 | equals 0..=8 | false
+        insert 0..=9 | equals 0..=9, 11..=12 | false
+        ",
+    )
+}
+
+// A query may be reversed.
+#[test]
+fn what_is_asked_is_answered(rt: HostRuntime) -> Result<(), Fail> {
+    check_closed(
+        rt.alloc(),
+        "
+        insert 0..=100, insert 200..=300 | holds | 0..=100, 200..=300
+        insert 0..=100, insert 200..=300 | at 0 | 0..=100
+        insert 0..=100, insert 200..=300 | at 101 |
+        insert 0..=100, insert 200..=300 | at 200 | 200..=300
+        insert 0..=100, insert 200..=300 | at 299 | 200..=300
+        insert 0..=100, insert 200..=300 | at 301 |
+        insert 0..=100, clear | at 5 |
+        insert 0..=100, clear | holds |
+
+        insert 3..=8 | overlapping 6..=4 | 3..=8
+        insert 5..=8 | overlapping 6..=4 |
+        insert 5..=8 | overlapping 8..=9 | 5..=8
+        insert 5..=8 | overlapping 9..=12 |
+        insert 3..=8 | overlapping 8..=0 |
+        ",
+    )
+}
+
+// What nothing covers is free.
+#[test]
+fn bytes_go_to_their_end(rt: HostRuntime) -> Result<(), Fail> {
+    check_bytes(
+        rt.alloc(),
+        "
+        insert 0..=255, remove 128..=128 | holds | 0..=127, 129..=255
+
+        insert 0..=9, insert 250..=255 | gaps 0..=255 | 10..=249
+        insert 0..=9, insert 250..=255 | gaps 10..=10 | 10..=10
+        insert 0..=9, insert 250..=255 | gaps 12..=10 |
+        insert 0..=9, insert 250..=255, insert 10..=249 | gaps 0..=255 |
+        ",
+    )
+}
+
+#[test]
+fn gaps_lie_between_the_ranges(rt: HostRuntime) -> Result<(), Fail> {
+    let set = RangeInclusiveSet::from(rt.alloc(), [0..=100, 200..=300, 400..=500])?;
+    take_gaps(&rt, &set)
+}
+
+/// Takes both gaps, and asks on.
+fn take_gaps<R: Abort>(rt: &R, set: &Set) -> Result<(), Fail> {
+    let outer_range = 0..=500;
+    let mut gaps = set.gaps(&outer_range);
+    assert_same(rt, gaps.size_hint(), (0, None));
+    let taken = (gaps.try_next(), gaps.next(), gaps.try_next(), gaps.next());
+    assert_same(
+        rt,
+        taken,
+        (Ok(Some(101..=199)), Some(Ok(301..=399)), Ok(None), None),
+    );
+    Ok(())
+}
+
+#[test]
+fn ranges_come_from_both_ends(rt: HostRuntime) -> Result<(), Fail> {
+    let set: Set = RangeInclusiveSet::from(rt.alloc(), [0..=1, 3..=3, 5..=5, 8..=9])?;
+    let query = 1..=7;
+    check_three(
+        set.overlapping(&query),
+        (&(0..=1), &(3..=3), &(5..=5)),
+        false,
+    )
+}

@@ -11,3 +11,5 @@ mod laws;
 mod same;
 #[cfg(test)]
 mod set;
+#[cfg(test)]
+mod tables;

@@ -1,13 +1,75 @@
 //! Rows over half-open ranges.
 
-mod changes;
 mod collections;
 mod operations;
-mod queries;
 mod replays;
 
+use crate::tables::check_half_open;
 use rangemap::RangeSet;
+use rows::check_three;
 use std::alloc::Global;
+use std::test::Fail;
 
 /// A set of numbers.
 pub type Set = RangeSet<u32, Global>;
+
+// A removal cuts what it meets, and equality forgets the calls.
+#[test]
+fn ranges_that_overlap_or_touch_are_joined(rt: HostRuntime) -> Result<(), Fail> {
+    check_half_open(
+        rt.alloc(),
+        "
+        insert 0..5 | holds | 0..5
+        insert 0..5, insert 5..10 | holds | 0..10
+        insert 0..5, insert 6..10 | holds | 0..5, 6..10
+        insert 0..3, insert 6..9, insert 3..7 | holds | 0..9
+        insert 0..10, insert 3..6 | holds | 0..10
+
+        insert 0..10, remove 0..10 | holds |
+        insert 0..10, remove 3..6 | holds | 0..3, 6..10
+        insert 0..10, insert 20..30, remove 5..25 | holds | 0..5, 25..30
+        insert 0..3, insert 6..10, remove 4..5 | holds | 0..3, 6..10
+
+        insert 0..10, remove 3..6, insert 3..6 | equals 0..10 | true
+        insert 0..10 | equals 0..9 | false
+        insert 0..10 | equals 0..10, 11..12 | false
+        ",
+    )
+}
+
+// What nothing covers is free; a query may be empty or reversed.
+#[test]
+fn what_is_asked_is_answered(rt: HostRuntime) -> Result<(), Fail> {
+    check_half_open(
+        rt.alloc(),
+        "
+        insert 0..100, insert 200..300 | holds | 0..100, 200..300
+        insert 0..100, insert 200..300 | at 0 | 0..100
+        insert 0..100, insert 200..300 | at 100 |
+        insert 0..100, insert 200..300 | at 200 | 200..300
+        insert 0..100, insert 200..300 | at 299 | 200..300
+        insert 0..100, insert 200..300 | at 300 |
+        insert 0..100, clear | at 5 |
+        insert 0..100, clear | holds |
+
+        insert 1..3, insert 5..7 | gaps 0..8 | 0..1, 3..5, 7..8
+        insert 1..3, insert 5..7 | gaps 4..4 |
+        insert 1..3, insert 5..7 | gaps 8..0 |
+        insert 0..100, insert 200..300, insert 400..500 | gaps 0..500 | 100..200, 300..400
+        new | gaps 0..3 | 0..3
+
+        insert 3..8 | overlapping 5..5 | 3..8
+        insert 5..8 | overlapping 5..5 |
+        insert 3..8 | overlapping 7..4 | 3..8
+        insert 3..8 | overlapping 8..0 |
+        insert 3..8 | overlapping 7..9 | 3..8
+        ",
+    )
+}
+
+#[test]
+fn ranges_come_from_both_ends(rt: HostRuntime) -> Result<(), Fail> {
+    let set: Set = RangeSet::from(rt.alloc(), [0..2, 3..4, 5..6, 8..9])?;
+    let query = 1..8;
+    check_three(set.overlapping(&query), (&(0..2), &(3..4), &(5..6)), false)
+}

@@ -1,55 +1,41 @@
 //! Rows over closed ranges made by both replays, where every call is accepted.
 
-use super::steps::SignedMap;
-use super::{Bytes, SignedBytes};
-use rangemap::inclusive_map::{replay, replay_with_step_fns};
-use rows::{Tested, changes_of};
+use crate::tables::{
+    check_bytes_changes, check_bytes_replay, check_signed_bytes_replay, check_stepped_changes,
+};
 use std::test::Fail;
 
 #[test]
 fn bytes_go_to_their_end(rt: HostRuntime) -> Result<(), Fail> {
-    let calls = Bytes::calls_of(
+    check_bytes_replay(
         rt.alloc(),
-        "new, insert 0..=127 false, insert 128..=255 true, insert 128..=255 false",
-    )?;
-    let mut maps: Vec<Bytes, _> = Vec::new(rt.alloc());
-    let answers = replay(rt.alloc(), &mut maps, calls);
-    Bytes::check_replayed(answers, "++++", maps.as_slice(), &["0..=255 false"])
+        "new, insert 0..=127 f, insert 128..=255 t, insert 128..=255 f | ++++ | 0..=255 f",
+    )
 }
 
 #[test]
 fn ends_are_removed(rt: HostRuntime) -> Result<(), Fail> {
-    let calls = SignedBytes::calls_of(
+    check_signed_bytes_replay(
         rt.alloc(),
-        "from -128..=127 true, clone, remove -128..=-128, remove 127..=127",
-    )?;
-    let mut maps: Vec<SignedBytes, _> = Vec::new(rt.alloc());
-    let answers = replay(rt.alloc(), &mut maps, calls);
-    let left = ["-127..=126 true", "-128..=127 true"];
-    SignedBytes::check_replayed(answers, "++++", maps.as_slice(), &left)
+        "from -128..=127 t, clone, remove -128..=-128, remove 127..=127 | ++++ | \
+        -127..=126 t; -128..=127 t",
+    )
 }
 
 #[test]
 fn changes_by_own_steps(rt: HostRuntime) -> Result<(), Fail> {
-    let changes = changes_of::<Bytes>(
+    check_bytes_changes(
         rt.alloc(),
-        "new, insert 0..=127 false, insert 128..=255 true, insert 128..=255 false, \
-        remove 255..=255, remove 0..=0",
-    )?;
-    let mut maps: Vec<Bytes, _> = Vec::new(rt.alloc());
-    let answers = replay_with_step_fns(rt.alloc(), &mut maps, changes);
-    Bytes::check_replayed(answers, "++++++", maps.as_slice(), &["1..=254 false"])
+        "new, insert 0..=127 f, insert 128..=255 t, insert 128..=255 f, remove 255..=255, \
+        remove 0..=0 | ++++++ | 1..=254 f",
+    )
 }
 
 #[test]
 fn changes_by_steps_of_another_type(rt: HostRuntime) -> Result<(), Fail> {
-    let changes = changes_of::<SignedMap>(
+    check_stepped_changes(
         rt.alloc(),
-        "new, insert -128..=127 true, clone, remove -128..=-128, clone, remove 127..=127, \
-        2: insert -128..=-128 true",
-    )?;
-    let mut maps: Vec<SignedMap, _> = Vec::new(rt.alloc());
-    let answers = replay_with_step_fns(rt.alloc(), &mut maps, changes);
-    let left = ["-127..=126 true", "-128..=127 true", "-128..=127 true"];
-    SignedMap::check_replayed(answers, "+++++++", maps.as_slice(), &left)
+        "new, insert -128..=127 t, clone, remove -128..=-128, clone, remove 127..=127, \
+        2: insert -128..=-128 t | +++++++ | -127..=126 t; -128..=127 t; -128..=127 t",
+    )
 }

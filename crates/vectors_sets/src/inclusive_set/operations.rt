@@ -1,47 +1,25 @@
 //! Rows about unions and intersections.
 
 use super::Set;
+use crate::tables::check_closed_operations;
 use rangemap::RangeInclusiveSet;
 use rangemap::inclusive_set::{Intersection, Iter, Union};
-use rows::{SignedSteps, Tested, check_listed, check_text};
+use rows::{SignedSteps, check_listed, check_text};
 use std::alloc::Global;
 use std::test::Fail;
 
-/// Two sets, the items of their union, the set of `|`, the items of their intersection, and the set
-/// of `&`.
-type Row<'t> = (&'t str, &'t str, &'t str, &'t str, &'t str, &'t str);
-
 #[test]
 fn both_sets_are_put_together(rt: HostRuntime) -> Result<(), Fail> {
-    check_operations(
+    check_closed_operations(
         rt.alloc(),
-        &[
-            ("0..=4", "5..=9", "0..=4, 5..=9", "{0..=9}", "", "{}"),
-            ("0..=4", "4..=9", "0..=9", "{0..=9}", "4..=4", "{4..=4}"),
-            (
-                "0..=9, 20..=29",
-                "5..=24",
-                "0..=29",
-                "{0..=29}",
-                "5..=9, 20..=24",
-                "{5..=9, 20..=24}",
-            ),
-            ("", "0..=4", "0..=4", "{0..=4}", "", "{}"),
-            ("", "", "", "{}", "", "{}"),
-        ],
+        "
+        0..=4; 5..=9 | 0..=4, 5..=9; 0..=9 | ;
+        0..=4; 4..=9 | 0..=9; 0..=9 | 4..=4; 4..=4
+        0..=9, 20..=29; 5..=24 | 0..=29; 0..=29 | 5..=9, 20..=24; 5..=9, 20..=24
+        ; 0..=4 | 0..=4; 0..=4 | ;
+        ; | ; | ;
+        ",
     )
-}
-
-/// Compares the items and the sets that each row has.
-fn check_operations(alloc: Global, rows: &[Row<'_>]) -> Result<(), Fail> {
-    for (left, right, hulls, either, common, both) in rows {
-        let (left, right) = (Set::made_of(alloc, *left)?, Set::made_of(alloc, *right)?);
-        check_listed(alloc, left.union(&right), *hulls)?;
-        check_text(alloc, &(&left | &right)?, *either)?;
-        check_listed(alloc, left.intersection(&right), *common)?;
-        check_text(alloc, &(&left & &right)?, *both)?;
-    }
-    Ok(())
 }
 
 #[test]

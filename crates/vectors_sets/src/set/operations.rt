@@ -1,55 +1,25 @@
 //! Rows about unions and intersections.
 
 use super::Set;
-use super::replays::check_replay;
+use crate::tables::check_half_open_operations;
 use rangemap::RangeSet;
 use rangemap::set::{Intersection, Iter, Union};
-use rows::{Tested, check_listed, check_text};
+use rows::{check_listed, check_text};
 use std::alloc::Global;
 use std::test::Fail;
 
-/// Two sets, the items of their union, the set of `|`, the items of their intersection, and the set
-/// of `&`.
-type Row<'t> = (&'t str, &'t str, &'t str, &'t str, &'t str, &'t str);
-
 #[test]
 fn both_sets_are_put_together(rt: HostRuntime) -> Result<(), Fail> {
-    check_operations(
+    check_half_open_operations(
         rt.alloc(),
-        &[
-            ("0..5", "5..10", "0..5, 5..10", "{0..10}", "", "{}"),
-            (
-                "0..5, 9..12",
-                "3..10",
-                "0..12",
-                "{0..12}",
-                "3..5, 9..10",
-                "{3..5, 9..10}",
-            ),
-            (
-                "0..10, 20..30",
-                "5..25",
-                "0..30",
-                "{0..30}",
-                "5..10, 20..25",
-                "{5..10, 20..25}",
-            ),
-            ("", "0..5", "0..5", "{0..5}", "", "{}"),
-            ("", "", "", "{}", "", "{}"),
-        ],
+        "
+        0..5; 5..10 | 0..5, 5..10; 0..10 | ;
+        0..5, 9..12; 3..10 | 0..12; 0..12 | 3..5, 9..10; 3..5, 9..10
+        0..10, 20..30; 5..25 | 0..30; 0..30 | 5..10, 20..25; 5..10, 20..25
+        ; 0..5 | 0..5; 0..5 | ;
+        ; | ; | ;
+        ",
     )
-}
-
-/// Compares the items and the sets that each row has.
-fn check_operations(alloc: Global, rows: &[Row<'_>]) -> Result<(), Fail> {
-    for (left, right, hulls, either, common, both) in rows {
-        let (left, right) = (Set::made_of(alloc, *left)?, Set::made_of(alloc, *right)?);
-        check_listed(alloc, left.union(&right), *hulls)?;
-        check_text(alloc, &(&left | &right)?, *either)?;
-        check_listed(alloc, left.intersection(&right), *common)?;
-        check_text(alloc, &(&left & &right)?, *both)?;
-    }
-    Ok(())
 }
 
 #[test]
@@ -90,19 +60,4 @@ fn without_the_last(
     )?;
     check_listed(alloc, Union::new(one, right.iter()), "0..2, 4..9")?;
     check_listed(alloc, Intersection::new(other, right.iter()), "5..6")
-}
-
-// What either of two sets has in common with a third, and what each has in common with it, put
-// together.
-#[test]
-fn what_is_common_distributes(rt: HostRuntime) -> Result<(), Fail> {
-    check_replay(
-        rt.alloc(),
-        "from 0..5, from 5..10, from 3..7, union 0 1, intersection 3 2, intersection 0 2, \
-        intersection 1 2, union 5 6",
-        "++++++++",
-        &[
-            "0..5", "5..10", "3..7", "0..10", "3..7", "3..5", "5..7", "3..7",
-        ],
-    )
 }

@@ -1,0 +1,124 @@
+//! The laws, run on the containers of rows: with memory, each reaches its outcome.
+ghost use Rattle.std.specs.Prelude.{IfOk};
+ghost use Rattle.rangemap.specs.Clones.{KeysCloneFaithfully, ValuesCloneFaithfully};
+
+use crate::compared::{are_ranges, holds};
+use crate::in_rows::InRows;
+use crate::lists::first_word;
+use rangemap_laws::laws;
+use std::test::Fail;
+
+/// Runs a law on two containers that are equal, or on the first alone, and compares what it leaves.
+pub(crate) fn keeps_law<M: InRows>(
+    alloc: M::Alloc,
+    one: M,
+    other: M,
+    law: &str,
+    outcome: &str,
+) -> Result<bool, Fail>
+where
+    M::Alloc: Copy,
+    requires faithful_keys { KeysCloneFaithfully M.Key.is_clone M.Key.cmp }
+    requires faithful_values { ValuesCloneFaithfully M.Value.is_clone M.Value.eq }
+{
+    let (name, operand) = first_word(law);
+    match name {
+        "insert" => keeps_insert(alloc, one, operand, outcome),
+        "remove" => keeps_remove(alloc, one, operand, outcome),
+        "parted" => is_parted(alloc, &one, operand, outcome),
+        "alike" | "twice" | "back" => are_alike(alloc, one, other, law, outcome),
+        _ => Err(Fail::new(format_args!("no law is called {name}"))),
+    }
+}
+
+/// The range and the value of a pair.
+fn pair_of<M: InRows>(alloc: M::Alloc, pair: &str) -> Result<(M::Range, M::Value), Fail>
+where
+    M::Alloc: Copy,
+    ensures { IfOk result (λ pair. M.Kind.kind.IsNonEmpty pair.0) }
+{
+    let (range, value) = first_word(pair);
+    let range = M::range(alloc, range)?;
+    Ok((range, M::value(alloc, value)?))
+}
+
+/// An insert leaves the other pairs.
+fn keeps_insert<M: InRows>(
+    alloc: M::Alloc,
+    mut map: M,
+    pair: &str,
+    pairs: &str,
+) -> Result<bool, Fail>
+where
+    M::Alloc: Copy,
+    requires faithful_keys { KeysCloneFaithfully M.Key.is_clone M.Key.cmp }
+    requires faithful_values { ValuesCloneFaithfully M.Value.is_clone M.Value.eq }
+{
+    let (range, value) = pair_of::<M>(alloc, pair)?;
+    laws::insert_changes_its_range_alone(&mut map, range, value)?;
+    Ok(holds(&map, pairs)?)
+}
+
+/// A remove leaves the other pairs.
+fn keeps_remove<M: InRows>(
+    alloc: M::Alloc,
+    mut map: M,
+    range: &str,
+    pairs: &str,
+) -> Result<bool, Fail>
+where
+    M::Alloc: Copy,
+    requires faithful_keys { KeysCloneFaithfully M.Key.is_clone M.Key.cmp }
+    requires faithful_values { ValuesCloneFaithfully M.Value.is_clone M.Value.eq }
+{
+    laws::remove_changes_its_range_alone(&mut map, M::range(alloc, range)?)?;
+    Ok(holds(&map, pairs)?)
+}
+
+/// Gaps and covered keys make up a range.
+fn is_parted<M: InRows>(
+    alloc: M::Alloc,
+    map: &M,
+    outer_range: &str,
+    gaps: &str,
+) -> Result<bool, Fail>
+where
+    M::Alloc: Copy,
+    requires faithful_keys { KeysCloneFaithfully M.Key.is_clone M.Key.cmp }
+    requires faithful_values { ValuesCloneFaithfully M.Value.is_clone M.Value.eq }
+{
+    let outer_range = M::query(alloc, outer_range)?;
+    let found = laws::gaps_and_covered_keys_make_up_a_range(alloc, map, &outer_range)?;
+    Ok(are_ranges::<M>(found.as_slice(), gaps))
+}
+
+/// Equal maps are alike, and are no more after one more insert into one of them. An insert into both
+/// leaves the pairs, made once or `twice`; so does a remove from both, whether or not its range was
+/// inserted before and is `back` out.
+fn are_alike<M: InRows>(
+    alloc: M::Alloc,
+    mut one: M,
+    mut other: M,
+    law: &str,
+    pairs: &str,
+) -> Result<bool, Fail>
+where
+    M::Alloc: Copy,
+    requires faithful_keys { KeysCloneFaithfully M.Key.is_clone M.Key.cmp }
+    requires faithful_values { ValuesCloneFaithfully M.Value.is_clone M.Value.eq }
+{
+    if laws::equal_exactly_when_alike(&one, &other) != (true, false) {
+        return Ok(false);
+    }
+    let (name, pair) = first_word(law);
+    let (range, value) = pair_of::<M>(alloc, pair)?;
+    match name {
+        "twice" => laws::insert_twice_equals_once(&mut one, &mut other, &range, &value)?,
+        "back" => laws::remove_after_insert_equals_remove(&mut one, &mut other, &range, &value)?,
+        _ => {
+            other.insert(range, value)?;
+            return Ok(laws::equal_exactly_when_alike(&one, &other) == (false, true));
+        }
+    }
+    Ok(holds(&one, pairs)? && holds(&other, pairs)?)
+}

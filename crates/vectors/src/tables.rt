@@ -1,0 +1,84 @@
+//! The containers with which tables are compared, and the replays.
+//!
+//! Tests call these functions, and give them text alone: in each function that names a type of
+//! container all that the container does is proved anew.
+
+use rangemap::{RangeInclusiveMap, RangeMap, inclusive_map, map, tree_map};
+use rows::{Noted, SignedSteps, calls_of, changes_of, check_replayed, check_rows, parts};
+use std::alloc::Global;
+use std::test::Fail;
+
+/// A map of half-open ranges.
+type HalfOpen = RangeMap<u32, Noted, Global>;
+
+/// A map over bytes.
+type Bytes = RangeInclusiveMap<u8, Noted, u8, Global>;
+
+/// A map over signed bytes by their own steps.
+type SignedBytes = RangeInclusiveMap<i8, Noted, i8, Global>;
+
+/// A map over signed bytes by the steps of another type.
+type Stepped = RangeInclusiveMap<i8, Noted, SignedSteps, Global>;
+
+/// Compares a table for maps of half-open ranges, in a sorted vector and in a tree.
+pub fn check_half_open(alloc: Global, table: &str) -> Result<(), Fail> {
+    check_rows::<HalfOpen>(alloc, table)?;
+    check_rows::<tree_map::RangeMap<u32, Noted, Global>>(alloc, table)
+}
+
+/// Compares a table for maps of closed ranges.
+pub fn check_closed(alloc: Global, table: &str) -> Result<(), Fail> {
+    check_rows::<RangeInclusiveMap<u32, Noted, u32, Global>>(alloc, table)
+}
+
+/// Compares a table for maps over bytes.
+pub fn check_bytes(alloc: Global, table: &str) -> Result<(), Fail> {
+    check_rows::<Bytes>(alloc, table)
+}
+
+/// Compares a table for maps over signed bytes.
+pub fn check_signed_bytes(alloc: Global, table: &str) -> Result<(), Fail> {
+    check_rows::<SignedBytes>(alloc, table)
+}
+
+/// Compares a replay: its calls, which of them are accepted, and what each map holds then.
+pub fn check_half_open_replay(alloc: Global, row: &str) -> Result<(), Fail> {
+    let (calls, accepted, lists) = parts(row)?;
+    let mut maps: Vec<HalfOpen, _> = Vec::new(alloc);
+    let answers = map::replay(alloc, &mut maps, calls_of::<HalfOpen>(alloc, calls)?);
+    check_replayed(answers, accepted, maps.as_slice(), lists)
+}
+
+/// Compares a replay on maps over bytes.
+pub fn check_bytes_replay(alloc: Global, row: &str) -> Result<(), Fail> {
+    let (calls, accepted, lists) = parts(row)?;
+    let mut maps: Vec<Bytes, _> = Vec::new(alloc);
+    let answers = inclusive_map::replay(alloc, &mut maps, calls_of::<Bytes>(alloc, calls)?);
+    check_replayed(answers, accepted, maps.as_slice(), lists)
+}
+
+/// Compares a replay on maps over signed bytes.
+pub fn check_signed_bytes_replay(alloc: Global, row: &str) -> Result<(), Fail> {
+    let (calls, accepted, lists) = parts(row)?;
+    let mut maps: Vec<SignedBytes, _> = Vec::new(alloc);
+    let answers = inclusive_map::replay(alloc, &mut maps, calls_of::<SignedBytes>(alloc, calls)?);
+    check_replayed(answers, accepted, maps.as_slice(), lists)
+}
+
+/// Compares a replay of changes by the steps of bytes.
+pub fn check_bytes_changes(alloc: Global, row: &str) -> Result<(), Fail> {
+    let (calls, accepted, lists) = parts(row)?;
+    let mut maps: Vec<Bytes, _> = Vec::new(alloc);
+    let changes = changes_of::<Bytes>(alloc, calls)?;
+    let answers = inclusive_map::replay_with_step_fns(alloc, &mut maps, changes);
+    check_replayed(answers, accepted, maps.as_slice(), lists)
+}
+
+/// Compares a replay of changes by the steps of another type.
+pub fn check_stepped_changes(alloc: Global, row: &str) -> Result<(), Fail> {
+    let (calls, accepted, lists) = parts(row)?;
+    let mut maps: Vec<Stepped, _> = Vec::new(alloc);
+    let changes = changes_of::<Stepped>(alloc, calls)?;
+    let answers = inclusive_map::replay_with_step_fns(alloc, &mut maps, changes);
+    check_replayed(answers, accepted, maps.as_slice(), lists)
+}

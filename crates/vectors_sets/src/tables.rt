@@ -1,0 +1,105 @@
+//! The containers with which tables are compared, the replays, and what two sets make.
+//!
+//! Tests call these functions, and give them text alone: in each function that names a type of
+//! container all that the container does is proved anew.
+
+use crate::inclusive_set::Set as ClosedSet;
+use crate::set::Set;
+use rangemap::{RangeInclusiveSet, inclusive_set, set};
+use rows::{
+    changes_of, check_listed, check_replayed, check_row, check_rows, made_of, parts, set_calls_of,
+};
+use std::alloc::Global;
+use std::test::Fail;
+
+/// A set of bytes.
+type Bytes = RangeInclusiveSet<u8, u8, Global>;
+
+/// Compares a table for sets of half-open ranges.
+pub fn check_half_open(alloc: Global, table: &str) -> Result<(), Fail> {
+    check_rows::<Set>(alloc, table)
+}
+
+/// Compares a table for sets of closed ranges.
+pub fn check_closed(alloc: Global, table: &str) -> Result<(), Fail> {
+    check_rows::<ClosedSet>(alloc, table)
+}
+
+/// Compares a table for sets of bytes.
+pub fn check_bytes(alloc: Global, table: &str) -> Result<(), Fail> {
+    check_rows::<Bytes>(alloc, table)
+}
+
+/// Compares a replay: its calls, which of them are accepted, and what each set holds then.
+pub fn check_half_open_replay(alloc: Global, row: &str) -> Result<(), Fail> {
+    let (calls, accepted, lists) = parts(row)?;
+    let mut sets: Vec<Set, _> = Vec::new(alloc);
+    let answers = set::replay(alloc, &mut sets, set_calls_of::<Set>(alloc, calls)?);
+    check_replayed(answers, accepted, sets.as_slice(), lists)
+}
+
+/// Compares a replay on sets of closed ranges.
+pub fn check_closed_replay(alloc: Global, row: &str) -> Result<(), Fail> {
+    let (calls, accepted, lists) = parts(row)?;
+    let mut sets: Vec<ClosedSet, _> = Vec::new(alloc);
+    let answers = inclusive_set::replay(alloc, &mut sets, set_calls_of::<ClosedSet>(alloc, calls)?);
+    check_replayed(answers, accepted, sets.as_slice(), lists)
+}
+
+/// Compares a replay of changes by the steps of bytes.
+pub fn check_bytes_changes(alloc: Global, row: &str) -> Result<(), Fail> {
+    let (calls, accepted, lists) = parts(row)?;
+    let mut sets: Vec<Bytes, _> = Vec::new(alloc);
+    let changes = changes_of::<Bytes>(alloc, calls)?;
+    let answers = inclusive_set::replay_with_step_fns(alloc, &mut sets, changes);
+    check_replayed(answers, accepted, sets.as_slice(), lists)
+}
+
+/// Compares what the two sets of each line make: the items of their union and the set of `|`, and the
+/// items of their intersection and the set of `&`. Lists have a semicolon between them.
+pub fn check_half_open_operations(alloc: Global, table: &str) -> Result<(), Fail> {
+    for line in table.split('\n') {
+        let row = line.trim();
+        if !row.is_empty() {
+            let [left, right, hulls, either, common, both] = sides(row)?;
+            let (left, right): (Set, Set) = (made_of(alloc, left)?, made_of(alloc, right)?);
+            check_listed(alloc, left.union(&right), hulls)?;
+            check_row(&(&left | &right)?, either)?;
+            check_listed(alloc, left.intersection(&right), common)?;
+            check_row(&(&left & &right)?, both)?;
+        }
+    }
+    Ok(())
+}
+
+/// The same of sets of closed ranges.
+pub fn check_closed_operations(alloc: Global, table: &str) -> Result<(), Fail> {
+    for line in table.split('\n') {
+        let row = line.trim();
+        if !row.is_empty() {
+            let [left, right, hulls, either, common, both] = sides(row)?;
+            let (left, right): (ClosedSet, ClosedSet) = (
+                made_of(alloc, left)?,
+                made_of(alloc, right)?,
+            );
+            check_listed(alloc, left.union(&right), hulls)?;
+            check_row(&(&left | &right)?, either)?;
+            check_listed(alloc, left.intersection(&right), common)?;
+            check_row(&(&left & &right)?, both)?;
+        }
+    }
+    Ok(())
+}
+
+/// The two sets of a row, and the two lists of each operator.
+fn sides(row: &str) -> Result<[&str; 6], Fail> {
+    let (sets, either, common) = parts(row)?;
+    let ((left, right), (hulls, all), (shared, both)) = (pair(sets)?, pair(either)?, pair(common)?);
+    Ok([left, right, hulls, all, shared, both])
+}
+
+/// The two lists that a semicolon parts.
+fn pair(lists: &str) -> Result<(&str, &str), Fail> {
+    let (first, second) = lists.split_once(';').ok_or("a part has two lists")?;
+    Ok((first.trim(), second.trim()))
+}
