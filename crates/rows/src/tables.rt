@@ -45,13 +45,17 @@ where
     let (name, operand) = first_word(question);
     match name {
         "holds" => Ok(holds(&map, answer)?),
-        "clone" => Ok(holds(&map.clone()?, answer)?),
+        "clone" => {
+            let copy = map.clone()?;
+            Ok(copy == map && holds(&copy, answer)?)
+        }
         "overlapping" => Ok(has_overlapping(&map, &M::query(alloc, operand)?, answer)?),
         "gaps" => Ok(has_gaps(&map, &M::query(alloc, operand)?, answer)?),
         "at" => Ok(has_found(&map, &M::key(alloc, operand)?, answer)),
         "equals" => {
             let other: M = made_of(alloc, operand)?;
-            Ok(answer.parse() == Ok(map == other))
+            let (is_equal, differs) = (map == other, map != other);
+            Ok(is_equal != differs && answer.parse() == Ok(is_equal))
         }
         "law" => {
             let mut other = M::empty(alloc);

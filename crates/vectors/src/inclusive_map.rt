@@ -1,19 +1,18 @@
 //! Rows over closed ranges.
 
 use crate::laws::check_commute;
-use crate::tables::{check_bytes, check_closed, check_signed_bytes};
+use crate::tables::{check_bytes, check_closed, check_signed_bytes, check_stepped};
 use rangemap::RangeInclusiveMap;
 use std::alloc::Global;
 use std::test::Fail;
 
 mod collections;
 mod replays;
-mod steps;
 
 /// A map over numbers.
 pub type Map = RangeInclusiveMap<u32, char, u32, Global>;
 
-// Equality forgets the calls, and a clone is equal.
+// Equality forgets the calls, a clone is equal, and of equal values the newest stays.
 #[test]
 fn ranges_with_no_key_between_are_joined(rt: HostRuntime) -> Result<(), Fail> {
     check_closed(
@@ -31,15 +30,7 @@ fn ranges_with_no_key_between_are_joined(rt: HostRuntime) -> Result<(), Fail> {
         insert 0..=9 a, insert 3..=5 b, insert 3..=5 a | equals 0..=4 a, 5..=9 a | true
         insert 0..=9 a | clone | 0..=9 a
         insert 0..=4 a | equals 0..=5 a | false
-        ",
-    )
-}
 
-#[test]
-fn what_is_asked_is_answered(rt: HostRuntime) -> Result<(), Fail> {
-    check_closed(
-        rt.alloc(),
-        "
         new | at 5 |
         new | holds |
         insert 0..=9 a, insert 3..=5 b | at 2 | 0..=2 a
@@ -52,32 +43,9 @@ fn what_is_asked_is_answered(rt: HostRuntime) -> Result<(), Fail> {
         insert 5..=8 a | overlapping 8..=9 | 5..=8 a
         insert 5..=8 a | overlapping 9..=12 |
         insert 0..=1 a, insert 2..=3 b, insert 8..=9 c | overlapping 1..=7 | 0..=1 a, 2..=3 b
-        ",
-    )
-}
 
-#[test]
-fn the_newest_of_equal_values_stays(rt: HostRuntime) -> Result<(), Fail> {
-    check_closed(
-        rt.alloc(),
-        "
         insert 0..=3 ax, insert 4..=7 ay | holds | 0..=7 ay
         insert 0..=3 ax, insert 4..=7 ay | at 0 | 0..=7 ay
-        ",
-    )
-}
-
-#[test]
-fn changes_and_gaps_keep_their_laws(rt: HostRuntime) -> Result<(), Fail> {
-    check_closed(
-        rt.alloc(),
-        "
-        insert 0..=9 a, insert 3..=5 b | law alike 3..=4 a |
-        insert 0..=9 a | law insert 3..=5 b | 0..=2 a, 3..=5 b, 6..=9 a
-        insert 0..=9 a, insert 3..=5 b | law remove 2..=6 | 0..=1 a, 7..=9 a
-        insert 0..=9 a | law twice 3..=5 b | 0..=2 a, 3..=5 b, 6..=9 a
-        insert 0..=9 a | law back 3..=5 b | 0..=2 a, 6..=9 a
-        insert 1..=2 a, insert 5..=6 b | law parted 0..=7 | 0..=0, 3..=4, 7..=7
         ",
     )
 }
@@ -95,16 +63,41 @@ fn bytes_go_to_their_end(rt: HostRuntime) -> Result<(), Fail> {
         insert 0..=9 f, insert 250..=255 t | gaps 12..=10 |
         insert 0..=9 f, insert 250..=255 t, insert 10..=249 f | gaps 0..=255 |
         ",
-    )
-}
-
-#[test]
-fn ends_are_removed(rt: HostRuntime) -> Result<(), Fail> {
+    )?;
     check_signed_bytes(
         rt.alloc(),
         "
         insert -128..=127 t, remove -128..=-128 | holds | -127..=127 t
         insert -128..=127 t, remove -128..=-128, remove 127..=127 | holds | -127..=126 t
+        ",
+    )
+}
+
+// A clone of one that gets its steps by another type has them too.
+#[test]
+fn steps_may_come_of_another_type(rt: HostRuntime) -> Result<(), Fail> {
+    check_stepped(
+        rt.alloc(),
+        "
+        insert -128..=-1 f, insert 0..=127 f | equals -128..=127 f | true
+        insert -128..=-1 f, insert 0..=127 f | clone | -128..=127 f
+        insert -128..=127 f, remove 127..=127 | equals -128..=127 f | false
+        insert -128..=-1 f, insert 0..=127 f | holds | -128..=127 f
+        ",
+    )
+}
+
+#[test]
+fn changes_and_gaps_keep_their_laws(rt: HostRuntime) -> Result<(), Fail> {
+    check_closed(
+        rt.alloc(),
+        "
+        insert 0..=9 a, insert 3..=5 b | law alike 3..=4 a |
+        insert 0..=9 a | law insert 3..=5 b | 0..=2 a, 3..=5 b, 6..=9 a
+        insert 0..=9 a, insert 3..=5 b | law remove 2..=6 | 0..=1 a, 7..=9 a
+        insert 0..=9 a | law twice 3..=5 b | 0..=2 a, 3..=5 b, 6..=9 a
+        insert 0..=9 a | law back 3..=5 b | 0..=2 a, 6..=9 a
+        insert 1..=2 a, insert 5..=6 b | law parted 0..=7 | 0..=0, 3..=4, 7..=7
         ",
     )
 }

@@ -16,7 +16,9 @@ pub type Map = RangeMap<u32, char, Global>;
 /// The same in a tree.
 pub type TreeMap = tree_map::RangeMap<u32, char, Global>;
 
-// Inside a stored range, and its own value back.
+// Inside a stored range, and its own value back; all of some pairs and parts of others; removals;
+// equality, which forgets the calls, and a clone; and values that are equal in part, of which the
+// newest stays.
 #[test]
 fn what_is_covered_is_replaced(rt: HostRuntime) -> Result<(), Fail> {
     check_half_open(
@@ -24,17 +26,7 @@ fn what_is_covered_is_replaced(rt: HostRuntime) -> Result<(), Fail> {
         "
         insert 0..10 f, insert 3..6 t | holds | 0..3 f, 3..6 t, 6..10 f
         insert 0..10 f, insert 3..6 t, insert 3..6 f | holds | 0..10 f
-        ",
-    )
-}
 
-// All of some pairs and parts of others are covered; what is removed is cut out, and a map that was cleared
-// takes pairs again; equality forgets the calls, and a clone is equal.
-#[test]
-fn pieces_are_kept_and_joined(rt: HostRuntime) -> Result<(), Fail> {
-    check_half_open(
-        rt.alloc(),
-        "
         insert 0..2 a, insert 3..4 b, insert 5..6 c, insert 7..8 d, insert 9..12 e, insert 1..10 f | holds | 0..1 a, 1..10 f, 10..12 e
         insert 5..8 a, insert 2..5 b, insert 2..8 b | holds | 2..8 b
         insert 0..5 a, insert 5..9 b, insert 5..7 a | holds | 0..7 a, 7..9 b
@@ -53,15 +45,7 @@ fn pieces_are_kept_and_joined(rt: HostRuntime) -> Result<(), Fail> {
         insert 0..10 a, insert 3..6 b, insert 3..6 a | equals 0..10 a | true
         insert 0..5 a | equals 0..6 a | false
         insert 0..10 a, insert 3..6 b | clone | 0..3 a, 3..6 b, 6..10 a
-        ",
-    )
-}
 
-#[test]
-fn the_newest_of_equal_values_stays(rt: HostRuntime) -> Result<(), Fail> {
-    check_half_open(
-        rt.alloc(),
-        "
         insert 0..4 ax, insert 4..8 ay | holds | 0..8 ay
         insert 0..4 ax, insert 4..8 ay | at 0 | 0..8 ay
         ",

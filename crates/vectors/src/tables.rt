@@ -2,9 +2,10 @@
 //!
 //! Tests call these functions, and give them text alone: in each function that names a type of
 //! container all that the container does is proved anew.
+ghost use Rattle.rangemap.specs.Clones.{KeysCloneFaithfully};
 
-use rangemap::{RangeInclusiveMap, RangeMap, inclusive_map, map, tree_map};
-use rows::{Noted, SignedSteps, calls_of, changes_of, check_replayed, check_rows, parts};
+use rangemap::{RangeInclusiveMap, RangeMap, StepFns, StepLite, inclusive_map, map, tree_map};
+use rows::{Noted, SignedSteps, Word, calls_of, changes_of, check_replayed, check_rows, parts};
 use std::alloc::Global;
 use std::test::Fail;
 
@@ -41,6 +42,11 @@ pub fn check_signed_bytes(alloc: Global, table: &str) -> Result<(), Fail> {
     check_rows::<SignedBytes>(alloc, table)
 }
 
+/// Compares a table for maps over signed bytes by the steps of another type.
+pub fn check_stepped(alloc: Global, table: &str) -> Result<(), Fail> {
+    check_rows::<Stepped>(alloc, table)
+}
+
 /// Compares a replay: its calls, which of them are accepted, and what each map holds then.
 pub fn check_half_open_replay(alloc: Global, row: &str) -> Result<(), Fail> {
     let (calls, accepted, lists) = parts(row)?;
@@ -49,36 +55,30 @@ pub fn check_half_open_replay(alloc: Global, row: &str) -> Result<(), Fail> {
     check_replayed(answers, accepted, maps.as_slice(), lists)
 }
 
-/// Compares a replay on maps over bytes.
-pub fn check_bytes_replay(alloc: Global, row: &str) -> Result<(), Fail> {
+/// Compares a replay on maps of closed ranges.
+pub fn check_closed_replay<K: StepLite + Clone + Word<Global>>(
+    alloc: Global,
+    row: &str,
+) -> Result<(), Fail>
+    requires { KeysCloneFaithfully K.is_clone K.cmp }
+{
     let (calls, accepted, lists) = parts(row)?;
-    let mut maps: Vec<Bytes, _> = Vec::new(alloc);
-    let answers = inclusive_map::replay(alloc, &mut maps, calls_of::<Bytes>(alloc, calls)?);
+    let mut maps: Vec<RangeInclusiveMap<K, Noted, K, Global>, _> = Vec::new(alloc);
+    let calls = calls_of::<RangeInclusiveMap<K, Noted, K, Global>>(alloc, calls)?;
+    let answers = inclusive_map::replay(alloc, &mut maps, calls);
     check_replayed(answers, accepted, maps.as_slice(), lists)
 }
 
-/// Compares a replay on maps over signed bytes.
-pub fn check_signed_bytes_replay(alloc: Global, row: &str) -> Result<(), Fail> {
+/// Compares a replay of changes by the steps that `S` has.
+pub fn check_changes<K: Ord + Clone + Word<Global>, S: StepFns<K>>(
+    alloc: Global,
+    row: &str,
+) -> Result<(), Fail>
+    requires { KeysCloneFaithfully K.is_clone K.cmp }
+{
     let (calls, accepted, lists) = parts(row)?;
-    let mut maps: Vec<SignedBytes, _> = Vec::new(alloc);
-    let answers = inclusive_map::replay(alloc, &mut maps, calls_of::<SignedBytes>(alloc, calls)?);
-    check_replayed(answers, accepted, maps.as_slice(), lists)
-}
-
-/// Compares a replay of changes by the steps of bytes.
-pub fn check_bytes_changes(alloc: Global, row: &str) -> Result<(), Fail> {
-    let (calls, accepted, lists) = parts(row)?;
-    let mut maps: Vec<Bytes, _> = Vec::new(alloc);
-    let changes = changes_of::<Bytes>(alloc, calls)?;
-    let answers = inclusive_map::replay_with_step_fns(alloc, &mut maps, changes);
-    check_replayed(answers, accepted, maps.as_slice(), lists)
-}
-
-/// Compares a replay of changes by the steps of another type.
-pub fn check_stepped_changes(alloc: Global, row: &str) -> Result<(), Fail> {
-    let (calls, accepted, lists) = parts(row)?;
-    let mut maps: Vec<Stepped, _> = Vec::new(alloc);
-    let changes = changes_of::<Stepped>(alloc, calls)?;
+    let mut maps: Vec<RangeInclusiveMap<K, Noted, S, Global>, _> = Vec::new(alloc);
+    let changes = changes_of::<RangeInclusiveMap<K, Noted, S, Global>>(alloc, calls)?;
     let answers = inclusive_map::replay_with_step_fns(alloc, &mut maps, changes);
     check_replayed(answers, accepted, maps.as_slice(), lists)
 }

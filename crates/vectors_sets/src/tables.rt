@@ -55,21 +55,29 @@ pub fn check_bytes_changes(alloc: Global, row: &str) -> Result<(), Fail> {
     check_replayed(answers, accepted, sets.as_slice(), lists)
 }
 
-/// Compares what the two sets of each line make: the items of their union and the set of `|`, and the
-/// items of their intersection and the set of `&`. Lists have a semicolon between them.
+/// Compares what the two sets of each row make: the items of their union and the set of `|`, and the
+/// items of their intersection and the set of `&`. Two lists have a semicolon between them.
 pub fn check_half_open_operations(alloc: Global, table: &str) -> Result<(), Fail> {
     for line in table.split('\n') {
         let row = line.trim();
         if !row.is_empty() {
-            let [left, right, hulls, either, common, both] = sides(row)?;
-            let (left, right): (Set, Set) = (made_of(alloc, left)?, made_of(alloc, right)?);
-            check_listed(alloc, left.union(&right), hulls)?;
-            check_row(&(&left | &right)?, either)?;
-            check_listed(alloc, left.intersection(&right), common)?;
-            check_row(&(&left & &right)?, both)?;
+            check_half_open_operation(alloc, row)?;
         }
     }
     Ok(())
+}
+
+/// Compares what the two sets of a row make.
+fn check_half_open_operation(alloc: Global, row: &str) -> Result<(), Fail> {
+    let (sets, either, common) = parts(row)?;
+    let (left, right) = pair(sets)?;
+    let (left, right): (Set, Set) = (made_of(alloc, left)?, made_of(alloc, right)?);
+    let (items, set) = pair(either)?;
+    check_listed(alloc, left.union(&right), items)?;
+    check_row(&(&left | &right)?, set)?;
+    let (items, set) = pair(common)?;
+    check_listed(alloc, left.intersection(&right), items)?;
+    check_row(&(&left & &right)?, set)
 }
 
 /// The same of sets of closed ranges.
@@ -77,25 +85,23 @@ pub fn check_closed_operations(alloc: Global, table: &str) -> Result<(), Fail> {
     for line in table.split('\n') {
         let row = line.trim();
         if !row.is_empty() {
-            let [left, right, hulls, either, common, both] = sides(row)?;
-            let (left, right): (ClosedSet, ClosedSet) = (
-                made_of(alloc, left)?,
-                made_of(alloc, right)?,
-            );
-            check_listed(alloc, left.union(&right), hulls)?;
-            check_row(&(&left | &right)?, either)?;
-            check_listed(alloc, left.intersection(&right), common)?;
-            check_row(&(&left & &right)?, both)?;
+            check_closed_operation(alloc, row)?;
         }
     }
     Ok(())
 }
 
-/// The two sets of a row, and the two lists of each operator.
-fn sides(row: &str) -> Result<[&str; 6], Fail> {
+/// Compares what the two sets of a row make.
+fn check_closed_operation(alloc: Global, row: &str) -> Result<(), Fail> {
     let (sets, either, common) = parts(row)?;
-    let ((left, right), (hulls, all), (shared, both)) = (pair(sets)?, pair(either)?, pair(common)?);
-    Ok([left, right, hulls, all, shared, both])
+    let (left, right) = pair(sets)?;
+    let (left, right): (ClosedSet, ClosedSet) = (made_of(alloc, left)?, made_of(alloc, right)?);
+    let (items, set) = pair(either)?;
+    check_listed(alloc, left.union(&right), items)?;
+    check_row(&(&left | &right)?, set)?;
+    let (items, set) = pair(common)?;
+    check_listed(alloc, left.intersection(&right), items)?;
+    check_row(&(&left & &right)?, set)
 }
 
 /// The two lists that a semicolon parts.

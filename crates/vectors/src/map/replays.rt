@@ -4,17 +4,14 @@ use crate::tables::check_half_open_replay;
 use std::test::Fail;
 
 #[test]
-fn insert_inside_and_back(rt: HostRuntime) -> Result<(), Fail> {
+fn maps_of_maps_and_of_pairs(rt: HostRuntime) -> Result<(), Fail> {
+    // insert inside and back; two that touch; remove inside; and calls on a third map, where there
+    // are two
     check_half_open_replay(
         rt.alloc(),
         "new, insert 0..10 f, insert 3..6 t, clone, insert 3..6 f | +++++ | \
         0..10 f; 0..3 f, 3..6 t, 6..10 f",
-    )
-}
-
-#[test]
-fn maps_of_maps_and_of_pairs(rt: HostRuntime) -> Result<(), Fail> {
-    // two that touch; remove inside; and calls on a third map, where there are two
+    )?;
     check_half_open_replay(
         rt.alloc(),
         "new, insert 0..5 a, insert 5..9 b, insert 5..7 a | ++++ | 0..7 a, 7..9 b",
