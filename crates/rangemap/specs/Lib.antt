@@ -11,11 +11,11 @@ pub use Rattle.rangemap_operations.specs.Sets
 pub use Rattle.rangemap_steps.specs.Steps
 pub use Rattle.rangemap_steps.specs.StepLaws
 pub use Rattle.rangemap_steps.specs.CharLaws
-pub use Rattle.rangemap_laws.specs.Histories
+pub use Rattle.rangemap_replay.specs.Histories
 pub use Rattle.rangemap_laws.specs.DefinedIn
 pub use Rattle.rangemap_laws.specs.GapPartition
 pub use Rattle.rangemap_laws.specs.SmallLists
 pub use Rattle.rangemap_operations.specs.Operators
-pub use Rattle.rangemap_laws.specs.SetHistories
+pub use Rattle.rangemap_replay.specs.SetHistories
 pub use Rattle.rangemap_laws.specs.IteratorEnds
 pub use Rattle.rangemap_laws.specs.Runs

@@ -1,19 +1,11 @@
 //! The set over closed ranges, and the runs of any calls that make or change such sets.
-ghost use Rattle.std.specs.Prelude.{◌≡◌, IfOk, OnErr};
-ghost use Rattle.std.specs.List.{AllByRecursion};
-ghost use Rattle.rangemap.specs.Clones.{KeysCloneFaithfully};
-ghost use Rattle.rangemap.specs.Histories.{ChangeStep, HasNonEmptyRange, MakesAll};
-ghost use Rattle.rangemap.specs.SetHistories.{SetHasNonEmptyRanges, SetStep};
-ghost use Rattle.rangemap.specs.Ranges.{closed, unit_eq, with_unit};
 
 use crate::range_set::Set;
-use crate::{StepFns, StepLite};
-use rangemap_laws::calls::{self, sets};
-use rangemap_laws::replay;
 use rangemap_maps::closed::Closed;
 use rangemap_maps::inclusive_map;
 use rangemap_operations::{into_iter, iter, operations, overlapping};
-use std::alloc::{AllocError, Allocator};
+use rangemap_replay::calls::{self, sets};
+pub use rangemap_replay::replay::{replay, replay as replay_with_step_fns};
 use std::ops::RangeInclusive;
 
 /// A set of keys in disjoint closed ranges, `a..=b`, which joins ranges that overlap or touch: those
@@ -57,55 +49,3 @@ pub type Call<T, A> = sets::SetCall<RangeInclusive<T>, A>;
 /// A call that a set over any steps has: those of `Call` but the two that take ranges and the
 /// operators.
 pub type Change<T> = calls::Change<RangeInclusive<T>, ()>;
-
-/// Makes any list of calls, in order, on a list of sets over the key type's own steps, and answers
-/// of each whether it was accepted.
-///
-/// What it says is what `set::replay` says of half-open ranges, over closed ones: whatever point
-/// functions the sets stood for, they then stand for the functions that the accepted calls give,
-/// and each set's list is the canonical list of its function.
-///
-/// The caller sees to it that no range is empty or was iterated to its end, and that clones are
-/// faithful, as for `insert`.
-///
-/// `Err` says that the memory for the answers, for the sets to come or for the allocators to hand
-/// to them, one for each call, or a clone of `alloc`, was refused. Then no call was made, and the
-/// sets are as they were.
-///
-/// ```text
-/// let mut sets = Vec::new(alloc);
-/// let insert = Call::Insert { at: 0, range: 0..=255u8 };
-/// let union = Call::Union { left: 0, right: 7 };
-/// let calls = [Call::New, insert, union];
-/// let answers = replay(alloc, &mut sets, Vec::from_array(alloc, calls)?)?; // true, true, false
-/// ```
-pub fn replay<T: StepLite + Clone, A: Allocator + Clone>(
-    alloc: A,
-    sets: &mut Vec<RangeInclusiveSet<T, T, A>, A>,
-    calls: Vec<Call<T, A>, A>,
-) -> Result<Vec<bool, A>, AllocError>
-    requires non_empty { AllByRecursion (SetHasNonEmptyRanges (closed T.StepLite.is_key T.cmp)) calls.items }
-    requires faithful_keys { KeysCloneFaithfully T.is_clone T.cmp }
-    ensures ok { IfOk result (λ answers. MakesAll (closed T.StepLite.is_key T.cmp) (unit_eq (closed T.StepLite.is_key T.cmp)) (with_unit (closed T.StepLite.is_key T.cmp)) (SetStep (closed T.StepLite.is_key T.cmp)) sets.old.items calls.items answers.items sets.new.items) }
-    ensures err { OnErr result (sets.new.items ≡ sets.old.items) }
-{
-    replay::replay(alloc, sets, calls)
-}
-
-/// Makes any list of the calls that a set over any steps has, in order, on a list of sets, and
-/// answers of each whether it was accepted: those of `replay` but `FromIter`, `Extend`, `Union` and
-/// `Intersection`. `New` is `new_with_step_fns` here.
-///
-/// The contract, the conditions and what `Err` says are those of `replay`.
-pub fn replay_with_step_fns<T: Ord + Clone, StepFnsT: StepFns<T>, A: Allocator + Clone>(
-    alloc: A,
-    sets: &mut Vec<RangeInclusiveSet<T, StepFnsT, A>, A>,
-    changes: Vec<Change<T>, A>,
-) -> Result<Vec<bool, A>, AllocError>
-    requires non_empty { AllByRecursion (HasNonEmptyRange (closed StepFnsT.is_key T.cmp)) changes.items }
-    requires faithful_keys { KeysCloneFaithfully T.is_clone T.cmp }
-    ensures ok { IfOk result (λ answers. MakesAll (closed StepFnsT.is_key T.cmp) (unit_eq (closed StepFnsT.is_key T.cmp)) (with_unit (closed StepFnsT.is_key T.cmp)) (ChangeStep (closed StepFnsT.is_key T.cmp)) sets.old.items changes.items answers.items sets.new.items) }
-    ensures err { OnErr result (sets.new.items ≡ sets.old.items) }
-{
-    replay::replay(alloc, sets, changes)
-}

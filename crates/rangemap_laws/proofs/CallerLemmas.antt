@@ -6,7 +6,7 @@ use Rattle.std.specs.Option.{option_eq}
 use Rattle.std.specs.List.{find}
 use Rattle.std.specs.Cmp.{IsTotalOrder, IsEquivalence}
 use Rattle.rangemap_core.specs.Ranges.{RangeKind, Alike, AreGaps, IsCanonOf, IsCanonical, IsStorable, covering, covers, erase, overlapped, override, same_pairs, value_at}
-use Rattle.rangemap_laws.specs.Histories.{IsUndefinedOn}
+use Rattle.rangemap_replay.specs.Histories.{IsUndefinedOn}
 use Rattle.rangemap_core.specs.engine.Endpoints.{IsPlaced, EndpointOf, asked}
 use Rattle.rangemap_core.specs.engine.Places.{place_cmp}
 use Rattle.rangemap_core.specs.laws.Orders.{eq_eq, eq_lt, eq_turn, itself, le_Equal, le_Less, le_lt, lt_eq, lt_le, lt_lt, lt_not_le, turn}

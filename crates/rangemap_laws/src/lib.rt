@@ -1,11 +1,9 @@
-//! What holds of every container, and the runs of any calls and commands, written once for all of
-//! them.
+//! What holds of every container, and the runs of any commands, written once for all of them.
 //!
-//! Users name the crate `rangemap`, which exports the laws and, under each container's own name, its
-//! run.
+//! Users name the crate `rangemap`, which exports the laws and the runs.
 #![tactic(auto)]
 
-pub mod calls;
 pub mod commands;
 pub mod laws;
-pub mod replay;
+
+pub use rangemap_replay::{calls, replay};

@@ -5,7 +5,7 @@ ghost use Rattle.rangemap.specs.Histories.{HasNonEmptyRange};
 
 use crate::in_rows::InRows;
 use crate::lists::first_word;
-use rangemap_laws::calls::Change;
+use rangemap_replay::calls::Change;
 use std::test::Fail;
 
 /// Makes the call that a text names, on the container at a place of a list: `insert` of a range and

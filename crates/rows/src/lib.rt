@@ -33,7 +33,7 @@ pub use lists::parts;
 pub use names::{Heap, MANY, NamedSet, Names, Text, Texts, TreeTexts};
 pub use noted::Noted;
 pub use ranges::{closed, filled};
-pub use replays::{calls_of, changes_of, check_replayed, pairs_of, ranges_of, set_calls_of};
+pub use replays::{calls_of, changes_of, check_replay, pairs_of, ranges_of, set_calls_of};
 pub use signed::SignedSteps;
 pub use tables::check_rows;
 pub use tested::Tested;

@@ -4,6 +4,7 @@
 //! ranges that a call takes have a plus between them.
 ghost use Rattle.std.specs.Prelude.{IfOk};
 ghost use Rattle.std.specs.List.{AllByRecursion};
+ghost use Rattle.rangemap.specs.Clones.{KeysCloneFaithfully, ValuesCloneFaithfully};
 ghost use Rattle.rangemap.specs.Histories.{HasNonEmptyRange, HasNonEmptyRanges};
 ghost use Rattle.rangemap.specs.Ranges.{AreNonEmpty};
 ghost use Rattle.rangemap.specs.SetHistories.{SetHasNonEmptyRanges};
@@ -13,9 +14,9 @@ use crate::calls::read_change;
 use crate::compared::check_row;
 use crate::in_rows::InRows;
 use crate::lists::first_word;
-use rangemap_laws::calls::sets::SetCall;
-use rangemap_laws::calls::{Call, Change};
-use std::alloc::AllocError;
+use rangemap_replay::calls::sets::SetCall;
+use rangemap_replay::calls::{Call, Change};
+use rangemap_replay::replay::{CallOn, replay};
 use std::test::Fail;
 
 /// Divides the place from a call.
@@ -187,22 +188,30 @@ fn set_call<S: InRows<Value = ()>>(change: Change<S::Range, ()>) -> SetCall<S::R
     }
 }
 
-/// Compares which calls of a replay were accepted, unless it was refused memory, and what the
-/// containers hold that it left. A plus stands for each call that was accepted, and a minus for
-/// another; the lists of the containers have a semicolon between them.
-pub fn check_replayed<M: InRows>(
-    answers: Result<Vec<bool>, AllocError>,
+/// Makes calls, from none on, and compares which of them are accepted, and what the containers hold
+/// then. A plus stands for each call that is accepted, and a minus for another; the lists of the
+/// containers have a semicolon between them.
+pub fn check_replay<M: InRows, C: CallOn<M>>(
+    alloc: M::Alloc,
+    calls: Vec<C, M::Alloc>,
     accepted: &str,
-    all: &[M],
     lists: &str,
-) -> Result<(), Fail> {
-    if !are_accepted(&answers?, accepted) {
+) -> Result<(), Fail>
+where
+    M::Alloc: Copy,
+    requires non_empty { AllByRecursion C.has_non_empty calls.items }
+    requires faithful_keys { KeysCloneFaithfully M.Key.is_clone M.Key.cmp }
+    requires faithful_values { ValuesCloneFaithfully M.Value.is_clone M.Value.eq }
+{
+    let mut all: Vec<M, M::Alloc> = Vec::new(alloc);
+    let answers = replay(alloc, &mut all, calls)?;
+    if !are_accepted(answers.as_slice(), accepted) {
         return Err(Fail::new(format_args!("accepted are not {accepted}")));
     }
     if lists.split(';').count() != all.len() {
         return Err(Fail::new(format_args!("{} containers are left", all.len())));
     }
-    check_each(all, lists)
+    check_each(all.as_slice(), lists)
 }
 
 /// Whether a call was accepted where there is a plus, and no other.

@@ -4,8 +4,8 @@
 //! container all that the container does is proved anew.
 ghost use Rattle.rangemap.specs.Clones.{KeysCloneFaithfully};
 
-use rangemap::{RangeInclusiveMap, RangeMap, StepFns, StepLite, inclusive_map, map, tree_map};
-use rows::{Noted, SignedSteps, Word, calls_of, changes_of, check_replayed, check_rows, parts};
+use rangemap::{RangeInclusiveMap, RangeMap, StepFns, StepLite, tree_map};
+use rows::{Noted, SignedSteps, Word, calls_of, changes_of, check_replay, check_rows, parts};
 use std::alloc::Global;
 use std::test::Fail;
 
@@ -50,9 +50,8 @@ pub fn check_stepped(alloc: Global, table: &str) -> Result<(), Fail> {
 /// Compares a replay: its calls, which of them are accepted, and what each map holds then.
 pub fn check_half_open_replay(alloc: Global, row: &str) -> Result<(), Fail> {
     let (calls, accepted, lists) = parts(row)?;
-    let mut maps: Vec<HalfOpen, _> = Vec::new(alloc);
-    let answers = map::replay(alloc, &mut maps, calls_of::<HalfOpen>(alloc, calls)?);
-    check_replayed(answers, accepted, maps.as_slice(), lists)
+    let calls = calls_of::<HalfOpen>(alloc, calls)?;
+    check_replay::<HalfOpen, _>(alloc, calls, accepted, lists)
 }
 
 /// Compares a replay on maps of closed ranges.
@@ -63,10 +62,8 @@ pub fn check_closed_replay<K: StepLite + Clone + Word<Global>>(
     requires { KeysCloneFaithfully K.is_clone K.cmp }
 {
     let (calls, accepted, lists) = parts(row)?;
-    let mut maps: Vec<RangeInclusiveMap<K, Noted, K, Global>, _> = Vec::new(alloc);
     let calls = calls_of::<RangeInclusiveMap<K, Noted, K, Global>>(alloc, calls)?;
-    let answers = inclusive_map::replay(alloc, &mut maps, calls);
-    check_replayed(answers, accepted, maps.as_slice(), lists)
+    check_replay::<RangeInclusiveMap<K, Noted, K, Global>, _>(alloc, calls, accepted, lists)
 }
 
 /// Compares a replay of changes by the steps that `S` has.
@@ -77,8 +74,6 @@ pub fn check_changes<K: Ord + Clone + Word<Global>, S: StepFns<K>>(
     requires { KeysCloneFaithfully K.is_clone K.cmp }
 {
     let (calls, accepted, lists) = parts(row)?;
-    let mut maps: Vec<RangeInclusiveMap<K, Noted, S, Global>, _> = Vec::new(alloc);
     let changes = changes_of::<RangeInclusiveMap<K, Noted, S, Global>>(alloc, calls)?;
-    let answers = inclusive_map::replay_with_step_fns(alloc, &mut maps, changes);
-    check_replayed(answers, accepted, maps.as_slice(), lists)
+    check_replay::<RangeInclusiveMap<K, Noted, S, Global>, _>(alloc, changes, accepted, lists)
 }

@@ -5,9 +5,9 @@
 
 use crate::inclusive_set::Set as ClosedSet;
 use crate::set::Set;
-use rangemap::{RangeInclusiveSet, inclusive_set, set};
+use rangemap::RangeInclusiveSet;
 use rows::{
-    changes_of, check_listed, check_replayed, check_row, check_rows, made_of, parts, set_calls_of,
+    changes_of, check_listed, check_replay, check_row, check_rows, made_of, parts, set_calls_of,
 };
 use std::alloc::Global;
 use std::test::Fail;
@@ -33,26 +33,20 @@ pub fn check_bytes(alloc: Global, table: &str) -> Result<(), Fail> {
 /// Compares a replay: its calls, which of them are accepted, and what each set holds then.
 pub fn check_half_open_replay(alloc: Global, row: &str) -> Result<(), Fail> {
     let (calls, accepted, lists) = parts(row)?;
-    let mut sets: Vec<Set, _> = Vec::new(alloc);
-    let answers = set::replay(alloc, &mut sets, set_calls_of::<Set>(alloc, calls)?);
-    check_replayed(answers, accepted, sets.as_slice(), lists)
+    check_replay::<Set, _>(alloc, set_calls_of::<Set>(alloc, calls)?, accepted, lists)
 }
 
 /// Compares a replay on sets of closed ranges.
 pub fn check_closed_replay(alloc: Global, row: &str) -> Result<(), Fail> {
     let (calls, accepted, lists) = parts(row)?;
-    let mut sets: Vec<ClosedSet, _> = Vec::new(alloc);
-    let answers = inclusive_set::replay(alloc, &mut sets, set_calls_of::<ClosedSet>(alloc, calls)?);
-    check_replayed(answers, accepted, sets.as_slice(), lists)
+    let calls = set_calls_of::<ClosedSet>(alloc, calls)?;
+    check_replay::<ClosedSet, _>(alloc, calls, accepted, lists)
 }
 
 /// Compares a replay of changes by the steps of bytes.
 pub fn check_bytes_changes(alloc: Global, row: &str) -> Result<(), Fail> {
     let (calls, accepted, lists) = parts(row)?;
-    let mut sets: Vec<Bytes, _> = Vec::new(alloc);
-    let changes = changes_of::<Bytes>(alloc, calls)?;
-    let answers = inclusive_set::replay_with_step_fns(alloc, &mut sets, changes);
-    check_replayed(answers, accepted, sets.as_slice(), lists)
+    check_replay::<Bytes, _>(alloc, changes_of::<Bytes>(alloc, calls)?, accepted, lists)
 }
 
 /// Compares what the two sets of each row make: the items of their union and the set of `|`, and the

@@ -1,7 +1,7 @@
 //! What `overlaps` and `overlapping` tell of the keys of a range.
 ghost use Rattle.std.specs.Prelude.{◌≡◌, ◌<◌, ◌↔◌, [], IsTrue, length, nat_lt};
 ghost use Rattle.rangemap_laws.specs.DefinedIn.{IsDefinedIn};
-ghost use Rattle.rangemap_laws.specs.Histories.{IsUndefinedOn};
+ghost use Rattle.rangemap_replay.specs.Histories.{IsUndefinedOn};
 ghost use Rattle.rangemap_core.specs.Ranges.{overlapped, value_at};
 
 use rangemap_core::container::Container;

@@ -7,48 +7,18 @@ ghost use Rattle.std.specs.Prelude.{◌≡◌, ◌++◌, IsTrue, IfOk, List};
 ghost use Rattle.std.specs.declared.ops.RangeInclusive.{RangeInclusive as RangeInclusiveOf};
 ghost use Rattle.rangemap_core.specs.Clones.{KeysCloneFaithfully};
 ghost use Rattle.rangemap_core.specs.Ranges.{IsCanonOf, closed, same_pairs, value_at};
-ghost use Rattle.rangemap_laws.specs.Joined.{joined, other_of};
+ghost use Rattle.rangemap_replay.specs.Joined.{joined, other_of};
 ghost use Rattle.rangemap_operations.specs.operations.Items.{intersection_items, union_items};
 ghost use Rattle.rangemap_operations.specs.operations.Places.{closed_places};
 ghost use Rattle.rangemap_operations.specs.Sets.{AreCommon, AreHulls, IsCanonicalSet};
 
 use rangemap_core::std_ext::StepFns;
 use rangemap_operations::combine::Combine;
+pub use rangemap_replay::operator::Operator;
 use std::alloc::AllocError;
 
 /// Both sides of a law, left and right.
 pub type Sides<M> = Result<(M, M), AllocError>;
-
-/// One of the two operators.
-pub enum Operator {
-    /// `|`, the keys of either set.
-    Union,
-    /// `&`, the keys of both.
-    Intersection,
-}
-
-impl Operator {
-    /// Makes the operator.
-    pub fn join<M: Combine>(&self, first: &M, second: &M) -> Result<M, AllocError>
-        requires faithful_keys { KeysCloneFaithfully M.Key.is_clone M.Key.cmp }
-        ensures { IfOk result (λ set. IsCanonOf M.Kind.kind M.Value.eq (joined self.now (value_at M.Kind.kind (M.pairs first.now)) (value_at M.Kind.kind (M.pairs second.now))) (M.pairs set)) }
-    {
-        match self {
-            Operator::Union => first.union_set(second),
-            Operator::Intersection => first.intersection_set(second),
-        }
-    }
-
-    /// Returns the other operator.
-    pub fn other(&self) -> &Operator
-        ensures { result.now ≡ other_of self.now }
-    {
-        match self {
-            Operator::Union => &Operator::Intersection,
-            Operator::Intersection => &Operator::Union,
-        }
-    }
-}
 
 /// `a | b` equals `b | a`, and `a & b` equals `b & a`.
 pub fn commutes<M: Combine>(operator: &Operator, first: &M, second: &M) -> Sides<M>

@@ -4,7 +4,7 @@ ghost use Rattle.rangemap.specs.Clones.{KeysCloneFaithfully, ValuesCloneFaithful
 
 use super::{Answer, check_turn};
 use crate::same::check_that;
-use rangemap_laws::calls::Change;
+use rangemap_replay::calls::Change;
 use rows::{Heap, InRows, MANY, check_row, made_of, make, read_change};
 use std::alloc::AllocError;
 use std::test::Fail;

@@ -1,7 +1,7 @@
 use Rattle.rangemap_core.specs.Ranges.{value_at}
-use Rattle.rangemap_laws.specs.Joined.{joined, other_of}
+use Rattle.rangemap_replay.specs.Joined.{joined, other_of}
 use Rattle.rangemap_operations.proofs.OperatorLemmas.{own, same_of}
-use Rattle.rangemap_laws.proofs.JoinedLemmas.{joined_absorbs, joined_of}
+use Rattle.rangemap_replay.proofs.JoinedLemmas.{joined_absorbs, joined_of}
 use Rattle.rangemap_laws.proofs.laws.sets.absorbs.Goals as goal
 
 pub returns-clause-made : goal.returns-clause-made

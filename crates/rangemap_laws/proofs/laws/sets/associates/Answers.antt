@@ -1,7 +1,7 @@
 use Rattle.rangemap_core.specs.Ranges.{value_at}
-use Rattle.rangemap_laws.specs.Joined.{joined}
+use Rattle.rangemap_replay.specs.Joined.{joined}
 use Rattle.rangemap_operations.proofs.OperatorLemmas.{own, same_of}
-use Rattle.rangemap_laws.proofs.JoinedLemmas.{joined_associates, joined_of}
+use Rattle.rangemap_replay.proofs.JoinedLemmas.{joined_associates, joined_of}
 use Rattle.rangemap_laws.proofs.laws.sets.associates.Goals as goal
 
 pub returns-clause-left : goal.returns-clause-left

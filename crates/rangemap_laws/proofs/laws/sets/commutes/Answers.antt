@@ -1,6 +1,6 @@
 use Rattle.rangemap_core.specs.Ranges.{value_at}
 use Rattle.rangemap_operations.proofs.OperatorLemmas.{same_of}
-use Rattle.rangemap_laws.proofs.JoinedLemmas.{joined_commutes}
+use Rattle.rangemap_replay.proofs.JoinedLemmas.{joined_commutes}
 use Rattle.rangemap_laws.proofs.laws.sets.commutes.Goals as goal
 
 pub returns-clause-equal : goal.returns-clause-equal

@@ -1,0 +1,4 @@
+mod MeetLemmas
+pub mod JoinedLemmas
+mod ReplayLemmas
+mod SetReplayLemmas
