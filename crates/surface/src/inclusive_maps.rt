@@ -121,43 +121,37 @@ pub fn text<K: StepLite + Clone + Debug, V: Eq + Clone + Debug, A: Allocator>(
     root::text(alloc, map)
 }
 
-pub fn write<
+pub fn write_and_read<
     K: StepLite + Clone,
     V: Eq + Clone,
     A: Allocator,
     E,
     WK: Fn(&K) -> Result<Value, E>,
     WV: Fn(&V) -> Result<Value, E>,
->(
-    map: &RangeInclusiveMap<K, V, K, A>,
-    alloc: Global,
-    write_key: WK,
-    write_value: WV,
-) -> Result<Value, WriteError<E>>
-    requires keys { WK.IsAlwaysCallable write_key }
-    requires values { WV.IsAlwaysCallable write_value }
-{
-    map.to_value(alloc, write_key, write_value)
-}
-
-pub fn read<
-    K: StepLite + Clone,
-    V: Eq + Clone,
-    A: Allocator,
-    E,
     RK: Fn(&Value) -> Result<K, E>,
     RV: Fn(&Value) -> Result<V, E>,
 >(
-    alloc: A,
+    map: &RangeInclusiveMap<K, V, K, A>,
+    alloc: Global,
+    write: (WK, WV),
+    other: A,
     form: Form,
     value: &Value,
-    read_key: RK,
-    read_value: RV,
-) -> Result<RangeInclusiveMap<K, V, K, A>, ReadError<E>>
-    requires keys { RK.IsAlwaysCallable read_key }
-    requires values { RV.IsAlwaysCallable read_value }
+    read: (RK, RV),
+) -> (
+    Result<Value, WriteError<E>>,
+    Result<RangeInclusiveMap<K, V, K, A>, ReadError<E>>,
+)
+    requires write_keys { WK.IsAlwaysCallable write.0 }
+    requires write_values { WV.IsAlwaysCallable write.1 }
+    requires read_keys { RK.IsAlwaysCallable read.0 }
+    requires read_values { RV.IsAlwaysCallable read.1 }
     requires faithful_keys { KeysCloneFaithfully K.is_clone K.cmp }
     requires faithful_values { ValuesCloneFaithfully V.is_clone V.eq }
 {
-    RangeInclusiveMap::from_value(alloc, form, value, read_key, read_value)
+    let written = map.to_value(alloc, write.0, write.1);
+    (
+        written,
+        RangeInclusiveMap::from_value(other, form, value, read.0, read.1),
+    )
 }

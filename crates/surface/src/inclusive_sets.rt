@@ -115,24 +115,31 @@ pub fn text<T: StepLite + Clone + Debug, A: Allocator>(
     root::text(alloc, set)
 }
 
-pub fn write<T: StepLite + Clone, A: Allocator, E, WK: Fn(&T) -> Result<Value, E>>(
+pub fn write_and_read<
+    T: StepLite + Clone,
+    A: Allocator,
+    E,
+    WK: Fn(&T) -> Result<Value, E>,
+    RK: Fn(&Value) -> Result<T, E>,
+>(
     set: &RangeInclusiveSet<T, T, A>,
     alloc: Global,
     write_key: WK,
-) -> Result<Value, WriteError<E>>
-    requires keys { WK.IsAlwaysCallable write_key }
-{
-    set.to_value(alloc, write_key)
-}
-
-pub fn read<T: StepLite + Clone, A: Allocator, E, RK: Fn(&Value) -> Result<T, E>>(
-    alloc: A,
+    other: A,
     form: Form,
     value: &Value,
     read_key: RK,
-) -> Result<RangeInclusiveSet<T, T, A>, ReadError<E>>
-    requires keys { RK.IsAlwaysCallable read_key }
+) -> (
+    Result<Value, WriteError<E>>,
+    Result<RangeInclusiveSet<T, T, A>, ReadError<E>>,
+)
+    requires write_keys { WK.IsAlwaysCallable write_key }
+    requires read_keys { RK.IsAlwaysCallable read_key }
     requires faithful_keys { KeysCloneFaithfully T.is_clone T.cmp }
 {
-    RangeInclusiveSet::from_value(alloc, form, value, read_key)
+    let written = set.to_value(alloc, write_key);
+    (
+        written,
+        RangeInclusiveSet::from_value(other, form, value, read_key),
+    )
 }

@@ -32,23 +32,6 @@ pub fn ask<'a, K: Ord + Clone, V: Eq + Clone, A: Allocator>(
     let _: Gaps<'a, K, V> = map.gaps(range);
 }
 
-pub fn change<K: Ord + Clone, V: Eq + Clone, A: Allocator>(
-    map: &mut RangeMap<K, V, A>,
-    given: Range<K>,
-    value: V,
-    taken: Range<K>,
-) -> Result<(), AllocError>
-    requires given_non_empty { (half_open K.cmp).IsNonEmpty given }
-    requires taken_non_empty { (half_open K.cmp).IsNonEmpty taken }
-    requires faithful_keys { KeysCloneFaithfully K.is_clone K.cmp }
-    requires faithful_values { ValuesCloneFaithfully V.is_clone V.eq }
-{
-    map.insert(given, value)?;
-    map.remove(taken)?;
-    map.clear();
-    Ok(())
-}
-
 pub fn from<K: Ord + Clone, V: Eq + Clone, A: Allocator + Clone, const N: usize>(
     alloc: A,
     value: [(Range<K>, V); N],
@@ -62,12 +45,22 @@ pub fn from<K: Ord + Clone, V: Eq + Clone, A: Allocator + Clone, const N: usize>
     Ok((map, copy))
 }
 
-pub fn collect<K: Ord + Clone, V: Eq + Clone, A: Allocator, I: IntoIterator<Item = (Range<K>, V)>>(
+pub fn collect_and_change<
+    K: Ord + Clone,
+    V: Eq + Clone,
+    A: Allocator,
+    I: IntoIterator<Item = (Range<K>, V)>,
+>(
     alloc: A,
     other: A,
     iter: I,
     more: I,
+    given: Range<K>,
+    value: V,
+    taken: Range<K>,
 ) -> Result<(IntoIter<K, V, A>, RangeMap<K, V, A>), AllocError>
+    requires given_non_empty { (half_open K.cmp).IsNonEmpty given }
+    requires taken_non_empty { (half_open K.cmp).IsNonEmpty taken }
     requires ends { IsFiniteIterable I.into_iter_gives I.IntoIter.can_next I.IntoIter.remaining iter }
     requires non_empty { (it : I.IntoIter) → I.into_iter_gives iter it → GivesNonEmpty (half_open K.cmp) I.IntoIter.next_gives it }
     requires more_ends { IsFiniteIterable I.into_iter_gives I.IntoIter.can_next I.IntoIter.remaining more }
@@ -75,65 +68,62 @@ pub fn collect<K: Ord + Clone, V: Eq + Clone, A: Allocator, I: IntoIterator<Item
     requires faithful_keys { KeysCloneFaithfully K.is_clone K.cmp }
     requires faithful_values { ValuesCloneFaithfully V.is_clone V.eq }
 {
-    let mut extended: RangeMap<K, V, A> = RangeMap::new(other);
-    let answer = extended.extend(more);
+    let mut changed: RangeMap<K, V, A> = RangeMap::new(other);
+    let answer = changed.extend(more);
     let collected = RangeMap::from_iter(alloc, iter)?;
     answer?;
-    Ok((collected.into_iter(), extended))
+    changed.insert(given, value)?;
+    changed.remove(taken)?;
+    changed.clear();
+    Ok((collected.into_iter(), changed))
 }
 
-pub fn compare<K: Ord + Clone + Hash, V: Ord + Clone + Hash, A: Allocator, H: Hasher>(
+pub fn compare_and_print<
+    K: Ord + Clone + Hash + Debug,
+    V: Ord + Clone + Hash + Debug,
+    A: Allocator,
+    H: Hasher,
+>(
+    alloc: Global,
     left: &RangeMap<K, V, A>,
     right: &RangeMap<K, V, A>,
     state: &mut H,
-) -> bool {
-    root::compare(left, right, state)
+) -> Result<(bool, String), AllocError> {
+    let answer = root::compare(left, right, state);
+    Ok((answer, root::text(alloc, left)?))
 }
 
-pub fn text<K: Ord + Clone + Debug, V: Eq + Clone + Debug, A: Allocator>(
-    alloc: Global,
-    map: &RangeMap<K, V, A>,
-) -> Result<String, AllocError> {
-    root::text(alloc, map)
-}
-
-pub fn write<
+pub fn write_and_read<
     K: Ord + Clone,
     V: Eq + Clone,
     A: Allocator,
     E,
     WK: Fn(&K) -> Result<Value, E>,
     WV: Fn(&V) -> Result<Value, E>,
->(
-    map: &RangeMap<K, V, A>,
-    alloc: Global,
-    write_key: WK,
-    write_value: WV,
-) -> Result<Value, WriteError<E>>
-    requires keys { WK.IsAlwaysCallable write_key }
-    requires values { WV.IsAlwaysCallable write_value }
-{
-    map.to_value(alloc, write_key, write_value)
-}
-
-pub fn read<
-    K: Ord + Clone,
-    V: Eq + Clone,
-    A: Allocator,
-    E,
     RK: Fn(&Value) -> Result<K, E>,
     RV: Fn(&Value) -> Result<V, E>,
 >(
-    alloc: A,
+    map: &RangeMap<K, V, A>,
+    alloc: Global,
+    write: (WK, WV),
+    other: A,
     form: Form,
     value: &Value,
-    read_key: RK,
-    read_value: RV,
-) -> Result<RangeMap<K, V, A>, ReadError<E>>
-    requires keys { RK.IsAlwaysCallable read_key }
-    requires values { RV.IsAlwaysCallable read_value }
+    read: (RK, RV),
+) -> (
+    Result<Value, WriteError<E>>,
+    Result<RangeMap<K, V, A>, ReadError<E>>,
+)
+    requires write_keys { WK.IsAlwaysCallable write.0 }
+    requires write_values { WV.IsAlwaysCallable write.1 }
+    requires read_keys { RK.IsAlwaysCallable read.0 }
+    requires read_values { RV.IsAlwaysCallable read.1 }
     requires faithful_keys { KeysCloneFaithfully K.is_clone K.cmp }
     requires faithful_values { ValuesCloneFaithfully V.is_clone V.eq }
 {
-    RangeMap::from_value(alloc, form, value, read_key, read_value)
+    let written = map.to_value(alloc, write.0, write.1);
+    (
+        written,
+        RangeMap::from_value(other, form, value, read.0, read.1),
+    )
 }

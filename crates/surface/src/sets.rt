@@ -36,21 +36,6 @@ pub fn ask<'a, T: Ord + Clone, A: Allocator>(
     let _: Intersection<'a, T> = Intersection::new(set.iter(), other.iter());
 }
 
-pub fn change<T: Ord + Clone, A: Allocator>(
-    set: &mut RangeSet<T, A>,
-    given: Range<T>,
-    taken: Range<T>,
-) -> Result<(), AllocError>
-    requires given_non_empty { (half_open T.cmp).IsNonEmpty given }
-    requires taken_non_empty { (half_open T.cmp).IsNonEmpty taken }
-    requires faithful_keys { KeysCloneFaithfully T.is_clone T.cmp }
-{
-    set.insert(given)?;
-    set.remove(taken)?;
-    set.clear();
-    Ok(())
-}
-
 pub fn from<T: Ord + Clone, A: Allocator + Clone, const N: usize>(
     alloc: A,
     value: [Range<T>; N],
@@ -65,58 +50,64 @@ pub fn from<T: Ord + Clone, A: Allocator + Clone, const N: usize>(
     Ok([set.clone()?, either, both])
 }
 
-pub fn collect<T: Ord + Clone, A: Allocator, I: IntoIterator<Item = Range<T>>>(
+pub fn collect_and_change<T: Ord + Clone, A: Allocator, I: IntoIterator<Item = Range<T>>>(
     alloc: A,
     other: A,
     iter: I,
     more: I,
+    given: Range<T>,
+    taken: Range<T>,
 ) -> Result<(IntoIter<T, A>, RangeSet<T, A>), AllocError>
+    requires given_non_empty { (half_open T.cmp).IsNonEmpty given }
+    requires taken_non_empty { (half_open T.cmp).IsNonEmpty taken }
     requires ends { IsFiniteIterable I.into_iter_gives I.IntoIter.can_next I.IntoIter.remaining iter }
     requires non_empty { (it : I.IntoIter) → I.into_iter_gives iter it → GivesNonEmptyRanges (half_open T.cmp) I.IntoIter.next_gives it }
     requires more_ends { IsFiniteIterable I.into_iter_gives I.IntoIter.can_next I.IntoIter.remaining more }
     requires more_non_empty { (it : I.IntoIter) → I.into_iter_gives more it → GivesNonEmptyRanges (half_open T.cmp) I.IntoIter.next_gives it }
     requires faithful_keys { KeysCloneFaithfully T.is_clone T.cmp }
 {
-    let mut extended: RangeSet<T, A> = RangeSet::new(other);
-    let answer = extended.extend(more);
+    let mut changed: RangeSet<T, A> = RangeSet::new(other);
+    let answer = changed.extend(more);
     let collected = RangeSet::from_iter(alloc, iter)?;
     answer?;
-    Ok((collected.into_iter(), extended))
+    changed.insert(given)?;
+    changed.remove(taken)?;
+    changed.clear();
+    Ok((collected.into_iter(), changed))
 }
 
-pub fn compare<T: Ord + Clone + Hash, A: Allocator, H: Hasher>(
+pub fn compare_and_print<T: Ord + Clone + Hash + Debug, A: Allocator, H: Hasher>(
+    alloc: Global,
     left: &RangeSet<T, A>,
     right: &RangeSet<T, A>,
     state: &mut H,
-) -> bool {
-    root::compare(left, right, state)
+) -> Result<(bool, String), AllocError> {
+    let answer = root::compare(left, right, state);
+    Ok((answer, root::text(alloc, left)?))
 }
 
-pub fn text<T: Ord + Clone + Debug, A: Allocator>(
-    alloc: Global,
-    set: &RangeSet<T, A>,
-) -> Result<String, AllocError> {
-    root::text(alloc, set)
-}
-
-pub fn write<T: Ord + Clone, A: Allocator, E, WK: Fn(&T) -> Result<Value, E>>(
+pub fn write_and_read<
+    T: Ord + Clone,
+    A: Allocator,
+    E,
+    WK: Fn(&T) -> Result<Value, E>,
+    RK: Fn(&Value) -> Result<T, E>,
+>(
     set: &RangeSet<T, A>,
     alloc: Global,
     write_key: WK,
-) -> Result<Value, WriteError<E>>
-    requires keys { WK.IsAlwaysCallable write_key }
-{
-    set.to_value(alloc, write_key)
-}
-
-pub fn read<T: Ord + Clone, A: Allocator, E, RK: Fn(&Value) -> Result<T, E>>(
-    alloc: A,
+    other: A,
     form: Form,
     value: &Value,
     read_key: RK,
-) -> Result<RangeSet<T, A>, ReadError<E>>
-    requires keys { RK.IsAlwaysCallable read_key }
+) -> (
+    Result<Value, WriteError<E>>,
+    Result<RangeSet<T, A>, ReadError<E>>,
+)
+    requires write_keys { WK.IsAlwaysCallable write_key }
+    requires read_keys { RK.IsAlwaysCallable read_key }
     requires faithful_keys { KeysCloneFaithfully T.is_clone T.cmp }
 {
-    RangeSet::from_value(alloc, form, value, read_key)
+    let written = set.to_value(alloc, write_key);
+    (written, RangeSet::from_value(other, form, value, read_key))
 }

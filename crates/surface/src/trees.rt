@@ -30,23 +30,6 @@ pub fn ask<'a, K: Ord + Clone, V: Eq + Clone, A: Allocator + Clone>(
     let _: Gaps<'a, K, V> = map.gaps(range);
 }
 
-pub fn change<K: Ord + Clone, V: Eq + Clone, A: Allocator + Clone>(
-    map: &mut RangeMap<K, V, A>,
-    given: Range<K>,
-    value: V,
-    taken: Range<K>,
-) -> Result<(), AllocError>
-    requires given_non_empty { (half_open K.cmp).IsNonEmpty given }
-    requires taken_non_empty { (half_open K.cmp).IsNonEmpty taken }
-    requires faithful_keys { KeysCloneFaithfully K.is_clone K.cmp }
-    requires faithful_values { ValuesCloneFaithfully V.is_clone V.eq }
-{
-    map.insert(given, value)?;
-    map.remove(taken)?;
-    map.clear();
-    Ok(())
-}
-
 pub fn from<K: Ord + Clone, V: Eq + Clone, A: Allocator + Clone, const N: usize>(
     alloc: A,
     value: [(Range<K>, V); N],
@@ -60,7 +43,7 @@ pub fn from<K: Ord + Clone, V: Eq + Clone, A: Allocator + Clone, const N: usize>
     Ok((map, copy))
 }
 
-pub fn collect<
+pub fn collect_and_change<
     K: Ord + Clone,
     V: Eq + Clone,
     A: Allocator + Clone,
@@ -70,7 +53,12 @@ pub fn collect<
     other: A,
     iter: I,
     more: I,
+    given: Range<K>,
+    value: V,
+    taken: Range<K>,
 ) -> Result<(IntoIter<K, V, A>, RangeMap<K, V, A>), AllocError>
+    requires given_non_empty { (half_open K.cmp).IsNonEmpty given }
+    requires taken_non_empty { (half_open K.cmp).IsNonEmpty taken }
     requires ends { IsFiniteIterable I.into_iter_gives I.IntoIter.can_next I.IntoIter.remaining iter }
     requires non_empty { (it : I.IntoIter) → I.into_iter_gives iter it → GivesNonEmpty (half_open K.cmp) I.IntoIter.next_gives it }
     requires more_ends { IsFiniteIterable I.into_iter_gives I.IntoIter.can_next I.IntoIter.remaining more }
@@ -78,24 +66,27 @@ pub fn collect<
     requires faithful_keys { KeysCloneFaithfully K.is_clone K.cmp }
     requires faithful_values { ValuesCloneFaithfully V.is_clone V.eq }
 {
-    let mut extended: RangeMap<K, V, A> = RangeMap::new(other);
-    let answer = extended.extend(more);
+    let mut changed: RangeMap<K, V, A> = RangeMap::new(other);
+    let answer = changed.extend(more);
     let collected = RangeMap::from_iter(alloc, iter)?;
     answer?;
-    Ok((collected.into_iter(), extended))
+    changed.insert(given, value)?;
+    changed.remove(taken)?;
+    changed.clear();
+    Ok((collected.into_iter(), changed))
 }
 
-pub fn compare<K: Ord + Clone + Hash, V: Ord + Clone + Hash, A: Allocator + Clone, H: Hasher>(
+pub fn compare_and_print<
+    K: Ord + Clone + Hash + Debug,
+    V: Ord + Clone + Hash + Debug,
+    A: Allocator + Clone,
+    H: Hasher,
+>(
+    alloc: Global,
     left: &RangeMap<K, V, A>,
     right: &RangeMap<K, V, A>,
     state: &mut H,
-) -> bool {
-    root::compare(left, right, state)
-}
-
-pub fn text<K: Ord + Clone + Debug, V: Eq + Clone + Debug, A: Allocator + Clone>(
-    alloc: Global,
-    map: &RangeMap<K, V, A>,
-) -> Result<String, AllocError> {
-    root::text(alloc, map)
+) -> Result<(bool, String), AllocError> {
+    let answer = root::compare(left, right, state);
+    Ok((answer, root::text(alloc, left)?))
 }
