@@ -1,15 +1,16 @@
 //! The JSON form: what is written of a container, what is read again, and what is refused.
 //!
-//! Keys are whole numbers up to 4294967295, values are texts.
+//! Keys are whole numbers up to 4294967295, values are texts. A row asks what is `written` of pairs
+//! that are inserted, or of what is read of a value in a form, `any` or `canonical`. Its answer is
+//! the text of the value that is written then, or the debug text of the error.
 ghost use Rattle.std.specs.Prelude.{◌≡◌, ◌<◌, ◌^◌, ℕ, IfOk, Ok as OkWord};
 ghost use Rattle.serde_json.specs.Data.{number, unsigned};
 ghost use Rattle.serde_json.specs.View.{view};
 
-use crate::same::assert_same;
 use rangemap::{Form, ReadError, WriteError};
 use serde_json::Value;
-use std::alloc::{AllocError, AllocGlobal, Global};
-use std::process::Abort;
+use std::alloc::{AllocError, Global};
+use std::fmt::Debug;
 use std::test::Fail;
 
 mod long;
@@ -18,7 +19,7 @@ mod round_trips;
 mod sets;
 
 /// Why a part is refused.
-#[derive(Clone, Copy, Debug, PartialEq, Eq)]
+#[derive(Debug, Drop)]
 pub enum Fault {
     /// It is no whole number of 32 bits.
     NoNumber,
@@ -31,7 +32,13 @@ pub enum Fault {
 }
 
 /// A container that rows write and read.
-pub trait InJson: Drop {
+trait InJson: Drop {
+    /// Makes an empty one.
+    fn empty(alloc: Global) -> Self;
+
+    /// Inserts the range from a start to an end, and in a map the text.
+    fn put(&mut self, ends: (u32, u32), text: String) -> Result<(), Fail>;
+
     /// `to_value`, with `write_number` and `write_text`.
     fn write(&self, alloc: Global) -> Result<Value, WriteError<Fault>>;
 
@@ -40,7 +47,7 @@ pub trait InJson: Drop {
 }
 
 /// Writes a key.
-pub fn write_number(key: &u32) -> Result<Value, Fault>
+fn write_number(key: &u32) -> Result<Value, Fault>
     ensures in_range { key.now < 2 ^ 32 }
     ensures value { IfOk result (λ part. view part ≡ number (unsigned key.now)) }
 {
@@ -48,7 +55,7 @@ pub fn write_number(key: &u32) -> Result<Value, Fault>
 }
 
 /// Reads a key.
-pub fn read_number(part: &Value) -> Result<u32, Fault>
+fn read_number(part: &Value) -> Result<u32, Fault>
     ensures { (key : ℕ) → key < 2 ^ 32 → view part.now ≡ number (unsigned key) → result ≡ OkWord key }
 {
     let Some(number) = part.as_u64() else {
@@ -61,67 +68,97 @@ pub fn read_number(part: &Value) -> Result<u32, Fault>
 }
 
 /// Writes a value, unless it is `?`.
-pub fn write_text(alloc: Global, text: &str) -> Result<Value, Fault> {
-    if text == "?" {
+fn write_text(text: &String) -> Result<Value, Fault> {
+    if text.as_str() == "?" {
         return Err(Fault::Unwritable);
     }
-    match String::from_str(alloc, text) {
+    match text.clone() {
         Ok(copy) => Ok(Value::String(copy)),
         Err(AllocError) => Err(Fault::NoMemory),
     }
 }
 
 /// Reads a value.
-pub fn read_text(alloc: Global, part: &Value) -> Result<String, Fault> {
-    let Some(text) = part.as_str() else {
+fn read_text(part: &Value) -> Result<String, Fault> {
+    let Value::String(text) = part else {
         return Err(Fault::NoText);
     };
-    match String::from_str(alloc, text) {
+    match text.clone() {
         Ok(copy) => Ok(copy),
         Err(AllocError) => Err(Fault::NoMemory),
     }
 }
 
-/// Writes a container, which has to give the text.
-pub fn check_written<M: InJson, R: AllocGlobal + Abort>(
-    rt: &R,
-    all: &M,
-    text: &str,
-) -> Result<(), Fail> {
-    let Ok(value) = all.write(rt.alloc()) else {
-        return Err(Fail::new("a container was not written"));
-    };
-    assert_same(rt, value.to_string(rt.alloc())?.as_str(), text);
+/// Compares the answer of each row of a table.
+fn check_rows<M: InJson>(alloc: Global, table: &str) -> Result<(), Fail> {
+    for line in table.split('\n') {
+        let row = line.trim();
+        if !row.is_empty() {
+            check_row::<M>(alloc, row)?;
+        }
+    }
     Ok(())
 }
 
-/// Reads a text, which has to give a container whose form is the other text.
-pub fn check_read<M: InJson, R: AllocGlobal + Abort>(
-    rt: &R,
-    form: Form,
-    text: &str,
-    written: &str,
-) -> Result<(), Fail> {
-    let value = Value::from_str(rt.alloc(), text)?;
-    match M::read(rt.alloc(), form, &value) {
-        Ok(all) => check_written(rt, &all, written),
-        Err(_) => Err(Fail::new("a value was not read")),
+/// Compares the answer of a row.
+fn check_row<M: InJson>(alloc: Global, row: &str) -> Result<(), Fail> {
+    let (question, answer) = row.split_once(" | ").ok_or("a row has two parts")?;
+    let found = answer_to::<M>(alloc, question)?;
+    if found.as_str() == answer {
+        Ok(())
+    } else {
+        Err(Fail::new(format_args!("{question} gives {found}")))
     }
 }
 
-/// Reads a text, which has to be refused.
-pub fn check_refused<M: InJson, R: AllocGlobal + Abort>(
-    rt: &R,
-    form: Form,
-    text: &str,
-    error: &ReadError<Fault>,
-) -> Result<(), Fail> {
-    let value = Value::from_str(rt.alloc(), text)?;
-    match M::read(rt.alloc(), form, &value) {
-        Ok(_) => Err(Fail::new("a value was not refused")),
-        Err(found) => {
-            assert!(rt; found == *error, "{text} is refused otherwise");
-            Ok(())
+/// What a question is answered.
+fn answer_to<M: InJson>(alloc: Global, question: &str) -> Result<String, Fail> {
+    let (name, operand) = question.split_once(' ').unwrap_or((question, ""));
+    match name {
+        "written" => written(alloc, &made_of::<M>(alloc, operand)?),
+        "any" => read_again::<M>(alloc, Form::Any, operand),
+        "canonical" => read_again::<M>(alloc, Form::Canonical, operand),
+        _ => Err(Fail::new("no row asks so")),
+    }
+}
+
+/// Makes a container of the pairs of a list, by inserts.
+fn made_of<M: InJson>(alloc: Global, pairs: &str) -> Result<M, Fail> {
+    let mut made = M::empty(alloc);
+    for pair in pairs.split(", ") {
+        if !pair.is_empty() {
+            let (range, text) = pair.split_once(' ').unwrap_or((pair, ""));
+            made.put(ends(range)?, String::from_str(alloc, text)?)?;
         }
     }
+    Ok(made)
+}
+
+/// The ends of a range. A closed one has `..=` between them.
+fn ends(range: &str) -> Result<(u32, u32), Fail> {
+    let (start, end) = range.split_once("..").ok_or("a range has two ends")?;
+    let end = end.strip_prefix('=').unwrap_or(end);
+    Ok((start.parse()?, end.parse()?))
+}
+
+/// What is written of what is read of a text.
+fn read_again<M: InJson>(alloc: Global, form: Form, text: &str) -> Result<String, Fail> {
+    let value = Value::from_str(alloc, text)?;
+    match M::read(alloc, form, &value) {
+        Ok(read) => written(alloc, &read),
+        Err(error) => debug_text(alloc, &error),
+    }
+}
+
+/// What is written of a container.
+fn written<M: InJson>(alloc: Global, all: &M) -> Result<String, Fail> {
+    match all.write(alloc) {
+        Ok(value) => Ok(value.to_string(alloc)?),
+        Err(error) => debug_text(alloc, &error),
+    }
+}
+
+/// The debug text of an error.
+fn debug_text<E: Debug>(alloc: Global, error: &E) -> Result<String, Fail> {
+    Ok(format!(in alloc; "{error:?}")?)
 }

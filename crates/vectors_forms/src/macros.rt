@@ -1,30 +1,41 @@
-//! Rows about the macros.
+//! Rows about the macros. A list may be empty, or end in a comma.
 
-use rangemap::{RangeInclusiveMap, RangeMap, range_inclusive_map, range_map};
+use crate::text::check_texts;
+use rangemap::{
+    RangeInclusiveMap, RangeMap, RangeSet, range_inclusive_map, range_inclusive_set, range_map,
+    range_set,
+};
 use rows::check_text;
-use std::alloc::Global;
+use std::alloc::{AllocError, Global};
+use std::fmt::Debug;
 use std::test::Fail;
+
+/// Compares the debug text of a container that was made, unless it was refused memory.
+fn check_made<M: Debug + Drop>(
+    alloc: Global,
+    made: Result<M, AllocError>,
+    text: &str,
+) -> Result<(), Fail> {
+    check_text(alloc, &made?, text)
+}
 
 #[test]
 fn a_list_makes_a_map(rt: HostRuntime) -> Result<(), Fail> {
     let alloc = rt.alloc();
-    let made = range_map! { in alloc; 0..100u32 => "abc", 100..200 => "def", 200..300 => "ghi" }?;
-    check_text(
+    check_made(
         alloc,
-        &made,
+        range_map! { in alloc; 0..100u32 => "abc", 100..200 => "def", 200..300 => "ghi" },
         r#"{0..100: "abc", 100..200: "def", 200..300: "ghi"}"#,
     )?;
-    let made = range_inclusive_map! {
-        in alloc; 0..=100u32 => "abc", 100..=200 => "def", 200..=300 => "ghi"
-    }?;
-    check_text(
+    check_made(
         alloc,
-        &made,
+        range_inclusive_map! {
+            in alloc; 0..=100u32 => "abc", 100..=200 => "def", 200..=300 => "ghi"
+        },
         r#"{0..=99: "abc", 100..=199: "def", 200..=300: "ghi"}"#,
     )
 }
 
-// A list may be empty, or end in a comma.
 #[test]
 fn a_list_may_be_empty(rt: HostRuntime) -> Result<(), Fail> {
     let alloc = rt.alloc();
@@ -34,4 +45,28 @@ fn a_list_may_be_empty(rt: HostRuntime) -> Result<(), Fail> {
     let none: RangeInclusiveMap<u32, char, u32, Global> = range_inclusive_map! { in alloc; }?;
     let one = range_inclusive_map! { in alloc; 0..=5u32 => 'a', }?;
     check_text(alloc, &[none, one], "[{}, {0..=5: 'a'}]")
+}
+
+#[test]
+fn a_list_makes_a_set(rt: HostRuntime) -> Result<(), Fail> {
+    let alloc = rt.alloc();
+    let none: Result<RangeSet<u32, Global>, AllocError> = range_set![in alloc;];
+    check_made(alloc, none, "{}")?;
+    check_made(alloc, range_set![in alloc; 0u32..5, 5..9,], "{0..9}")?;
+    check_made(
+        alloc,
+        range_set![in alloc; 0u32..100, 200..300],
+        "{0..100, 200..300}",
+    )?;
+    check_made(
+        alloc,
+        range_inclusive_set![in alloc; 0u32..=100, 101..=200,],
+        "{0..=200}",
+    )?;
+    check_texts(
+        alloc,
+        &range_set![in alloc; 0u32..5, 7..9]?,
+        "{0..5, 7..9}",
+        "{\n    0..5,\n    7..9,\n}",
+    )
 }

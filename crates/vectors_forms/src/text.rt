@@ -1,142 +1,129 @@
-//! Rows about the debug text of containers.
+//! Rows about the debug text of containers: what `{:?}` writes, and what `{:#?}` does, which gives
+//! each pair a line.
+ghost use Rattle.rangemap.specs.Clones.{KeysCloneFaithfully, ValuesCloneFaithfully};
+ghost use Rattle.rangemap.specs.Ranges.{AreNonEmpty, closed, half_open};
 
-use crate::same::assert_same;
-use rangemap::laws::texts::{ascii_text, signed_text, unsigned_text};
-use rangemap::{
-    RangeInclusiveMap, RangeMap, RangeSet, range_inclusive_map, range_inclusive_set, range_map,
-    range_set, tree_map,
-};
-use std::alloc::{AllocError, Global};
-use std::fmt::Debug;
-use std::process::Abort;
+use rangemap::{RangeInclusiveMap, RangeMap, StepLite, tree_map};
+use std::alloc::Global;
+use std::fmt::{Debug, Write};
+use std::ops::{Range, RangeInclusive};
 use std::test::Fail;
 
-/// Shows that `{:?}` writes the text.
-fn assert_text<M: Debug, R: AllocGlobal + Abort>(rt: &R, map: &M, text: &str) -> Result<(), Fail> {
-    assert_same(rt, format!(in rt.alloc(); "{map:?}")?.as_str(), text);
-    Ok(())
+mod laws;
+
+/// Compares what is written of a container.
+pub fn check_texts<M: Debug>(alloc: Global, all: &M, text: &str, lines: &str) -> Result<(), Fail> {
+    let (mut short, mut long) = (String::new(alloc), String::new(alloc));
+    write!(short, "{all:?}")?;
+    write!(long, "{all:#?}")?;
+    if short.as_str() == text && long.as_str() == lines {
+        Ok(())
+    } else {
+        Err(Fail::new(format_args!("{short} is written, and {long}")))
+    }
+}
+
+/// Compares what is written of a map of half-open ranges.
+fn check_half_open<K: Ord + Clone + Debug, V: Eq + Clone + Debug, const N: usize>(
+    alloc: Global,
+    pairs: [(Range<K>, V); N],
+    text: &str,
+    lines: &str,
+) -> Result<(), Fail>
+    requires non_empty { AreNonEmpty (half_open K.cmp) pairs }
+    requires faithful_keys { KeysCloneFaithfully K.is_clone K.cmp }
+    requires faithful_values { ValuesCloneFaithfully V.is_clone V.eq }
+{
+    check_texts(alloc, &RangeMap::from(alloc, pairs)?, text, lines)
+}
+
+/// Compares what is written of a map of half-open ranges in a tree.
+fn check_tree<K: Ord + Clone + Debug, V: Eq + Clone + Debug, const N: usize>(
+    alloc: Global,
+    pairs: [(Range<K>, V); N],
+    text: &str,
+    lines: &str,
+) -> Result<(), Fail>
+    requires non_empty { AreNonEmpty (half_open K.cmp) pairs }
+    requires faithful_keys { KeysCloneFaithfully K.is_clone K.cmp }
+    requires faithful_values { ValuesCloneFaithfully V.is_clone V.eq }
+{
+    let map = tree_map::RangeMap::from(alloc, pairs)?;
+    check_texts(alloc, &map, text, lines)
+}
+
+/// Compares what is written of a map of closed ranges.
+fn check_closed<K: StepLite + Clone + Debug, V: Eq + Clone + Debug, const N: usize>(
+    alloc: Global,
+    pairs: [(RangeInclusive<K>, V); N],
+    text: &str,
+    lines: &str,
+) -> Result<(), Fail>
+    requires non_empty { AreNonEmpty (closed K.is_key K.cmp) pairs }
+    requires faithful_keys { KeysCloneFaithfully K.is_clone K.cmp }
+    requires faithful_values { ValuesCloneFaithfully V.is_clone V.eq }
+{
+    let map = RangeInclusiveMap::from(alloc, pairs)?;
+    check_texts(alloc, &map, text, lines)
 }
 
 #[test]
 fn maps_are_written_in_braces(rt: HostRuntime) -> Result<(), Fail> {
-    let alloc = rt.alloc();
-    let map = range_map! { in alloc; 0..100u32 => "abc", 200..300 => "ghi" }?;
-    assert_text(&rt, &map, "{0..100: \"abc\", 200..300: \"ghi\"}")?;
-    let none: RangeMap<u32, bool, Global> = RangeMap::new(alloc);
-    assert_text(&rt, &none, "{}")?;
-    let signed = range_map! { in alloc; -3..0i8 => 7u16 }?;
-    assert_text(&rt, &signed, "{-3..0: 7}")?;
-    let map = range_map! { in alloc; 'a'..'f' => Some(true), 'x'..'z' => None }?;
-    assert_text(&rt, &map, "{'a'..'f': Some(true), 'x'..'z': None}")?;
-    let map = range_inclusive_map! { in alloc; 0..=100u32 => "abc", 200..=300 => "ghi" }?;
-    assert_text(&rt, &map, "{0..=100: \"abc\", 200..=300: \"ghi\"}")?;
-    let none: RangeInclusiveMap<u32, bool, u32, Global> = RangeInclusiveMap::new(alloc);
-    assert_text(&rt, &none, "{}")
-}
-
-/// Shows that `{:?}` writes the text of a container that was made, unless it was refused memory.
-fn assert_made_text<S: Debug + Drop, R: AllocGlobal + Abort>(
-    rt: &R,
-    made: Result<S, AllocError>,
-    text: &str,
-) -> Result<(), Fail> {
-    assert_text(rt, &made?, text)
-}
-
-/// Shows that `{:#?}` writes the text of a container that was made, unless it was refused memory.
-fn assert_long_text<M: Debug + Drop, R: AllocGlobal + Abort>(
-    rt: &R,
-    made: Result<M, AllocError>,
-    text: &str,
-) -> Result<(), Fail> {
-    let map = made?;
-    assert_same(rt, format!(in rt.alloc(); "{map:#?}")?.as_str(), text);
-    Ok(())
-}
-
-#[test]
-fn the_long_form_gives_each_pair_a_line(rt: HostRuntime) -> Result<(), Fail> {
-    let alloc = rt.alloc();
-    assert_long_text(
-        &rt,
-        range_map! { in alloc; 0..100u32 => "abc", 200..300 => "ghi" },
+    check_half_open(
+        rt.alloc(),
+        [(0..100u32, "abc"), (200..300, "ghi")],
+        "{0..100: \"abc\", 200..300: \"ghi\"}",
         "{\n    0..100: \"abc\",\n    200..300: \"ghi\",\n}",
     )?;
-    assert_long_text(
-        &rt,
-        range_inclusive_map! { in alloc; 0..=100u32 => 'a' },
+    check_half_open::<u32, bool, 0>(rt.alloc(), [], "{}", "{}")
+}
+
+#[test]
+fn keys_and_values_have_their_own_text(rt: HostRuntime) -> Result<(), Fail> {
+    check_half_open(
+        rt.alloc(),
+        [(-3..0i8, 7u16)],
+        "{-3..0: 7}",
+        "{\n    -3..0: 7,\n}",
+    )?;
+    check_half_open(
+        rt.alloc(),
+        [('a'..'f', Some(true)), ('x'..'z', None)],
+        "{'a'..'f': Some(true), 'x'..'z': None}",
+        "{\n    'a'..'f': Some(\n        true,\n    ),\n    'x'..'z': None,\n}",
+    )
+}
+
+#[test]
+fn closed_maps_are_written_in_braces(rt: HostRuntime) -> Result<(), Fail> {
+    check_closed(
+        rt.alloc(),
+        [(0..=100u32, "abc"), (200..=300, "ghi")],
+        "{0..=100: \"abc\", 200..=300: \"ghi\"}",
+        "{\n    0..=100: \"abc\",\n    200..=300: \"ghi\",\n}",
+    )?;
+    check_closed(
+        rt.alloc(),
+        [(0..=100u32, 'a')],
+        "{0..=100: 'a'}",
         "{\n    0..=100: 'a',\n}",
     )?;
-    let none: Result<RangeMap<u32, bool, Global>, AllocError> = range_map! { in alloc; };
-    assert_long_text(&rt, none, "{}")
-}
-
-#[test]
-fn the_laws_of_texts_write_them(rt: HostRuntime) -> Result<(), Fail> {
-    let alloc = rt.alloc();
-    let unsigned = range_map! { in alloc; 0..5u32 => 7u16 }?;
-    assert_same(&rt, unsigned_text(alloc, &unsigned)?.as_str(), "{0..5: 7}");
-    let signed = range_inclusive_map! { in alloc; -128..=-1i8 => 7u64, 5..=127 => 8 }?;
-    assert_same(
-        &rt,
-        signed_text(alloc, &signed)?.as_str(),
-        "{-128..=-1: 7, 5..=127: 8}",
-    );
-    Ok(())
-}
-
-#[test]
-fn the_law_of_ascii_texts_writes_them(rt: HostRuntime) -> Result<(), Fail> {
-    let alloc = rt.alloc();
-    let texts = range_map! { in alloc; 0..5u32 => "a\"b" }?;
-    // what the law asks for
-    assert_eq!(rt; texts.len(), 1);
-    let (_, text) = texts.first_range_value().expect(&rt, "a pair");
-    assert!(rt; text.is_ascii());
-    assert_same(
-        &rt,
-        ascii_text(alloc, &texts)?.as_str(),
-        "{0..5: \"a\\\"b\"}",
-    );
-    Ok(())
+    check_closed::<u32, bool, 0>(rt.alloc(), [], "{}", "{}")
 }
 
 #[test]
 fn maps_in_a_tree_are_written_in_braces(rt: HostRuntime) -> Result<(), Fail> {
-    let none: tree_map::RangeMap<u32, char, Global> = tree_map::RangeMap::new(rt.alloc());
-    assert_text(&rt, &none, "{}")?;
-    let map = tree_map::RangeMap::from(rt.alloc(), [(0u32..100, 'a'), (200..300, 'g')])?;
-    assert_text(&rt, &map, "{0..100: 'a', 200..300: 'g'}")?;
-    let signed = tree_map::RangeMap::from(rt.alloc(), [(-3..0i8, 7u16)])?;
-    assert_text(&rt, &signed, "{-3..0: 7}")?;
-    // The long form gives each pair a line.
-    assert_long_text(
-        &rt,
-        tree_map::RangeMap::from(rt.alloc(), [(0u32..100, 'a'), (200..300, 'g')]),
+    check_tree::<u32, char, 0>(rt.alloc(), [], "{}", "{}")?;
+    check_tree(
+        rt.alloc(),
+        [(0u32..100, 'a'), (200..300, 'g')],
+        "{0..100: 'a', 200..300: 'g'}",
         "{\n    0..100: 'a',\n    200..300: 'g',\n}",
-    )
-}
-
-// A list may end in a comma.
-#[test]
-fn sets_are_written_in_braces(rt: HostRuntime) -> Result<(), Fail> {
-    let alloc = rt.alloc();
-    let none: Result<RangeSet<u32, Global>, AllocError> = range_set![in alloc;];
-    assert_made_text(&rt, none, "{}")?;
-    assert_made_text(&rt, range_set![in alloc; 0u32..5, 5..9,], "{0..9}")?;
-    assert_made_text(
-        &rt,
-        range_set![in alloc; 0u32..100, 200..300],
-        "{0..100, 200..300}",
     )?;
-    assert_made_text(
-        &rt,
-        range_inclusive_set![in alloc; 0u32..=100, 101..=200,],
-        "{0..=200}",
-    )?;
-    assert_long_text(
-        &rt,
-        range_set![in alloc; 0u32..5, 7..9],
-        "{\n    0..5,\n    7..9,\n}",
+    check_tree(
+        rt.alloc(),
+        [(-3..0i8, 7u16)],
+        "{-3..0: 7}",
+        "{\n    -3..0: 7,\n}",
     )
 }

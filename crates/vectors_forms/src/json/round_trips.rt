@@ -1,22 +1,28 @@
-//! What is made again of what maps hand over.
+//! What is made again of what containers hand over, by the laws.
 
-use super::{Fault, read_number, write_number};
-use crate::same::assert_same;
-use rangemap::laws::round_trips::{
-    from_iter_of_into_iter_is_equal, reading_what_was_written_is_equal,
-};
-use rangemap::{Form, RangeInclusiveMap, RangeMap};
+use super::{read_number, write_number};
+use rangemap::Form;
+use rangemap::laws::{round_trips, set_round_trips};
+use rangemap::range_set::Set;
+use rangemap_core::half_open::HalfOpen;
+use rangemap_maps::closed::Closed;
+use rangemap_maps::kinds::OwnSteps;
+use rangemap_maps::range_map::Map;
+use rangemap_operations::set_range::{SetKind, SetRange};
+use rows::{FromEnds, InRows, check_row, made_of};
 use std::alloc::Global;
+use std::ops::{Range, RangeInclusive};
 use std::test::Fail;
 
-#[test]
-fn maps_are_made_again(rt: HostRuntime) -> Result<(), Fail> {
-    let alloc = rt.alloc();
-    let mut map: RangeMap<u32, u32, Global> = RangeMap::new(alloc);
-    map.insert(0..10, 1)?;
-    map.insert(3..6, 2)?;
+/// Reads a map again in either form, and makes one again of its pairs.
+fn check_map<Q: OwnSteps<u32, R>, R: FromEnds<u32>>(
+    alloc: Global,
+    inserted: &str,
+    pairs: &str,
+) -> Result<(), Fail> {
+    let map: Map<Q, u32, R, u32, Global> = made_of(alloc, inserted)?;
     for form in [Form::Any, Form::Canonical] {
-        let answer = reading_what_was_written_is_equal(
+        let answer = round_trips::reading_what_was_written_is_equal(
             alloc,
             alloc,
             form,
@@ -27,36 +33,64 @@ fn maps_are_made_again(rt: HostRuntime) -> Result<(), Fail> {
         let Ok((_, again)) = answer else {
             return Err(Fail::new("a map was not read again"));
         };
-        assert!(rt; again == map);
-        assert_same(&rt, again.len(), 3);
+        check_again(&map, &again, pairs)?;
     }
-    let again = from_iter_of_into_iter_is_equal(alloc, map)?;
-    assert_same(&rt, again.len(), 3);
-    Ok(())
+    let again = round_trips::from_iter_of_into_iter_is_equal(alloc, map)?;
+    check_row(&again, pairs)
+}
+
+/// The same of a set.
+fn check_set<Q: OwnSteps<u32, R> + SetKind<u32, R>, R: SetRange<Key = u32> + FromEnds<u32>>(
+    alloc: Global,
+    ranges: &str,
+) -> Result<(), Fail> {
+    let set: Set<Q, u32, R, Global> = made_of(alloc, ranges)?;
+    for form in [Form::Any, Form::Canonical] {
+        let answer = set_round_trips::reading_what_was_written_is_equal(
+            alloc,
+            alloc,
+            form,
+            &set,
+            write_number,
+            read_number,
+        );
+        let Ok((_, again)) = answer else {
+            return Err(Fail::new("a set was not read again"));
+        };
+        check_again(&set, &again, ranges)?;
+    }
+    let again = set_round_trips::from_iter_of_into_iter_is_equal(alloc, set)?;
+    check_row(&again, ranges)
+}
+
+/// Compares a container that was made again with the one that it was made of, and with its pairs.
+fn check_again<M: InRows>(made: &M, again: &M, pairs: &str) -> Result<(), Fail> {
+    if again != made {
+        return Err(Fail::new("what was made again differs"));
+    }
+    check_row(again, pairs)
+}
+
+#[test]
+fn maps_are_made_again(rt: HostRuntime) -> Result<(), Fail> {
+    check_map::<HalfOpen, Range<u32>>(rt.alloc(), "0..10 1, 3..6 2", "0..3 1, 3..6 2, 6..10 1")
 }
 
 #[test]
 fn closed_maps_are_made_again(rt: HostRuntime) -> Result<(), Fail> {
-    let alloc = rt.alloc();
-    let mut map: RangeInclusiveMap<u32, u32, u32, Global> = RangeInclusiveMap::new(alloc);
-    map.insert(0..=9, 1)?;
-    map.insert(3..=5, 2)?;
-    for form in [Form::Any, Form::Canonical] {
-        let answer = reading_what_was_written_is_equal(
-            alloc,
-            alloc,
-            form,
-            &map,
-            (write_number, write_number),
-            (read_number, read_number),
-        );
-        let Ok((_, again)) = answer else {
-            return Err(Fail::new("a map was not read again"));
-        };
-        assert!(rt; again == map);
-        assert_same(&rt, again.len(), 3);
-    }
-    let again = from_iter_of_into_iter_is_equal(alloc, map)?;
-    assert_same(&rt, again.len(), 3);
-    Ok(())
+    check_map::<Closed<u32>, RangeInclusive<u32>>(
+        rt.alloc(),
+        "0..=9 1, 3..=5 2",
+        "0..=2 1, 3..=5 2, 6..=9 1",
+    )
+}
+
+#[test]
+fn sets_are_made_again(rt: HostRuntime) -> Result<(), Fail> {
+    check_set::<HalfOpen, Range<u32>>(rt.alloc(), "0..3, 6..10")
+}
+
+#[test]
+fn closed_sets_are_made_again(rt: HostRuntime) -> Result<(), Fail> {
+    check_set::<Closed<u32>, RangeInclusive<u32>>(rt.alloc(), "0..=3, 6..=10")
 }
