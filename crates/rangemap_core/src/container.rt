@@ -22,7 +22,7 @@ use std::iter::IntoIterator;
 mod appends;
 mod inserts;
 
-pub use appends::{append_clones, append_gaps, append_pairs};
+pub use appends::{append_clone, append_gaps, append_pairs};
 pub use inserts::insert_pairs;
 
 /// A container of disjoint ranges to values, two of which are equal where their pairs are.

@@ -4,8 +4,7 @@
 //! was.
 ghost use Rattle.std.specs.Prelude.{◌≡◌, ◌++◌, List, OnErr, OnOk, Ok as OkWord, map};
 ghost use Rattle.std.specs.Iterator.{Drains, IsFinite};
-ghost use Rattle.std.specs.Map.Iter.{deref_pair};
-ghost use Rattle.rangemap_core.specs.Appends.{Appends, GivesStored};
+ghost use Rattle.rangemap_core.specs.Appends.{Appends, AppendsOne};
 ghost use Rattle.rangemap_core.specs.Clones.{KeysCloneFaithfully, ValuesCloneFaithfully};
 ghost use Rattle.rangemap_core.specs.Ranges.{IsStorable};
 ghost use Rattle.rangemap_core.specs.engine.Stretch.{Every};
@@ -15,39 +14,24 @@ use crate::kind::Kind;
 use std::alloc::{AllocError, Allocator};
 use std::iter::Iterator;
 
-/// Appends clones of the pairs that are still to come, each of which is a stored one.
+/// Appends a clone of a stored pair.
 ///
 /// # Errors
 ///
 /// A clone, or the growth of the vector, was refused: then the vector is as it was.
-pub fn append_clones<
-    'a,
-    Q: Kind<K, R>,
-    K: Ord + Clone + 'a,
-    R: Drop + 'a,
-    V: Eq + Clone + 'a,
-    I: Iterator<Item = (&'a R, &'a V)> + Drop,
-    B: Allocator,
->(pairs: I, out: &mut Vec<(R, V), B>) -> Result<(), AllocError>
-    requires can { I.can_next pairs }
-    requires ends { IsFinite (I.remaining pairs) }
-    requires stored { GivesStored Q.kind I.next_gives pairs }
+pub fn append_clone<Q: Kind<K, R>, K: Ord + Clone, R: Drop, V: Eq + Clone, B: Allocator>(
+    range: &R,
+    value: &V,
+    out: &mut Vec<(R, V), B>,
+) -> Result<(), AllocError>
+    requires stored { IsStorable Q.kind range.now }
     requires faithful_keys { KeysCloneFaithfully K.is_clone K.cmp }
     requires faithful_values { ValuesCloneFaithfully V.is_clone V.eq }
-    ensures ok { OnOk result ((items : List _) × Drains I.next_gives pairs items × Appends Q.kind V.eq (map deref_pair items) out.old.items out.new.items) }
+    ensures ok { OnOk result (AppendsOne Q.kind V.eq (range.now, value.now) out.old.items out.new.items) }
     ensures err { OnErr result (out.new.items ≡ out.old.items) }
 {
-    let len = out.len();
-    for (range, value) in pairs {
-        let is_pushed = match clone_pair::<Q, K, R, V>(range, value) {
-            Ok(copy) => out.push(copy).is_ok(),
-            Err(_) => false,
-        };
-        if !is_pushed {
-            out.truncate(len);
-            return Err(AllocError);
-        }
-    }
+    let copy = clone_pair::<Q, K, R, V>(range, value)?;
+    out.push(copy)?;
     Ok(())
 }
 
@@ -55,7 +39,7 @@ pub fn append_clones<
 ///
 /// # Errors
 ///
-/// As for `append_clones`.
+/// As for `append_clone`.
 pub fn append_pairs<Q: Kind<K, R>, K: Ord + Clone, R: Drop, V: Eq + Clone, B: Allocator>(
     pairs: &[(R, V)],
     out: &mut Vec<(R, V), B>,
@@ -68,13 +52,9 @@ pub fn append_pairs<Q: Kind<K, R>, K: Ord + Clone, R: Drop, V: Eq + Clone, B: Al
 {
     let len = out.len();
     for pair in pairs {
-        let is_pushed = match clone_pair::<Q, K, R, V>(&pair.0, &pair.1) {
-            Ok(copy) => out.push(copy).is_ok(),
-            Err(_) => false,
-        };
-        if !is_pushed {
+        if let Err(error) = append_clone::<Q, K, R, V, B>(&pair.0, &pair.1, out) {
             out.truncate(len);
-            return Err(AllocError);
+            return Err(error);
         }
     }
     Ok(())

@@ -1,7 +1,7 @@
 //! The map in a tree as one of the library's containers: each method is the map's own call.
 
 use super::RangeMap;
-use rangemap_core::container::{Collect, Container, TryClone, append_clones, append_gaps};
+use rangemap_core::container::{Collect, Container, TryClone, append_clone, append_gaps};
 use rangemap_core::half_open::HalfOpen;
 use std::alloc::{AllocError, Allocator};
 use std::iter::IntoIterator;
@@ -77,7 +77,14 @@ impl<K: Ord + Clone, V: Eq + Clone, A: Allocator + Clone> Container for RangeMap
     }
 
     fn append_all<B: Allocator>(&self, out: &mut Vec<(Range<K>, V), B>) -> Result<(), AllocError> {
-        append_clones::<HalfOpen, K, Range<K>, V, _, B>(self.iter(), out)
+        let len = out.len();
+        for (range, value) in self.iter() {
+            if let Err(error) = append_clone::<HalfOpen, K, Range<K>, V, B>(range, value, out) {
+                out.truncate(len);
+                return Err(error);
+            }
+        }
+        Ok(())
     }
 
     fn append_overlapping<B: Allocator>(
@@ -86,7 +93,14 @@ impl<K: Ord + Clone, V: Eq + Clone, A: Allocator + Clone> Container for RangeMap
         out: &mut Vec<(Range<K>, V), B>,
     ) -> Result<(), AllocError> {
         self.known();
-        append_clones::<HalfOpen, K, Range<K>, V, _, B>(self.overlapping(range), out)
+        let len = out.len();
+        for (range, value) in self.overlapping(range) {
+            if let Err(error) = append_clone::<HalfOpen, K, Range<K>, V, B>(range, value, out) {
+                out.truncate(len);
+                return Err(error);
+            }
+        }
+        Ok(())
     }
 
     fn append_gaps<B: Allocator>(
