@@ -1,21 +1,18 @@
 //! Rows over closed ranges.
 
 use crate::laws::check_commute;
-use crate::tables::{check_bytes, check_closed, check_signed_bytes, check_stepped};
-use rangemap::RangeInclusiveMap;
-use std::alloc::Global;
+use crate::tables::{check_closed, check_stepped};
+use rangemap_maps::closed::Closed;
+use std::ops::RangeInclusive;
 use std::test::Fail;
 
 mod collections;
 mod replays;
 
-/// A map over numbers.
-pub type Map = RangeInclusiveMap<u32, char, u32, Global>;
-
 // Equality forgets the calls, a clone is equal, and of equal values the newest stays.
 #[test]
 fn ranges_with_no_key_between_are_joined(rt: HostRuntime) -> Result<(), Fail> {
-    check_closed(
+    check_closed::<u32>(
         rt.alloc(),
         "
         insert 0..=4 a, insert 5..=9 a | holds | 0..=9 a
@@ -52,7 +49,7 @@ fn ranges_with_no_key_between_are_joined(rt: HostRuntime) -> Result<(), Fail> {
 
 #[test]
 fn bytes_go_to_their_end(rt: HostRuntime) -> Result<(), Fail> {
-    check_bytes(
+    check_closed::<u8>(
         rt.alloc(),
         "
         insert 0..=127 f, insert 128..=255 t | holds | 0..=127 f, 128..=255 t
@@ -64,7 +61,7 @@ fn bytes_go_to_their_end(rt: HostRuntime) -> Result<(), Fail> {
         insert 0..=9 f, insert 250..=255 t, insert 10..=249 f | gaps 0..=255 |
         ",
     )?;
-    check_signed_bytes(
+    check_closed::<i8>(
         rt.alloc(),
         "
         insert -128..=127 t, remove -128..=-128 | holds | -127..=127 t
@@ -89,7 +86,7 @@ fn steps_may_come_of_another_type(rt: HostRuntime) -> Result<(), Fail> {
 
 #[test]
 fn changes_and_gaps_keep_their_laws(rt: HostRuntime) -> Result<(), Fail> {
-    check_closed(
+    check_closed::<u32>(
         rt.alloc(),
         "
         insert 0..=9 a, insert 3..=5 b | law alike 3..=4 a |
@@ -105,7 +102,7 @@ fn changes_and_gaps_keep_their_laws(rt: HostRuntime) -> Result<(), Fail> {
 #[test]
 fn inserts_with_no_common_key_commute(rt: HostRuntime) -> Result<(), Fail> {
     let (first, second) = (2..=3, 4..=11);
-    check_commute::<Map>(
+    check_commute::<Closed<u32>, RangeInclusive<u32>>(
         rt.alloc(),
         "0..=9 a",
         (&first, &'b'),

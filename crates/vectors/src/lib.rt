@@ -7,15 +7,13 @@
 #![tactic(auto)]
 
 #[cfg(test)]
-mod endings;
-#[cfg(test)]
 mod inclusive_map;
+#[cfg(test)]
+mod iterators;
 #[cfg(test)]
 mod laws;
 #[cfg(test)]
 mod map;
-#[cfg(test)]
-mod same;
 #[cfg(test)]
 mod searches;
 #[cfg(test)]

@@ -1,10 +1,11 @@
 //! Rows over half-open ranges, which a map in a sorted vector and one in a tree both pass.
 
-use crate::laws::check_commute;
+use crate::laws::{check_commute, check_commute_in_tree};
 use crate::tables::check_half_open;
 use rangemap::{RangeMap, tree_map};
-use rows::check_three;
+use rangemap_core::half_open::HalfOpen;
 use std::alloc::Global;
+use std::ops::Range;
 use std::test::Fail;
 
 mod collections;
@@ -106,23 +107,6 @@ fn inserts_with_no_common_key_commute(rt: HostRuntime) -> Result<(), Fail> {
     let (stored, pairs) = ("0..10 a", "0..2 a, 2..12 b");
     let (first, second) = (2..4, 4..12);
     let pair = (&first, &'b');
-    check_commute::<Map>(rt.alloc(), stored, pair, (&second, &'b'), pairs)?;
-    check_commute::<TreeMap>(rt.alloc(), stored, pair, (&second, &'b'), pairs)
-}
-
-#[test]
-fn overlapping_pairs_come_from_both_ends(rt: HostRuntime) -> Result<(), Fail> {
-    let query = 1..8;
-    let map = RangeMap::from(
-        rt.alloc(),
-        [(0..2u32, 'a'), (2..4, 'b'), (4..6, 'a'), (8..9, 'c')],
-    )?;
-    let found = ((&(0..2), &'a'), (&(2..4), &'b'), (&(4..6), &'a'));
-    check_three(map.overlapping(&query), found, false)?;
-    let map = tree_map::RangeMap::from(
-        rt.alloc(),
-        [(0..2u32, 'a'), (2..4, 'b'), (4..6, 'a'), (8..9, 'c')],
-    )?;
-    let found = ((&(0..2), &'a'), (&(2..4), &'b'), (&(4..6), &'a'));
-    check_three(map.overlapping(&query), found, false)
+    check_commute::<HalfOpen, Range<u32>>(rt.alloc(), stored, pair, (&second, &'b'), pairs)?;
+    check_commute_in_tree(rt.alloc(), stored, pair, (&second, &'b'), pairs)
 }

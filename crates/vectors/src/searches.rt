@@ -1,19 +1,37 @@
 //! How many starts a search asks for.
-use crate::same::assert_same;
+
 use rangemap::RangeMap;
 use rangemap_core::entries::covering;
 use rangemap_core::half_open::HalfOpen;
-use std::alloc::{AllocError, Allocator};
+use std::alloc::{AllocError, Global};
 use std::ops::Range;
 use std::test::Fail;
 
-// So many ranges of two keys, each with a key between it and the next.
-fn spread<A: Allocator>(alloc: A, count: u16) -> Result<RangeMap<u32, u8, A>, AllocError> {
+/// So many ranges of two keys, each with a key between it and the next.
+fn spread(alloc: Global, count: u16) -> Result<RangeMap<u32, u8, Global>, AllocError> {
     let mut map = RangeMap::new(alloc);
     for place in 0..u32::from(count) {
         map.insert(3 * place..3 * place + 2, 0)?;
     }
     Ok(map)
+}
+
+/// Looks for each key among so many ranges, and for the one behind them, with so many asks at most.
+fn check_asks(alloc: Global, len: u16, most: usize) -> Result<(), Fail> {
+    let map = spread(alloc, len)?;
+    let pairs = map.iter().as_slice();
+    if map.len() != usize::from(len) {
+        return Err(Fail::new("a map has another number of ranges"));
+    }
+    let end = 3 * u32::from(len);
+    for key in 0..end + 1 {
+        let (pair, asked) = covering::<HalfOpen, u32, Range<u32>, u8>(pairs, &key);
+        let is_stored = key % 3 < 2 && key < end;
+        if asked > most || pair.is_some() != is_stored {
+            return Err(Fail::new(format_args!("{asked} asks for {key} among {len}")));
+        }
+    }
+    Ok(())
 }
 
 #[test]
@@ -32,15 +50,7 @@ fn covering_asks_by_halving(rt: HostRuntime) -> Result<(), Fail> {
         (1024, 11),
     ];
     for (len, most) in table {
-        let map = spread(rt.alloc(), len)?;
-        assert_same(&rt, map.len(), usize::from(len));
-        let pairs = map.iter().as_slice();
-        for key in 0..3 * u32::from(len) + 1 {
-            let (pair, asked) = covering::<HalfOpen, u32, Range<u32>, u8>(pairs, &key);
-            assert!(rt; asked <= most, "{asked} asks for {key} among {len}");
-            let is_stored = key % 3 < 2 && key < 3 * u32::from(len);
-            assert_same(&rt, (key, len, pair.is_some()), (key, len, is_stored));
-        }
+        check_asks(rt.alloc(), len, most)?;
     }
     Ok(())
 }

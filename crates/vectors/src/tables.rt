@@ -1,57 +1,67 @@
 //! The containers with which tables are compared, and the replays.
 //!
 //! Tests call these functions, and give them text alone: in each function that names a type of
-//! container all that the container does is proved anew.
+//! container all that the container does is proved anew. So it is named once for all kinds of range.
 ghost use Rattle.rangemap.specs.Clones.{KeysCloneFaithfully};
 
-use rangemap::{RangeInclusiveMap, RangeMap, StepFns, StepLite, tree_map};
-use rows::{Noted, SignedSteps, Word, calls_of, changes_of, check_replay, check_rows, parts};
+use rangemap::{RangeInclusiveMap, StepFns, StepLite, tree_map};
+use rangemap_core::half_open::HalfOpen;
+use rangemap_maps::closed::Closed;
+use rangemap_maps::kinds::{OwnSteps, Stored};
+use rangemap_maps::range_map::Map;
+use rows::{
+    FromEnds, Noted, SignedSteps, Word, calls_of, changes_of, check_replay, check_rows, parts,
+};
 use std::alloc::Global;
+use std::ops::{Range, RangeInclusive};
 use std::test::Fail;
 
-/// A map of half-open ranges.
-type HalfOpen = RangeMap<u32, Noted, Global>;
-
-/// A map over bytes.
-type Bytes = RangeInclusiveMap<u8, Noted, u8, Global>;
-
-/// A map over signed bytes by their own steps.
-type SignedBytes = RangeInclusiveMap<i8, Noted, i8, Global>;
-
-/// A map over signed bytes by the steps of another type.
-type Stepped = RangeInclusiveMap<i8, Noted, SignedSteps, Global>;
+/// Compares a table for maps of a kind of range.
+fn check_maps<Q: Stored<K, R>, K: Ord + Clone + Word<Global>, R: FromEnds<K>>(
+    alloc: Global,
+    table: &str,
+) -> Result<(), Fail>
+    requires { KeysCloneFaithfully K.is_clone K.cmp }
+{
+    check_rows::<Map<Q, K, R, Noted, Global>>(alloc, table)
+}
 
 /// Compares a table for maps of half-open ranges, in a sorted vector and in a tree.
 pub fn check_half_open(alloc: Global, table: &str) -> Result<(), Fail> {
-    check_rows::<HalfOpen>(alloc, table)?;
+    check_maps::<HalfOpen, u32, Range<u32>>(alloc, table)?;
     check_rows::<tree_map::RangeMap<u32, Noted, Global>>(alloc, table)
 }
 
-/// Compares a table for maps of closed ranges.
-pub fn check_closed(alloc: Global, table: &str) -> Result<(), Fail> {
-    check_rows::<RangeInclusiveMap<u32, Noted, u32, Global>>(alloc, table)
-}
-
-/// Compares a table for maps over bytes.
-pub fn check_bytes(alloc: Global, table: &str) -> Result<(), Fail> {
-    check_rows::<Bytes>(alloc, table)
-}
-
-/// Compares a table for maps over signed bytes.
-pub fn check_signed_bytes(alloc: Global, table: &str) -> Result<(), Fail> {
-    check_rows::<SignedBytes>(alloc, table)
+/// Compares a table for maps of closed ranges, by their own steps.
+pub fn check_closed<K: StepLite + Clone + Word<Global>>(
+    alloc: Global,
+    table: &str,
+) -> Result<(), Fail>
+    requires { KeysCloneFaithfully K.is_clone K.cmp }
+{
+    check_maps::<Closed<K>, K, RangeInclusive<K>>(alloc, table)
 }
 
 /// Compares a table for maps over signed bytes by the steps of another type.
 pub fn check_stepped(alloc: Global, table: &str) -> Result<(), Fail> {
-    check_rows::<Stepped>(alloc, table)
+    check_maps::<Closed<SignedSteps>, i8, RangeInclusive<i8>>(alloc, table)
 }
 
 /// Compares a replay: its calls, which of them are accepted, and what each map holds then.
-pub fn check_half_open_replay(alloc: Global, row: &str) -> Result<(), Fail> {
+fn check_calls<Q: OwnSteps<K, R>, K: Ord + Clone + Word<Global>, R: FromEnds<K>>(
+    alloc: Global,
+    row: &str,
+) -> Result<(), Fail>
+    requires { KeysCloneFaithfully K.is_clone K.cmp }
+{
     let (calls, accepted, lists) = parts(row)?;
-    let calls = calls_of::<HalfOpen>(alloc, calls)?;
-    check_replay::<HalfOpen, _>(alloc, calls, accepted, lists)
+    let calls = calls_of::<Map<Q, K, R, Noted, Global>>(alloc, calls)?;
+    check_replay::<Map<Q, K, R, Noted, Global>, _>(alloc, calls, accepted, lists)
+}
+
+/// Compares a replay on maps of half-open ranges.
+pub fn check_half_open_replay(alloc: Global, row: &str) -> Result<(), Fail> {
+    check_calls::<HalfOpen, u32, Range<u32>>(alloc, row)
 }
 
 /// Compares a replay on maps of closed ranges.
@@ -61,9 +71,7 @@ pub fn check_closed_replay<K: StepLite + Clone + Word<Global>>(
 ) -> Result<(), Fail>
     requires { KeysCloneFaithfully K.is_clone K.cmp }
 {
-    let (calls, accepted, lists) = parts(row)?;
-    let calls = calls_of::<RangeInclusiveMap<K, Noted, K, Global>>(alloc, calls)?;
-    check_replay::<RangeInclusiveMap<K, Noted, K, Global>, _>(alloc, calls, accepted, lists)
+    check_calls::<Closed<K>, K, RangeInclusive<K>>(alloc, row)
 }
 
 /// Compares a replay of changes by the steps that `S` has.

@@ -1,10 +1,12 @@
-//! Rows about maps over closed ranges that are made of pairs and of other maps, and that hand their
-//! pairs over.
+//! Rows about maps that are made of pairs.
 
-use super::Map;
 use rangemap::RangeInclusiveMap;
-use rows::{check_counted_back, check_text, check_three};
+use rows::check_text;
+use std::alloc::Global;
 use std::test::Fail;
+
+/// A map over numbers.
+type Map = RangeInclusiveMap<u32, char, u32, Global>;
 
 #[test]
 fn pairs_are_inserted_in_order(rt: HostRuntime) -> Result<(), Fail> {
@@ -32,14 +34,4 @@ fn a_chain_is_taken(rt: HostRuntime) -> Result<(), Fail> {
         &(extended, made),
         "({0..=4: 'a', 10..=14: 'a'}, {0..=29: 'b'})",
     )
-}
-
-#[test]
-fn a_map_lends_and_hands_its_pairs_over(rt: HostRuntime) -> Result<(), Fail> {
-    let map = RangeInclusiveMap::from(rt.alloc(), [(0..=1u8, 'a'), (4..=5, 'b'), (8..=9, 'c')])?;
-    let pairs = ((&(0..=1), &'a'), (&(4..=5), &'b'), (&(8..=9), &'c'));
-    check_three(map.iter(), pairs, true)?;
-    let map = RangeInclusiveMap::from(rt.alloc(), [(0..=1u32, 'a'), (4..=5, 'b'), (8..=8, 'c')])?;
-    let pairs = ((0..=1, 'a'), (4..=5, 'b'), (8..=8, 'c'));
-    check_counted_back(map.into_iter(), pairs)
 }

@@ -1,45 +1,62 @@
-//! Rows about maps that are made of pairs and of other maps, and that hand their pairs over.
+//! Rows about maps that are made of pairs and of other maps, in a sorted vector and in a tree.
 
-use crate::same::assert_same;
-use rangemap::RangeMap;
-use rows::{check_counted_back, check_text};
+use super::{Map, TreeMap};
+use rangemap::container::Collect;
+use rangemap::{RangeMap, tree_map};
+use rangemap_core::half_open::HalfOpen;
+use rows::check_text;
+use std::alloc::{AllocError, Global};
+use std::fmt::Debug;
+use std::ops::Range;
 use std::test::Fail;
+
+/// Extends a map by the pairs of a chain, which start at 10, 20 and so on.
+fn extend_by_chain<M>(map: &mut M, end: u8) -> Result<(), AllocError>
+where
+    M: Collect<Kind = HalfOpen, Key = u32, Range = Range<u32>, Value = char>,
+{
+    map.extend((1..end).map(|i| (10 * u32::from(i)..10 * u32::from(i) + 5, 'c')))
+}
+
+/// Compares a map that a chain extends, and one that a chain makes.
+fn check_chains<M>(alloc: Global, mut map: M, text: &str) -> Result<(), Fail>
+where
+    M: Collect<Alloc = Global, Kind = HalfOpen, Key = u32, Range = Range<u32>, Value = char>
+        + Debug,
+{
+    extend_by_chain(&mut map, 3)?;
+    check_text(alloc, &map, text)?;
+    let made = M::from_iter(alloc, (0u32..3).map(|i| (0..i + 1, 'd')))?;
+    check_text(alloc, &made, "{0..3: 'd'}")
+}
 
 #[test]
 fn pairs_are_inserted_in_order(rt: HostRuntime) -> Result<(), Fail> {
-    let mut extended = RangeMap::from(rt.alloc(), [(0u32..10, 'a'), (3..6, 'b')])?;
-    let copy = extended.clone()?;
-    extended.extend((1u32..3).map(|i| (10 * i..10 * i + 5, 'c')))?;
-    let made = RangeMap::from_iter(rt.alloc(), (0u32..3).map(|i| (0..i + 1, 'd')))?;
-    check_text(
-        rt.alloc(),
-        &(extended, copy, made),
-        "({0..3: 'a', 3..6: 'b', 6..10: 'a', 10..15: 'c', 20..25: 'c'}, \
-        {0..3: 'a', 3..6: 'b', 6..10: 'a'}, {0..3: 'd'})",
-    )
+    let map: Map = RangeMap::from(rt.alloc(), [(0..10, 'a'), (3..6, 'b')])?;
+    let copy = map.clone()?;
+    let extended = "{0..3: 'a', 3..6: 'b', 6..10: 'a', 10..15: 'c', 20..25: 'c'}";
+    check_chains(rt.alloc(), map, extended)?;
+    check_text(rt.alloc(), &copy, "{0..3: 'a', 3..6: 'b', 6..10: 'a'}")
+}
+
+#[test]
+fn pairs_are_inserted_in_order_in_a_tree(rt: HostRuntime) -> Result<(), Fail> {
+    let map: TreeMap = tree_map::RangeMap::from(rt.alloc(), [(0..10, 'a'), (3..6, 'b')])?;
+    let copy = map.clone()?;
+    let extended = "{0..3: 'a', 3..6: 'b', 6..10: 'a', 10..15: 'c', 20..25: 'c'}";
+    check_chains(rt.alloc(), map, extended)?;
+    check_text(rt.alloc(), &copy, "{0..3: 'a', 3..6: 'b', 6..10: 'a'}")
 }
 
 #[test]
 fn an_array_and_a_chain_are_taken(rt: HostRuntime) -> Result<(), Fail> {
-    let mut map = RangeMap::new(rt.alloc());
+    let mut map: Map = RangeMap::new(rt.alloc());
     map.extend([(0u32..5, 'a'), (5..9, 'b')])?;
     check_text(rt.alloc(), &map, "{0..5: 'a', 5..9: 'b'}")?;
-    map.extend((1..100u32).map(|i| (10 * i..10 * i + 5, 'c')))?;
-    assert_same(&rt, map.len(), 101);
-    Ok(())
-}
-
-#[test]
-fn a_map_hands_its_pairs_over(rt: HostRuntime) -> Result<(), Fail> {
-    let map = RangeMap::from(rt.alloc(), [(0u32..2, 'a'), (4..6, 'b'), (8..9, 'c')])?;
-    let pairs = ((0..2, 'a'), (4..6, 'b'), (8..9, 'c'));
-    check_counted_back(map.into_iter(), pairs)?;
-    let map = RangeMap::from(rt.alloc(), [(0u32..10, 'a'), (3..6, 'b')])?;
-    let mut starts = Vec::new(rt.alloc());
-    for (range, value) in map {
-        starts.push((range.start, value))?;
+    extend_by_chain(&mut map, 100)?;
+    if map.len() == 101 {
+        Ok(())
+    } else {
+        Err(Fail::new("a chain gives another number of pairs"))
     }
-    let expected = [(0, 'a'), (3, 'b'), (6, 'a')];
-    assert_same(&rt, starts.as_slice(), expected.as_slice());
-    Ok(())
 }

@@ -7,20 +7,18 @@ ghost use Rattle.rangemap.specs.Ranges.{half_open};
 ghost use Rattle.rangemap.specs.Runs.{IsAllowed};
 
 use crate::map::{Map, TreeMap};
-use crate::same::assert_same;
-use rangemap::RangeMap;
-use rangemap::tree_map::{self, Answer, Command, Outcome, run};
-use std::alloc::{AllocError, AllocGlobal, Allocator, Global};
-use std::fmt::{self, Write};
+use rangemap::tree_map::{Answer, Command, Container, Outcome, run};
+use rangemap_core::half_open::HalfOpen;
+use std::alloc::{AllocError, Global};
+use std::fmt::Write;
 use std::ops::Range;
-use std::process::Abort;
 use std::test::Fail;
 
 /// Commands over numbers.
-type Commands<A> = Vec<Command<u32, Range<u32>, char>, A>;
+type Commands = Vec<Command<u32, Range<u32>, char>, Global>;
 
 /// The commands, which are run on an empty map.
-fn commands<A: Allocator>(alloc: A) -> Result<Commands<A>, AllocError>
+fn commands(alloc: Global) -> Result<Commands, AllocError>
     ensures { IfOk result (λ commands. AllByRecursion (IsAllowed (half_open nat_cmp)) commands.items) }
 {
     let commands = [
@@ -43,42 +41,41 @@ fn commands<A: Allocator>(alloc: A) -> Result<Commands<A>, AllocError>
 const ANSWERS: &str = "done done done 3 Some('a') None Some((10..20, 'b')) \
     [(0..3, 'a'), (6..10, 'a'), (10..20, 'b')] [(6..10, 'a'), (10..20, 'b')] done 0 ";
 
-/// Writes answers, one after another.
-fn write_answers<W: Write>(
-    text: &mut W,
-    answers: &[Outcome<Range<u32>, char, Global>],
-) -> fmt::Result {
-    for answer in answers {
-        match answer {
-            Ok(Answer::Done) => write!(text, "done ")?,
-            Ok(Answer::Len(len)) => write!(text, "{len} ")?,
-            Ok(Answer::Value(value)) => write!(text, "{value:?} ")?,
-            Ok(Answer::Pair(pair)) => write!(text, "{pair:?} ")?,
-            Ok(Answer::Pairs(pairs)) => write!(text, "{:?} ", pairs.as_slice())?,
-            Err(AllocError) => write!(text, "refused ")?,
-        }
+/// Writes an answer.
+fn write_answer(
+    text: &mut String,
+    answer: &Outcome<Range<u32>, char, Global>,
+) -> Result<(), AllocError> {
+    match answer {
+        Ok(Answer::Done) => write!(text, "done "),
+        Ok(Answer::Len(len)) => write!(text, "{len} "),
+        Ok(Answer::Value(value)) => write!(text, "{value:?} "),
+        Ok(Answer::Pair(pair)) => write!(text, "{pair:?} "),
+        Ok(Answer::Pairs(pairs)) => write!(text, "{:?} ", pairs.as_slice()),
+        Err(AllocError) => write!(text, "refused "),
     }
-    Ok(())
 }
 
-/// Compares answers with the text of a row.
-fn check_answers<R: AllocGlobal + Abort>(
-    rt: &R,
-    answers: &[Outcome<Range<u32>, char, Global>],
-    row: &str,
-) -> Result<(), Fail> {
-    let mut text = String::new(rt.alloc());
-    write_answers(&mut text, answers)?;
-    assert_same(rt, text.as_str(), row);
-    Ok(())
+/// Runs the commands on a map, and compares what they answer.
+fn check_run<M>(alloc: Global) -> Result<(), Fail>
+where
+    M: Container<Alloc = Global, Kind = HalfOpen, Key = u32, Range = Range<u32>, Value = char>,
+{
+    let mut map = M::empty(alloc);
+    let answers = run(alloc, &mut map, commands(alloc)?)?;
+    let mut text = String::new(alloc);
+    for answer in &answers {
+        write_answer(&mut text, answer)?;
+    }
+    if text.as_str() == ANSWERS {
+        Ok(())
+    } else {
+        Err(Fail::new(format_args!("commands answer {text}")))
+    }
 }
 
 #[test]
 fn commands_are_answered_by_a_vector_and_a_tree(rt: HostRuntime) -> Result<(), Fail> {
-    let mut map: Map = RangeMap::new(rt.alloc());
-    let answers = run(rt.alloc(), &mut map, commands(rt.alloc())?)?;
-    check_answers(&rt, answers.as_slice(), ANSWERS)?;
-    let mut map: TreeMap = tree_map::RangeMap::new(rt.alloc());
-    let answers = run(rt.alloc(), &mut map, commands(rt.alloc())?)?;
-    check_answers(&rt, answers.as_slice(), ANSWERS)
+    check_run::<Map>(rt.alloc())?;
+    check_run::<TreeMap>(rt.alloc())
 }

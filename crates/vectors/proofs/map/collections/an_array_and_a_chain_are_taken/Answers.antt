@@ -6,4 +6,4 @@ use Rattle.rangemap.proofs.IncomingLemmas.{listed}
 use Rattle.vectors.proofs.map.collections.an_array_and_a_chain_are_taken.Goals as goal
 
 pub extend-requires-clause-non_empty : goal.extend-requires-clause-non_empty
-extend-requires-clause-non_empty g c it h = listed (half_open nat_cmp) array_into_iter_items h.2 it _ h.0 (refl, (refl, tt))
+extend-requires-clause-non_empty c it h = listed (half_open nat_cmp) array_into_iter_items h.2 it _ h.0 (refl, (refl, tt))
