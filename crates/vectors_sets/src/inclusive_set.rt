@@ -1,24 +1,15 @@
 //! Rows over sets of closed ranges.
 
-use crate::same::assert_same;
-use crate::tables::{check_bytes, check_closed};
-use rangemap::RangeInclusiveSet;
-use rows::check_three;
-use std::alloc::Global;
-use std::process::Abort;
+use crate::tables::check_closed;
 use std::test::Fail;
 
 mod collections;
-mod operations;
 mod replays;
-
-/// A set of numbers.
-pub type Set = RangeInclusiveSet<u32, u32, Global>;
 
 // A removal cuts what it meets, and equality forgets the calls.
 #[test]
 fn ranges_with_no_key_between_are_joined(rt: HostRuntime) -> Result<(), Fail> {
-    check_closed(
+    check_closed::<u32>(
         rt.alloc(),
         "
         insert 7..=7 | holds | 7..=7
@@ -41,7 +32,7 @@ fn ranges_with_no_key_between_are_joined(rt: HostRuntime) -> Result<(), Fail> {
 // A query may be reversed.
 #[test]
 fn what_is_asked_is_answered(rt: HostRuntime) -> Result<(), Fail> {
-    check_closed(
+    check_closed::<u32>(
         rt.alloc(),
         "
         insert 0..=100, insert 200..=300 | holds | 0..=100, 200..=300
@@ -65,7 +56,7 @@ fn what_is_asked_is_answered(rt: HostRuntime) -> Result<(), Fail> {
 // What nothing covers is free.
 #[test]
 fn bytes_go_to_their_end(rt: HostRuntime) -> Result<(), Fail> {
-    check_bytes(
+    check_closed::<u8>(
         rt.alloc(),
         "
         insert 0..=255, remove 128..=128 | holds | 0..=127, 129..=255
@@ -75,36 +66,5 @@ fn bytes_go_to_their_end(rt: HostRuntime) -> Result<(), Fail> {
         insert 0..=9, insert 250..=255 | gaps 12..=10 |
         insert 0..=9, insert 250..=255, insert 10..=249 | gaps 0..=255 |
         ",
-    )
-}
-
-#[test]
-fn gaps_lie_between_the_ranges(rt: HostRuntime) -> Result<(), Fail> {
-    let set = RangeInclusiveSet::from(rt.alloc(), [0..=100, 200..=300, 400..=500])?;
-    take_gaps(&rt, &set)
-}
-
-/// Takes both gaps, and asks on.
-fn take_gaps<R: Abort>(rt: &R, set: &Set) -> Result<(), Fail> {
-    let outer_range = 0..=500;
-    let mut gaps = set.gaps(&outer_range);
-    assert_same(rt, gaps.size_hint(), (0, None));
-    let taken = (gaps.try_next(), gaps.next(), gaps.try_next(), gaps.next());
-    assert_same(
-        rt,
-        taken,
-        (Ok(Some(101..=199)), Some(Ok(301..=399)), Ok(None), None),
-    );
-    Ok(())
-}
-
-#[test]
-fn ranges_come_from_both_ends(rt: HostRuntime) -> Result<(), Fail> {
-    let set: Set = RangeInclusiveSet::from(rt.alloc(), [0..=1, 3..=3, 5..=5, 8..=9])?;
-    let query = 1..=7;
-    check_three(
-        set.overlapping(&query),
-        (&(0..=1), &(3..=3), &(5..=5)),
-        false,
     )
 }

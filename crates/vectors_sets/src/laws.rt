@@ -1,12 +1,17 @@
 //! The laws of `|` and `&`, run on sets of either kind.
 ghost use Rattle.rangemap.specs.Clones.{KeysCloneFaithfully};
 
-use crate::{inclusive_set, set};
 use rangemap::container::Combine;
 use rangemap::laws::sets::{Operator, absorbs, associates, commutes, distributes, is_idempotent};
-use rows::{Tested, check_text};
+use rangemap::range_set::Set;
+use rangemap_core::half_open::HalfOpen;
+use rangemap_maps::closed::Closed;
+use rangemap_maps::kinds::OwnSteps;
+use rangemap_operations::set_range::{SetKind, SetRange};
+use rows::{FromEnds, Tested, check_text};
 use std::alloc::Global;
 use std::fmt::Debug;
+use std::ops::{Range, RangeInclusive};
 use std::test::Fail;
 
 /// Three sets: the second goes on where the first ends, and the third has keys of both.
@@ -88,12 +93,20 @@ fn check_laws<S: Combine + Debug>(
     check_first(alloc, &sets, text)
 }
 
+/// Makes three sets of a kind of range, and runs all laws on them.
+fn check_three<
+    Q: OwnSteps<u32, R> + SetKind<u32, R>,
+    R: SetRange<Key = u32> + FromEnds<u32> + Debug,
+>(alloc: Global, sets: &[&str], unions: &str, intersections: &str, text: &str) -> Result<(), Fail> {
+    let sets = Set::<Q, u32, R, Global>::make_all(alloc, sets)?;
+    check_laws(alloc, sets.as_slice(), unions, intersections, text)
+}
+
 #[test]
 fn operators_keep_their_laws(rt: HostRuntime) -> Result<(), Fail> {
-    let sets = set::Set::make_all(rt.alloc(), &["0..5", "5..10", "3..7"])?;
-    check_laws(
+    check_three::<HalfOpen, Range<u32>>(
         rt.alloc(),
-        sets.as_slice(),
+        &["0..5", "5..10", "3..7"],
         "(({0..10}, {0..10}), ({0..10}, {0..10}), ({0..7}, {0..7}))",
         "(({3..5}, {3..5}), ({}, {}), ({3..7}, {3..7}))",
         "{0..5}",
@@ -102,10 +115,9 @@ fn operators_keep_their_laws(rt: HostRuntime) -> Result<(), Fail> {
 
 #[test]
 fn operators_of_closed_sets_keep_their_laws(rt: HostRuntime) -> Result<(), Fail> {
-    let sets = inclusive_set::Set::make_all(rt.alloc(), &["0..=4", "5..=9", "3..=6"])?;
-    check_laws(
+    check_three::<Closed<u32>, RangeInclusive<u32>>(
         rt.alloc(),
-        sets.as_slice(),
+        &["0..=4", "5..=9", "3..=6"],
         "(({0..=9}, {0..=9}), ({0..=9}, {0..=9}), ({0..=6}, {0..=6}))",
         "(({3..=4}, {3..=4}), ({}, {}), ({3..=6}, {3..=6}))",
         "{0..=4}",

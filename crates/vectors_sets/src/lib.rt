@@ -2,13 +2,13 @@
 #![tactic(auto)]
 
 #[cfg(test)]
-mod endings;
-#[cfg(test)]
 mod inclusive_set;
+#[cfg(test)]
+mod iterators;
 #[cfg(test)]
 mod laws;
 #[cfg(test)]
-mod same;
+mod operations;
 #[cfg(test)]
 mod set;
 #[cfg(test)]

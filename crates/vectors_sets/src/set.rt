@@ -1,17 +1,10 @@
 //! Rows over half-open ranges.
 
 mod collections;
-mod operations;
 mod replays;
 
 use crate::tables::check_half_open;
-use rangemap::RangeSet;
-use rows::check_three;
-use std::alloc::Global;
 use std::test::Fail;
-
-/// A set of numbers.
-pub type Set = RangeSet<u32, Global>;
 
 // A removal cuts what it meets, and equality forgets the calls.
 #[test]
@@ -65,11 +58,4 @@ fn what_is_asked_is_answered(rt: HostRuntime) -> Result<(), Fail> {
         insert 3..8 | overlapping 7..9 | 3..8
         ",
     )
-}
-
-#[test]
-fn ranges_come_from_both_ends(rt: HostRuntime) -> Result<(), Fail> {
-    let set: Set = RangeSet::from(rt.alloc(), [0..2, 3..4, 5..6, 8..9])?;
-    let query = 1..8;
-    check_three(set.overlapping(&query), (&(0..2), &(3..4), &(5..6)), false)
 }
