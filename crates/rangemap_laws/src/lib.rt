@@ -5,5 +5,3 @@
 
 pub mod commands;
 pub mod laws;
-
-pub use rangemap_replay::{calls, replay};
