@@ -1,9 +1,8 @@
 //! The containers of the library, each of which tells what its iterators give.
 
-use crate::{LeaveGaps, ReadsGaps, ReadsPairs, Told, tell_gaps, tell_pairs, tell_ranges};
+use crate::{ReadsGaps, ReadsPairs, Told, tell_gaps, tell_pairs, tell_ranges};
 use rangemap::range_set::Set;
 use rangemap::tree_map;
-use rangemap_core::gaps::Gaps;
 use rangemap_maps::kinds::Stored;
 use rangemap_maps::range_map::Map;
 use rangemap_operations::set_range::{SetKind, SetRange};
@@ -75,19 +74,5 @@ impl<Q: SetKind<T, R>, T: Ord + Clone, R: SetRange<Key = T>, A: Allocator + Clon
         reader: &mut U,
     ) -> Result<(), AllocError> {
         tell_gaps(self.gaps(outer_range), reader)
-    }
-}
-
-impl<Q: Stored<K, R>, K: Ord + Clone, R: Drop, V: Eq + Clone, A: Allocator> LeaveGaps
-    for Map<Q, K, R, V, A> {
-    fn gaps<'a>(&'a self, outer_range: &'a R) -> Gaps<'a, Q, K, R, V> {
-        self.gaps(outer_range)
-    }
-}
-
-impl<Q: SetKind<T, R>, T: Ord + Clone, R: SetRange<Key = T>, A: Allocator> LeaveGaps
-    for Set<Q, T, R, A> {
-    fn gaps<'a>(&'a self, outer_range: &'a R) -> Gaps<'a, Q, T, R, ()> {
-        self.gaps(outer_range)
     }
 }

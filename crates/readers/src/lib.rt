@@ -9,8 +9,7 @@ ghost use Rattle.rangemap.specs.Clones.{KeysCloneFaithfully};
 
 mod containers;
 
-use rangemap::container::{Container, TryClone};
-use rangemap_core::gaps::Gaps;
+use rangemap::container::TryClone;
 use std::alloc::AllocError;
 use std::iter::Iterator;
 
@@ -48,15 +47,6 @@ pub trait Told: TryClone {
         reader: &mut U,
     ) -> Result<(), AllocError>
         requires faithful_keys { KeysCloneFaithfully Self.Key.is_clone Self.Key.cmp };
-}
-
-/// A container whose gaps are of the engine's own type.
-pub trait LeaveGaps: Container {
-    /// The parts of `outer_range` that no stored range covers, in order.
-    fn gaps<'a>(
-        &'a self,
-        outer_range: &'a Self::Range,
-    ) -> Gaps<'a, Self::Kind, Self::Key, Self::Range, Self::Value>;
 }
 
 /// Tells a reader of the pairs of an iterator.

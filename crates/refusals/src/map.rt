@@ -1,67 +1,49 @@
 //! Rows about calls on maps over half-open ranges that are refused memory: the growth of a map and
 //! each clone of a text or a key, in its turn.
 
-use crate::tried::Tried;
-use rangemap::RangeMap;
+use crate::containers::map;
 use refusing::Refusing;
-use rows::{Costly, Heap, MANY, Names, Texts};
+use rows::{Costly, MANY, Text};
 use std::test::Fail;
 
-pub mod makers;
-
-// The first growth takes a request, and a clone of the value of each piece that stays another.
+// The first growth takes a request, and a clone of the value of each piece that stays another; a
+// clone of a map its list, and three texts. Of an `extend` the first pair takes the first growth.
+// The second, inside it, takes a clone of its text for each piece of the first.
 #[test]
 fn each_request_may_be_refused(rt: HostRuntime) -> Result<(), Fail> {
     let heap = Refusing::new(rt.alloc(), MANY);
-    Texts::check_refusals(
+    map::<u32, Text<'_>>(
         &heap,
-        &heap,
-        &[
-            ("", "insert 0..10 a", "0..10 a", 1),
-            ("0..10 a", "insert 10..20 a", "0..20 a", 0),
-            ("0..10 a", "insert 3..6 b", "0..3 a, 3..6 b, 6..10 a", 2),
-            (
-                "0..4 a, 4..8 b, 8..12 a",
-                "insert 2..10 c",
-                "0..2 a, 2..10 c, 10..12 a",
-                2,
-            ),
-            ("0..10 a", "remove 3..6", "0..3 a, 6..10 a", 2),
-            ("0..10 a, 20..30 b", "remove 10..20", "0..10 a, 20..30 b", 0),
-            // the list, and three texts
-            (
-                "0..4 a, 4..8 b, 8..12 a",
-                "clone",
-                "0..4 a, 4..8 b, 8..12 a",
-                4,
-            ),
-        ],
+        "| insert 0..10 a | 0..10 a | 1
+        0..10 a | insert 10..20 a | 0..20 a | 0
+        0..10 a | insert 3..6 b | 0..3 a, 3..6 b, 6..10 a | 2
+        0..4 a, 4..8 b, 8..12 a | insert 2..10 c | 0..2 a, 2..10 c, 10..12 a | 2
+        0..10 a | remove 3..6 | 0..3 a, 6..10 a | 2
+        0..10 a, 20..30 b | remove 10..20 | 0..10 a, 20..30 b | 0
+        0..4 a, 4..8 b, 8..12 a | clone | 0..4 a, 4..8 b, 8..12 a | 4
+        0..10 a + 3..6 b + 20..25 c | extend \
+            | ; 0..10 a; 0..10 a; 0..3 a, 3..6 b, 6..10 a, 20..25 c | 3",
     )
 }
 
-// Both ends of each piece that stays are cloned.
+// Both ends of each piece that stays are cloned, and both ends of a gap.
 #[test]
 #[tactic(auto, using(rangemap::proofs::TextKeys::clones_tie))]
 fn each_clone_of_a_key_may_be_refused(rt: HostRuntime) -> Result<(), Fail> {
     let heap = Refusing::new(rt.alloc(), MANY);
-    Names::check_refusals(
-        &heap,
-        &heap,
-        &[(
-            "a..k a, u..z b",
-            "insert f..w c",
-            "a..f a, f..w c, w..z b",
-            4,
-        )],
-    )
+    let row = "a..k a, u..z b | insert f..w c | a..f a, f..w c, w..z b | 4";
+    map::<Text<'_>, char>(&heap, row)?;
+    map::<Costly<'_>, char>(&heap, "1..3 a | gaps 0..5 | 0..1, 3..5 | 2")
 }
 
-/// A map over keys whose clones take memory.
-type CostlyRanges<'a> = RangeMap<Costly<'a>, char, &'a Heap>;
-
-// Both ends of a gap are cloned.
+// A run of commands takes room for the answers, the growth of the map, and the list of its clones. A
+// replay, which changes nothing without room, takes three lists, and the growth of either map.
 #[test]
-fn each_clone_of_a_gap_may_be_refused(rt: HostRuntime) -> Result<(), Fail> {
+fn each_command_may_be_refused(rt: HostRuntime) -> Result<(), Fail> {
     let heap = Refusing::new(rt.alloc(), MANY);
-    CostlyRanges::check_gap_refusals(&heap, &heap, ("1..3 a", "0..5", "0..1, 3..5", 2))
+    map::<u32, char>(
+        &heap,
+        "0..10 a + 20..30 b | run | | 3
+        new, insert 0..10 a, clone, remove 4..5 | replay | 2 | 5",
+    )
 }

@@ -1,63 +1,58 @@
 //! Rows about calls on maps in a tree that are refused memory: each node, each list of keys and
 //! each clone of a key or a text, in its turn.
 
-use crate::tried::Tried;
+use crate::containers::tree;
 use refusing::Refusing;
-use rows::{CostlyTree, MANY, TreeTexts};
+use rows::{Costly, MANY, Text};
 use std::test::Fail;
 
-mod makers;
-mod runs;
-
-/// Fourteen pairs.
-const FILLED: &str = "0..1 a, 1..2 b, 2..3 a, 3..4 b, 4..5 a, 5..6 b, 6..7 a, 7..8 b, 8..9 a, \
-    9..10 b, 10..11 a, 11..12 b, 12..13 a, 13..25 b";
-
-/// The same, with another value inside the last.
-const GROWN: &str = "0..1 a, 1..2 b, 2..3 a, 3..4 b, 4..5 a, 5..6 b, 6..7 a, 7..8 b, 8..9 a, \
-    9..10 b, 10..11 a, 11..12 b, 12..13 a, 13..20 b, 20..22 c, 22..25 b";
-
-// Of the two pieces one takes a clone of the text.
+// Of the two pieces one takes a clone of the text. The first pair of a list takes the tree, and the
+// second, inside it, a clone of its text.
 #[test]
 fn a_refused_insert_leaves_the_map(rt: HostRuntime) -> Result<(), Fail> {
     let heap = Refusing::new(rt.alloc(), MANY);
-    TreeTexts::check_refusals(
+    tree::<u32, Text<'_>>(
         &heap,
-        &heap,
-        &[("0..10 a", "insert 3..6 b", "0..3 a, 3..6 b, 6..10 a", 1)],
+        "0..10 a | insert 3..6 b | 0..3 a, 3..6 b, 6..10 a | 1
+        0..10 a + 3..6 b + 20..25 c | extend \
+            | ; 0..10 a; 0..3 a, 3..6 b, 6..10 a, 20..25 c | 2",
     )
 }
 
+// The first pair takes the tree and the key that it stands at. An insert inside a pair clones both
+// ends of either piece, and two keys; one that joins three pairs clones the outer ends and a key,
+// and makes a list of the two keys that go.
+//
+// A node has room for fifteen pairs. So where there are fourteen the piece to the right still finds
+// room, and the new pair takes two nodes; where one of them is refused, the piece is taken out
+// again.
+//
+// A removal inside a pair clones both ends of either piece, and a key; a clone of a map takes the
+// tree, and three keys for each pair. Both ends of a gap are cloned.
+//
+// Of an `extend` the first pair takes the tree and a key, the second what an insert inside it takes.
+// An append takes a clone of either end of each pair;
+// there is room for four. A replay, which changes nothing without room, takes three lists, a node
+// and a key of the first pair, a node and three keys of the clone, and what a removal takes.
 #[test]
 fn each_request_may_be_refused(rt: HostRuntime) -> Result<(), Fail> {
     let heap = Refusing::new(rt.alloc(), MANY);
-    CostlyTree::check_refusals(
+    tree::<Costly<'_>, char>(
         &heap,
-        &heap,
-        &[
-            // The first pair takes the tree and the key that it stands at.
-            ("", "insert 0..10 a", "0..10 a", 2),
-            // An insert inside a pair clones both ends of either piece, and two keys; one that
-            // joins three pairs clones the outer ends and a key, and makes a list of the two keys
-            // that go.
-            ("0..10 a", "insert 2..5 b", "0..2 a, 2..5 b, 5..10 a", 6),
-            ("0..2 a, 4..6 b, 8..10 a", "insert 2..8 a", "0..10 a", 6),
-            // A node has room for fifteen pairs. So the piece to the right still finds room, and
-            // the new pair takes two nodes; where one of them is refused, the piece is taken out
-            // again.
-            (FILLED, "insert 20..22 c", GROWN, 8),
-            // A removal inside a pair clones both ends of either piece, and a key.
-            ("0..10 a", "remove 2..5", "0..2 a, 5..10 a", 5),
-            ("0..10 a", "remove 12..15", "0..10 a", 0),
-            // the tree, and three keys for each pair
-            ("0..2 a, 5..10 a", "clone", "0..2 a, 5..10 a", 7),
-        ],
+        "| insert 0..10 a | 0..10 a | 2
+        0..10 a | insert 2..5 b | 0..2 a, 2..5 b, 5..10 a | 6
+        0..2 a, 4..6 b, 8..10 a | insert 2..8 a | 0..10 a | 6
+        0..1 a, 1..2 b, 2..3 a, 3..4 b, 4..5 a, 5..6 b, 6..7 a, 7..8 b, 8..9 a, 9..10 b, 10..11 a, \
+            11..12 b, 12..13 a, 13..25 b | insert 20..22 c | 0..1 a, 1..2 b, 2..3 a, 3..4 b, \
+            4..5 a, 5..6 b, 6..7 a, 7..8 b, 8..9 a, 9..10 b, 10..11 a, 11..12 b, 12..13 a, \
+            13..20 b, 20..22 c, 22..25 b | 8
+        0..10 a | remove 2..5 | 0..2 a, 5..10 a | 5
+        0..10 a | remove 12..15 | 0..10 a | 0
+        0..2 a, 5..10 a | clone | 0..2 a, 5..10 a | 7
+        1..3 a | gaps 0..5 | 0..1, 3..5 | 2
+        0..10 a + 2..5 b | extend | ; ; 0..10 a; 0..10 a; 0..10 a; 0..10 a; 0..10 a; 0..10 a; \
+            0..2 a, 2..5 b, 5..10 a | 8
+        0..2 a, 5..10 a | append 1..6 0..2 a + 5..10 a | 0..2 a, 5..10 a, 0..2 a, 5..10 a | 4
+        new, insert 0..10 a, clone, remove 2..5 | replay | 2 | 14",
     )
-}
-
-// Both ends of a gap are cloned.
-#[test]
-fn each_clone_of_a_gap_may_be_refused(rt: HostRuntime) -> Result<(), Fail> {
-    let heap = Refusing::new(rt.alloc(), MANY);
-    CostlyTree::check_gap_refusals(&heap, &heap, ("1..3 a", "0..5", "0..1, 3..5", 2))
 }

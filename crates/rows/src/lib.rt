@@ -30,7 +30,7 @@ pub use in_rows::{FromEnds, InRows};
 pub use iterators::{check_both_ends, check_counted_back, check_three, check_tries};
 pub use listed::{check_listed, check_text};
 pub use lists::parts;
-pub use names::{Heap, MANY, NamedSet, Names, Text, Texts, TreeTexts};
+pub use names::{Heap, MANY, Text, Texts};
 pub use noted::Noted;
 pub use ranges::{closed, filled};
 pub use replays::{calls_of, changes_of, check_replay, pairs_of, ranges_of, set_calls_of};

@@ -1,7 +1,7 @@
 //! Containers of rows with texts in them, whose clones take memory that may be refused.
 
 use crate::words::Word;
-use rangemap::{RangeMap, RangeSet, tree_map};
+use rangemap::RangeMap;
 use refusing::Refusing;
 use std::alloc::Global;
 use std::test::Fail;
@@ -17,15 +17,6 @@ pub type Text<'a> = String<&'a Heap>;
 
 /// A map to texts.
 pub type Texts<'a> = RangeMap<u32, Text<'a>, &'a Heap>;
-
-/// The same in a tree.
-pub type TreeTexts<'a> = tree_map::RangeMap<u32, Text<'a>, &'a Heap>;
-
-/// A map over texts.
-pub type Names<'a> = RangeMap<Text<'a>, char, &'a Heap>;
-
-/// A set of texts.
-pub type NamedSet<'a> = RangeSet<Text<'a>, &'a Heap>;
 
 impl<'a> Word<&'a Heap> for Text<'a> {
     fn read(heap: &'a Heap, word: &str) -> Result<Self, Fail> {

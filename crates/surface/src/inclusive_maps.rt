@@ -1,39 +1,19 @@
-//! The calls of `inclusive_map::RangeInclusiveMap`, by their signatures.
+//! The calls of `inclusive_map::RangeInclusiveMap` that have to do with the steps of its keys, by
+//! their signatures. The others are the same functions as those in `maps`, since both maps are one
+//! struct.
 ghost use Rattle.std.specs.Prelude.{◌≡◌, IsTrue, false};
 ghost use Rattle.std.specs.Iterator.{IsFiniteIterable};
 ghost use Rattle.std.specs.Ordering.{is_le};
 ghost use Rattle.std.specs.Range.{range_inclusive_start, range_inclusive_end, range_inclusive_exhausted};
 ghost use Rattle.rangemap.specs.Clones.{KeysCloneFaithfully, ValuesCloneFaithfully};
 ghost use Rattle.rangemap.specs.NonEmptyPairs.{GivesNonEmpty};
-ghost use Rattle.rangemap.specs.Ranges.{AreNonEmpty, closed};
+ghost use Rattle.rangemap.specs.Ranges.{closed};
 
-use crate::root;
-use rangemap::inclusive_map::{Gaps, IntoIter, Iter, Overlapping, RangeInclusiveMap};
-use rangemap::{Form, ReadError, StepFns, StepLite, WriteError};
-use serde_json::Value;
-use std::alloc::{AllocError, Allocator, Global};
-use std::fmt::Debug;
-use std::hash::{Hash, Hasher};
+use rangemap::inclusive_map::{IntoIter, RangeInclusiveMap};
+use rangemap::{StepFns, StepLite};
+use std::alloc::{AllocError, Allocator};
 use std::iter::IntoIterator;
 use std::ops::RangeInclusive;
-
-pub fn ask<'a, K: Ord + Clone, V: Eq + Clone, S: StepFns<K>, A: Allocator>(
-    map: &'a RangeInclusiveMap<K, V, S, A>,
-    key: &K,
-    range: &'a RangeInclusive<K>,
-) {
-    let _: Option<&'a V> = map.get(key);
-    let _: Option<(&'a RangeInclusive<K>, &'a V)> = map.get_key_value(key);
-    let _: bool = map.contains_key(key);
-    let _: Option<(&'a RangeInclusive<K>, &'a V)> = map.first_range_value();
-    let _: Option<(&'a RangeInclusive<K>, &'a V)> = map.last_range_value();
-    let _: usize = map.len();
-    let _: bool = map.is_empty();
-    let _: bool = map.overlaps(range);
-    let _: Iter<'a, K, V> = map.iter();
-    let _: Overlapping<'a, K, V> = map.overlapping(range);
-    let _: Gaps<'a, K, V, S> = map.gaps(range);
-}
 
 pub fn change<K: Ord + Clone, V: Eq + Clone, S: StepFns<K>, A: Allocator>(
     alloc: A,
@@ -53,26 +33,6 @@ pub fn change<K: Ord + Clone, V: Eq + Clone, S: StepFns<K>, A: Allocator>(
     map.remove(taken)?;
     map.clear();
     Ok(map)
-}
-
-pub fn copy<K: Ord + Clone, V: Eq + Clone, S: StepFns<K>, A: Allocator + Clone>(
-    map: &RangeInclusiveMap<K, V, S, A>,
-) -> Result<RangeInclusiveMap<K, V, S, A>, AllocError>
-    requires faithful_keys { KeysCloneFaithfully K.is_clone K.cmp }
-    requires faithful_values { ValuesCloneFaithfully V.is_clone V.eq }
-{
-    map.clone()
-}
-
-pub fn from<K: StepLite + Clone, V: Eq + Clone, A: Allocator + Clone, const N: usize>(
-    alloc: A,
-    value: [(RangeInclusive<K>, V); N],
-) -> Result<RangeInclusiveMap<K, V, K, A>, AllocError>
-    requires non_empty { AreNonEmpty (closed K.StepLite.is_key K.cmp) value }
-    requires faithful_keys { KeysCloneFaithfully K.is_clone K.cmp }
-    requires faithful_values { ValuesCloneFaithfully V.is_clone V.eq }
-{
-    RangeInclusiveMap::from(alloc, value)
 }
 
 pub fn collect<
@@ -98,60 +58,4 @@ pub fn collect<
     let collected = RangeInclusiveMap::from_iter(alloc, iter)?;
     answer?;
     Ok((collected.into_iter(), extended))
-}
-
-pub fn compare<
-    K: Ord + Clone + Hash,
-    V: Ord + Clone + Hash,
-    S: StepFns<K>,
-    A: Allocator,
-    H: Hasher,
->(
-    left: &RangeInclusiveMap<K, V, S, A>,
-    right: &RangeInclusiveMap<K, V, S, A>,
-    state: &mut H,
-) -> bool {
-    root::compare(left, right, state)
-}
-
-pub fn text<K: StepLite + Clone + Debug, V: Eq + Clone + Debug, A: Allocator>(
-    alloc: Global,
-    map: &RangeInclusiveMap<K, V, K, A>,
-) -> Result<String, AllocError> {
-    root::text(alloc, map)
-}
-
-pub fn write_and_read<
-    K: StepLite + Clone,
-    V: Eq + Clone,
-    A: Allocator,
-    E,
-    WK: Fn(&K) -> Result<Value, E>,
-    WV: Fn(&V) -> Result<Value, E>,
-    RK: Fn(&Value) -> Result<K, E>,
-    RV: Fn(&Value) -> Result<V, E>,
->(
-    map: &RangeInclusiveMap<K, V, K, A>,
-    alloc: Global,
-    write: (WK, WV),
-    other: A,
-    form: Form,
-    value: &Value,
-    read: (RK, RV),
-) -> (
-    Result<Value, WriteError<E>>,
-    Result<RangeInclusiveMap<K, V, K, A>, ReadError<E>>,
-)
-    requires write_keys { WK.IsAlwaysCallable write.0 }
-    requires write_values { WV.IsAlwaysCallable write.1 }
-    requires read_keys { RK.IsAlwaysCallable read.0 }
-    requires read_values { RV.IsAlwaysCallable read.1 }
-    requires faithful_keys { KeysCloneFaithfully K.is_clone K.cmp }
-    requires faithful_values { ValuesCloneFaithfully V.is_clone V.eq }
-{
-    let written = map.to_value(alloc, write.0, write.1);
-    (
-        written,
-        RangeInclusiveMap::from_value(other, form, value, read.0, read.1),
-    )
 }

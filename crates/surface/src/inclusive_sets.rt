@@ -1,45 +1,19 @@
-//! The calls of `inclusive_set::RangeInclusiveSet`, by their signatures.
+//! The calls of `inclusive_set::RangeInclusiveSet` that have to do with the steps of its keys, by
+//! their signatures. The others are the same functions as those in `sets`, since both sets are one
+//! struct.
 ghost use Rattle.std.specs.Prelude.{◌≡◌, IsTrue, false};
 ghost use Rattle.std.specs.Iterator.{IsFiniteIterable};
 ghost use Rattle.std.specs.Ordering.{is_le};
 ghost use Rattle.std.specs.Range.{range_inclusive_start, range_inclusive_end, range_inclusive_exhausted};
 ghost use Rattle.rangemap.specs.Clones.{KeysCloneFaithfully};
 ghost use Rattle.rangemap.specs.Ranges.{closed};
-ghost use Rattle.rangemap.specs.Sets.{AreNonEmptyRanges, GivesNonEmptyRanges};
+ghost use Rattle.rangemap.specs.Sets.{GivesNonEmptyRanges};
 
-use crate::root;
-use rangemap::inclusive_set::{
-    Gaps, Intersection, IntoIter, Iter, Overlapping, RangeInclusiveSet, Union,
-};
-use rangemap::{Form, ReadError, StepFns, StepLite, WriteError};
-use serde_json::Value;
-use std::alloc::{AllocError, Allocator, Global};
-use std::fmt::Debug;
-use std::hash::{Hash, Hasher};
+use rangemap::inclusive_set::{IntoIter, RangeInclusiveSet};
+use rangemap::{StepFns, StepLite};
+use std::alloc::{AllocError, Allocator};
 use std::iter::IntoIterator;
 use std::ops::RangeInclusive;
-
-pub fn ask<'a, T: Ord + Clone, S: StepFns<T>, A: Allocator>(
-    set: &'a RangeInclusiveSet<T, S, A>,
-    value: &T,
-    range: &'a RangeInclusive<T>,
-    other: &'a RangeInclusiveSet<T, S, A>,
-) {
-    let _: Option<&'a RangeInclusive<T>> = set.get(value);
-    let _: bool = set.contains(value);
-    let _: Option<&'a RangeInclusive<T>> = set.first();
-    let _: Option<&'a RangeInclusive<T>> = set.last();
-    let _: usize = set.len();
-    let _: bool = set.is_empty();
-    let _: bool = set.overlaps(range);
-    let _: Iter<'a, T> = set.iter();
-    let _: Overlapping<'a, T> = set.overlapping(range);
-    let _: Gaps<'a, T, S> = set.gaps(range);
-    let _: Union<'a, T> = set.union(other);
-    let _: Intersection<'a, T> = set.intersection(other);
-    let _: Union<'a, T> = Union::new(set.iter(), other.iter());
-    let _: Intersection<'a, T> = Intersection::new(set.iter(), other.iter());
-}
 
 pub fn change<T: Ord + Clone, S: StepFns<T>, A: Allocator>(
     alloc: A,
@@ -59,28 +33,6 @@ pub fn change<T: Ord + Clone, S: StepFns<T>, A: Allocator>(
     Ok(set)
 }
 
-pub fn copy<T: Ord + Clone, S: StepFns<T>, A: Allocator + Clone>(
-    set: &RangeInclusiveSet<T, S, A>,
-) -> Result<RangeInclusiveSet<T, S, A>, AllocError>
-    requires faithful_keys { KeysCloneFaithfully T.is_clone T.cmp }
-{
-    set.clone()
-}
-
-pub fn from<T: StepLite + Clone, A: Allocator + Clone, const N: usize>(
-    alloc: A,
-    value: [RangeInclusive<T>; N],
-    other: &RangeInclusiveSet<T, T, A>,
-) -> Result<[RangeInclusiveSet<T, T, A>; 2], AllocError>
-    requires non_empty { AreNonEmptyRanges (closed T.StepLite.is_key T.cmp) value }
-    requires faithful_keys { KeysCloneFaithfully T.is_clone T.cmp }
-{
-    let set = RangeInclusiveSet::from(alloc, value)?;
-    let either = (&set | other)?;
-    let both = (&set & other)?;
-    Ok([either, both])
-}
-
 pub fn collect<T: StepLite + Clone, A: Allocator, I: IntoIterator<Item = RangeInclusive<T>>>(
     alloc: A,
     other: A,
@@ -98,48 +50,4 @@ pub fn collect<T: StepLite + Clone, A: Allocator, I: IntoIterator<Item = RangeIn
     let collected = RangeInclusiveSet::from_iter(alloc, iter)?;
     answer?;
     Ok((collected.into_iter(), extended))
-}
-
-pub fn compare<T: Ord + Clone + Hash, S: StepFns<T>, A: Allocator, H: Hasher>(
-    left: &RangeInclusiveSet<T, S, A>,
-    right: &RangeInclusiveSet<T, S, A>,
-    state: &mut H,
-) -> bool {
-    root::compare(left, right, state)
-}
-
-pub fn text<T: StepLite + Clone + Debug, A: Allocator>(
-    alloc: Global,
-    set: &RangeInclusiveSet<T, T, A>,
-) -> Result<String, AllocError> {
-    root::text(alloc, set)
-}
-
-pub fn write_and_read<
-    T: StepLite + Clone,
-    A: Allocator,
-    E,
-    WK: Fn(&T) -> Result<Value, E>,
-    RK: Fn(&Value) -> Result<T, E>,
->(
-    set: &RangeInclusiveSet<T, T, A>,
-    alloc: Global,
-    write_key: WK,
-    other: A,
-    form: Form,
-    value: &Value,
-    read_key: RK,
-) -> (
-    Result<Value, WriteError<E>>,
-    Result<RangeInclusiveSet<T, T, A>, ReadError<E>>,
-)
-    requires write_keys { WK.IsAlwaysCallable write_key }
-    requires read_keys { RK.IsAlwaysCallable read_key }
-    requires faithful_keys { KeysCloneFaithfully T.is_clone T.cmp }
-{
-    let written = set.to_value(alloc, write_key);
-    (
-        written,
-        RangeInclusiveSet::from_value(other, form, value, read_key),
-    )
 }

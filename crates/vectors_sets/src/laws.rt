@@ -26,23 +26,26 @@ struct Three<'a, S> {
 fn check_sides<S: Combine + Debug>(
     alloc: Global,
     sets: &Three<'_, S>,
-    unions: &str,
-    intersections: &str,
+    unions: [&str; 3],
+    intersections: [&str; 3],
 ) -> Result<(), Fail>
     requires { KeysCloneFaithfully S.Key.is_clone S.Key.cmp }
 {
-    let sides = (
-        commutes(&Operator::Union, sets.first, sets.second)?,
-        associates(&Operator::Union, sets.first, sets.second, sets.third)?,
-        distributes(&Operator::Union, sets.first, sets.second, sets.third)?,
-    );
-    check_text(alloc, &sides, unions)?;
-    let sides = (
-        commutes(&Operator::Intersection, sets.first, sets.third)?,
-        associates(&Operator::Intersection, sets.first, sets.third, sets.second)?,
-        distributes(&Operator::Intersection, sets.third, sets.first, sets.second)?,
-    );
-    check_text(alloc, &sides, intersections)
+    let (first, second, third) = (sets.first, sets.second, sets.third);
+    let [commuted, associated, distributed] = unions;
+    let sides = commutes(&Operator::Union, first, second)?;
+    check_text(alloc, &sides, commuted)?;
+    let sides = associates(&Operator::Union, first, second, third)?;
+    check_text(alloc, &sides, associated)?;
+    let sides = distributes(&Operator::Union, first, second, third)?;
+    check_text(alloc, &sides, distributed)?;
+    let [commuted, associated, distributed] = intersections;
+    let sides = commutes(&Operator::Intersection, first, third)?;
+    check_text(alloc, &sides, commuted)?;
+    let sides = associates(&Operator::Intersection, first, third, second)?;
+    check_text(alloc, &sides, associated)?;
+    let sides = distributes(&Operator::Intersection, third, first, second)?;
+    check_text(alloc, &sides, distributed)
 }
 
 /// Runs the laws that give the first set again, for `|` and for `&`, and compares its text.
@@ -75,8 +78,8 @@ fn check_first<S: Combine + Debug>(
 fn check_laws<S: Combine + Debug>(
     alloc: Global,
     sets: &[S],
-    unions: &str,
-    intersections: &str,
+    unions: [&str; 3],
+    intersections: [&str; 3],
     text: &str,
 ) -> Result<(), Fail>
     requires { KeysCloneFaithfully S.Key.is_clone S.Key.cmp }
@@ -97,7 +100,13 @@ fn check_laws<S: Combine + Debug>(
 fn check_three<
     Q: OwnSteps<u32, R> + SetKind<u32, R>,
     R: SetRange<Key = u32> + FromEnds<u32> + Debug,
->(alloc: Global, sets: &[&str], unions: &str, intersections: &str, text: &str) -> Result<(), Fail> {
+>(
+    alloc: Global,
+    sets: &[&str],
+    unions: [&str; 3],
+    intersections: [&str; 3],
+    text: &str,
+) -> Result<(), Fail> {
     let sets = Set::<Q, u32, R, Global>::make_all(alloc, sets)?;
     check_laws(alloc, sets.as_slice(), unions, intersections, text)
 }
@@ -107,8 +116,12 @@ fn operators_keep_their_laws(rt: HostRuntime) -> Result<(), Fail> {
     check_three::<HalfOpen, Range<u32>>(
         rt.alloc(),
         &["0..5", "5..10", "3..7"],
-        "(({0..10}, {0..10}), ({0..10}, {0..10}), ({0..7}, {0..7}))",
-        "(({3..5}, {3..5}), ({}, {}), ({3..7}, {3..7}))",
+        [
+            "({0..10}, {0..10})",
+            "({0..10}, {0..10})",
+            "({0..7}, {0..7})",
+        ],
+        ["({3..5}, {3..5})", "({}, {})", "({3..7}, {3..7})"],
         "{0..5}",
     )
 }
@@ -118,8 +131,12 @@ fn operators_of_closed_sets_keep_their_laws(rt: HostRuntime) -> Result<(), Fail>
     check_three::<Closed<u32>, RangeInclusive<u32>>(
         rt.alloc(),
         &["0..=4", "5..=9", "3..=6"],
-        "(({0..=9}, {0..=9}), ({0..=9}, {0..=9}), ({0..=6}, {0..=6}))",
-        "(({3..=4}, {3..=4}), ({}, {}), ({3..=6}, {3..=6}))",
+        [
+            "({0..=9}, {0..=9})",
+            "({0..=9}, {0..=9})",
+            "({0..=6}, {0..=6})",
+        ],
+        ["({3..=4}, {3..=4})", "({}, {})", "({3..=6}, {3..=6})"],
         "{0..=4}",
     )
 }

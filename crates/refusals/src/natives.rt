@@ -1,0 +1,41 @@
+//! Calls that have functions of their own here: replays by steps of another type, containers of an
+//! array, the macros, and reading.
+
+mod arrays;
+mod json;
+mod macros;
+mod steps;
+
+use rows::{Heap, SignedSteps};
+use std::alloc::Global;
+use std::test::Fail;
+use trials::{Answer, Row, Tried};
+
+/// These calls. A row has what the call is given (the calls of a replay, two items, the form that is
+/// read, or what is read), its name, what comes of it (how many containers a replay leaves or ranges
+/// are read, or what is made), and the number of requests.
+pub struct Natives;
+
+impl Tried for Natives {
+    type Alloc = Global;
+
+    ghost use Rattle.std.specs.Prelude.{⊤};
+
+    ghost clones_are_faithful = { ⊤ };
+
+    fn is_accepted(heap: &Heap, alloc: Global, row: &Row<'_>, left: u64) -> Answer {
+        match row.1 {
+            "replay maps by steps" => steps::try_maps::<i8, bool, SignedSteps>(heap, row, left),
+            "replay sets by steps" => steps::try_sets::<i8, SignedSteps>(heap, row, left),
+            "map to texts from" => arrays::try_texts(heap, row, left),
+            "inclusive map from" => arrays::try_map(heap, row, left),
+            "tree from" => arrays::try_tree(heap, row, left),
+            "set from" => arrays::try_set(heap, row, left),
+            "inclusive set from" => arrays::try_inclusive_set(heap, row, left),
+            "macros" => macros::try_lists(heap, left),
+            "read" => json::try_reading(heap, alloc, row, left),
+            "read costly parts" => json::try_costly(heap, alloc, row, left),
+            _ => Err(Fail::new("a row has a call of another name")),
+        }
+    }
+}

@@ -1,0 +1,23 @@
+//! Calls that are tried with each request for memory refused in its turn, by every container.
+//!
+//! What is tried takes its memory from an allocator that refuses one request, and so each growth
+//! and each clone is refused once. `refusals` has the rows.
+#![tactic(auto)]
+
+mod appends;
+mod calls;
+mod items;
+mod makers;
+mod replays;
+mod row;
+mod runs;
+mod same;
+mod sets;
+mod tried;
+
+pub use calls::is_made;
+pub use makers::two_pairs;
+pub use replays::try_changes;
+pub use row::{Answer, Row};
+pub use same::check_that;
+pub use tried::{Tried, check};

@@ -1,0 +1,69 @@
+//! What is tried: the containers, and calls that have functions of their own.
+
+mod maps;
+mod sets;
+mod trees;
+
+use crate::row::{Answer, Row, read_row};
+use crate::same::check_that;
+use rows::{Heap, MANY};
+use std::alloc::Allocator;
+use std::test::Fail;
+
+/// What rows are tried on.
+///
+/// As of `rows::Tested`, each function is proved once for all keys and values. It is given the heap
+/// that refuses requests twice, the second time as what a container takes its memory from.
+pub trait Tried: Sized {
+    /// What its memory comes from.
+    type Alloc: Allocator + Copy;
+
+    /// That a clone of a key or a value equals its original.
+    ghost clones_are_faithful: { Type 0 };
+
+    /// Tries the call of a row, whose request that comes after `left` others is refused. Answers
+    /// whether it was accepted.
+    ///
+    /// Every container is asked to `insert`, to `remove` and to `clone`; for the `gaps` in a range,
+    /// of which there have to be two; to be made of any number of items, with what an `extend` keeps
+    /// of them for each number of requests that are granted; and to `replay` calls, which leave a
+    /// number of containers. Maps `append` their pairs to a list, and one in a vector
+    /// is what commands `run` on. Sets are put together with another by `union`, `intersection`,
+    /// `or` and `and`, the first two of which have to give two items; and they `grow` by ranges that
+    /// stand apart.
+    fn is_accepted(heap: &Heap, alloc: Self::Alloc, row: &Row<'_>, left: u64) -> Answer
+        requires { clones_are_faithful };
+}
+
+/// Tries the calls of a text, one on each line.
+pub fn check<M: Tried>(heap: &Heap, alloc: M::Alloc, text: &str) -> Result<(), Fail>
+    requires { M.clones_are_faithful }
+{
+    for line in text.split('\n') {
+        let line = line.trim();
+        if !line.is_empty() {
+            check_line::<M>(heap, alloc, line)?;
+        }
+    }
+    Ok(())
+}
+
+/// Tries the call of a line with each of its requests refused in its turn, and compares how many it
+/// makes. No block may stay held.
+fn check_line<M: Tried>(heap: &Heap, alloc: M::Alloc, line: &str) -> Result<(), Fail>
+    requires { M.clones_are_faithful }
+{
+    let row = read_row(line)?;
+    for left in 0..=row.3 {
+        let is_accepted = M::is_accepted(heap, alloc, &row, left)?;
+        check_turn(heap, line, is_accepted == (left == row.3))?;
+    }
+    Ok(())
+}
+
+/// Shows that a call was accepted if all its requests were granted, and only then, and that no
+/// block stays held. Where it is not so, the line of the call is told.
+fn check_turn(heap: &Heap, line: &str, is_expected: bool) -> Result<(), Fail> {
+    heap.refuse_after(MANY);
+    check_that(is_expected && heap.held() == 0, line)
+}
