@@ -1,5 +1,5 @@
-//! Replays by steps of another type, arrays, macros and readings that are refused memory, each request in
-//! its turn.
+//! Replays by steps of another type, arrays, macros and readings that are refused memory, each
+//! request in its turn.
 
 use crate::natives::Natives;
 use refusing::Refusing;
@@ -8,9 +8,11 @@ use std::test::Fail;
 use trials::check;
 
 // A replay takes three lists, and each of its containers grows. An array takes a list, through which
-// it is read, beside what inserts of its items take, and so does a macro. What is read into containers of numbers takes both growths. Where clones take
-// memory it takes the growth; of each of the two pieces that the second range leaves a key and a
-// value; and both ends of the third range, which is joined with the piece before it.
+// it is read, beside what inserts of its items take, and so does a macro.
+//
+// What is read into containers of numbers takes both growths. Where clones take memory it takes the
+// growth; of each of the two pieces that the second range leaves a key and a value; and both ends of
+// the third range, which is joined with the piece before it.
 #[test]
 fn what_makes_containers_may_be_refused(rt: HostRuntime) -> Result<(), Fail> {
     let heap = Refusing::new(rt.alloc(), MANY);

@@ -31,9 +31,9 @@ fn a_refused_insert_leaves_the_map(rt: HostRuntime) -> Result<(), Fail> {
 // tree, and three keys for each pair. Both ends of a gap are cloned.
 //
 // Of an `extend` the first pair takes the tree and a key, the second what an insert inside it takes.
-// An append takes a clone of either end of each pair;
-// there is room for four. A replay, which changes nothing without room, takes three lists, a node
-// and a key of the first pair, a node and three keys of the clone, and what a removal takes.
+// An append takes a clone of either end of each pair; there is room for four. A replay, which
+// changes nothing without room, takes three lists, a node and a key of the first pair, a node and
+// three keys of the clone, and what a removal takes.
 #[test]
 fn each_request_may_be_refused(rt: HostRuntime) -> Result<(), Fail> {
     let heap = Refusing::new(rt.alloc(), MANY);
