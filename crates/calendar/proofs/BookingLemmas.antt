@@ -5,7 +5,7 @@ use Rattle.std.specs.declared.ops.RangeInclusive.{RangeInclusive}
 use Rattle.calendar.specs.declared.BookError.TheVariants.{Empty, Taken, OutOfMemory}
 use Rattle.calendar.specs.declared.history.Call.{Call}
 use Rattle.calendar.specs.declared.history.Call.TheVariants.{Book, Cancel}
-use Rattle.calendar.specs.Bookings.{Answer, AreAnswers, AreFree, IsBookAnswer, IsCancelAnswer, IsDay, IsHeld, IsMadeAnswer, holder_of, holders, is_within, made}
+use Rattle.calendar.specs.Bookings.{Answer, AreAnswers, AreFree, IsCancelAnswer, IsDay, IsHeld, IsMadeAnswer, holder_of, holders, is_within, made}
 use Rattle.std.specs.Range.{range_inclusive_end, range_inclusive_exhausted, range_inclusive_start}
 use Rattle.rangemap.specs.Ranges.{IsStorable}
 use Rattle.rangemap.proofs.NumberKinds.{NumberKind, closed_storable, closed_unsigned, unsigned}
@@ -74,13 +74,9 @@ answers_last f [] (a ∷ answers) call answer h last = absurd h
 answers_last f (c ∷ calls) [] call answer h last = absurd h
 answers_last f (c ∷ calls) (a ∷ answers) call answer h last = (h.0, answers_last (made f c a) calls answers call answer h.1 last)
 
--- ---- refusals for want of memory
+-- ---- a cancellation that is refused for want of memory
 
 module _ (f : ℕ → Option ℕ) (first last : ℕ) (forward : first ≤ last) where
-  pub book_refused : (answer : Answer) → AreFree f first last → IsErr answer × IsErrAnd answer (λ e. e ≡ OutOfMemory) → IsBookAnswer f first last answer
-  book_refused (Ok u) free h = absurd (true≢false (sym h.0))
-  book_refused (Err e) free h = subst (λ x. IsBookAnswer f first last (Err x)) (sym h.1) (forward, free)
-
   pub cancel_refused : (answer : Answer) → IsHeld f first last → IsErr answer × IsErrAnd answer (λ e. e ≡ OutOfMemory) → IsCancelAnswer f first last answer
   cancel_refused (Ok u) held h = absurd (true≢false (sym h.0))
   cancel_refused (Err e) held h = subst (λ x. IsCancelAnswer f first last (Err x)) (sym h.1) (forward, held)

@@ -1,7 +1,8 @@
 -- What a calendar of reservations holds, and what its calls answer.
-use Rattle.std.specs.Prelude.{◌≡◌, ◌≢◌, ℕ, ◌<◌, ◌≤◌, ◌^◌, ◌&&◌, nat_le, if◌then◌else◌, Bool, List, [], ◌∷◌, ⊤, Option, Some, None, Result, Ok, Err}
+use Rattle.std.specs.Prelude.{◌≡◌, ◌≢◌, ℕ, ◌<◌, ◌≤◌, ◌^◌, ◌&&◌, nat_le, if◌then◌else◌, Bool, false, List, [], ◌∷◌, ⊤, Option, Some, None, Result, Ok, Err}
 use Rattle.std.specs.Ordering.{nat_cmp}
 use Rattle.std.specs.declared.ops.RangeInclusive.{RangeInclusive}
+use Rattle.std.specs.Range.{range_inclusive_end, range_inclusive_exhausted, range_inclusive_start}
 use Rattle.rangemap.specs.Ranges.{RangeKind, closed, value_at}
 use Rattle.calendar.specs.declared.BookError.{BookError}
 use Rattle.calendar.specs.declared.BookError.TheVariants.{Empty, Taken, OutOfMemory}
@@ -23,6 +24,10 @@ Answer = Result (Unit {0}) BookError
 -- the day lies from the first to the last
 abbrev pub is_within : ℕ → ℕ → ℕ → Bool
 is_within first last day = nat_le first day && nat_le day last
+
+-- the range has a day: its first does not come after its last, and it was not iterated to its end
+abbrev pub HasDay : RangeInclusive ℕ → Type 0
+HasDay range = (range_inclusive_start range ≤ range_inclusive_end range) × (range_inclusive_exhausted range ≡ false)
 
 -- who holds a day, by the stored ranges
 abbrev pub holder_of : List (RangeInclusive ℕ × ℕ) → ℕ → Option ℕ
@@ -55,6 +60,13 @@ IsBookAnswer f first last (Ok _) = (first ≤ last) × AreFree f first last
 IsBookAnswer f first last (Err Empty) = last < first
 IsBookAnswer f first last (Err Taken) = (first ≤ last) × IsHeld f first last
 IsBookAnswer f first last (Err OutOfMemory) = (first ≤ last) × AreFree f first last
+
+-- the same of a booking whose days come as a range
+abbrev pub IsDaysAnswer : (ℕ → Option ℕ) → RangeInclusive ℕ → Answer → Type 0
+IsDaysAnswer f range (Ok _) = HasDay range × AreFree f (range_inclusive_start range) (range_inclusive_end range)
+IsDaysAnswer f range (Err Empty) = ¬ HasDay range
+IsDaysAnswer f range (Err Taken) = HasDay range × IsHeld f (range_inclusive_start range) (range_inclusive_end range)
+IsDaysAnswer f range (Err OutOfMemory) = HasDay range × AreFree f (range_inclusive_start range) (range_inclusive_end range)
 
 -- the answer to a cancellation, which is refused for want of memory only where a day is held
 abbrev pub IsCancelAnswer : (ℕ → Option ℕ) → ℕ → ℕ → Answer → Type 0

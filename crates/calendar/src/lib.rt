@@ -7,14 +7,15 @@
 ghost use Rattle.std.specs.Prelude.{◌≡◌, ◌≤◌, [], OnErr, OnOk, map, nat_eq};
 ghost use Rattle.std.specs.Bool.{OnFalse, OnTrue};
 ghost use Rattle.rangemap.specs.Ranges.{AreGaps, IsCanonOf, IsCanonical};
-ghost use Rattle.calendar.specs.Bookings.{AreFree, IsBookAnswer, IsCancelAnswer, IsHeld, booked, cancelled, days as day_ranges, holder_of};
+ghost use Rattle.std.specs.Range.{range_inclusive_end, range_inclusive_start};
+ghost use Rattle.calendar.specs.Bookings.{AreFree, HasDay, IsBookAnswer, IsCancelAnswer, IsDaysAnswer, IsHeld, booked, cancelled, days as day_ranges, holder_of};
 
 mod history;
 
 pub use history::{Call, replay};
-use rangemap::RangeInclusiveMap;
 use rangemap::container::Container;
 use rangemap::inclusive_map::{Gaps, Iter};
+use rangemap::{RangeInclusiveMap, StepLite};
 use std::alloc::{AllocError, Allocator};
 use std::marker::Model;
 use std::ops::RangeInclusive;
@@ -43,8 +44,9 @@ impl From<AllocError> for BookError {
 
 /// Which guest holds which day.
 ///
-/// Where n stretches of days are held, `book`, `cancel` and `holder` take *O*(log *n*) and, of the
-/// first two, a move of what lies behind the days; `free` and `iter` take that of the map's calls.
+/// Where n stretches of days are held, `book`, `book_days`, `cancel` and `holder` take *O*(log *n*)
+/// and, of all but the last, a move of what lies behind the days; `free` and `iter` take that of the
+/// map's calls.
 #[derive(Drop)]
 pub struct Calendar<A: Allocator> {
     days: RangeInclusiveMap<u32, u32, u32, A>,
@@ -81,24 +83,41 @@ impl<A: Allocator> Calendar<A> {
         ensures ok { OnOk result (IsCanonOf day_ranges nat_eq (booked first last guest (holder_of self.old)) self.new) }
         ensures err { OnErr result (self.new ≡ self.old) }
     {
-        if first > last {
+        self.book_days(first..=last, guest)
+    }
+
+    /// Gives the days of a range that comes whole to the guest, as `book` does.
+    ///
+    /// # Errors
+    ///
+    /// Those of `book`. A range that was iterated to its end has no day, whatever its ends say, and
+    /// is refused as empty; of one that was iterated in part the days that are left are booked.
+    pub fn book_days(&mut self, days: RangeInclusive<u32>, guest: u32) -> Result<(), BookError>
+        ensures answer { IsDaysAnswer (holder_of self.old) days result }
+        ensures ok { OnOk result (IsCanonOf day_ranges nat_eq (booked (range_inclusive_start days) (range_inclusive_end days) guest (holder_of self.old)) self.new) }
+        ensures err { OnErr result (self.new ≡ self.old) }
+    {
+        // This sees more than the ends do: an iteration moves the start up to the end, and not past
+        // it.
+        if days.is_empty() {
             return Err(BookError::Empty);
         }
-        if self.is_held(first, last) {
+        if self.is_held(&days) {
             return Err(BookError::Taken);
         }
-        self.days.insert(first..=last, guest)?;
+        self.days.insert(days, guest)?;
         Ok(())
     }
 
     /// Whether someone holds one of the days.
-    fn is_held(&self, first: u32, last: u32) -> bool
-        requires { first ≤ last }
-        ensures held { OnTrue result (IsHeld (holder_of self.now) first last) }
-        ensures free { OnFalse result (AreFree (holder_of self.now) first last) }
+    fn is_held(&self, days: &RangeInclusive<u32>) -> bool
+        requires { HasDay days.now }
+        ensures held { OnTrue result (IsHeld (holder_of self.now) (range_inclusive_start days.now) (range_inclusive_end days.now)) }
+        ensures free { OnFalse result (AreFree (holder_of self.now) (range_inclusive_start days.now) (range_inclusive_end days.now)) }
     {
         self.days.known();
-        self.days.overlaps(&(first..=last))
+        days.end().known();
+        self.days.overlaps(days)
     }
 
     /// Frees the days from `first` to `last`, whoever holds them.

@@ -37,6 +37,27 @@ fn a_day_has_a_holder_or_is_free(rt: HostRuntime) -> Result<(), Fail> {
 }
 
 #[test]
+fn days_come_as_a_range(rt: HostRuntime) -> Result<(), Fail> {
+    let mut calendar = Calendar::new(rt.alloc());
+    let mut days = 3..=6;
+    assert_eq!(rt; days.next(), Some(3));
+    assert_eq!(rt; calendar.book_days(days, 1), Ok(()));
+    assert_held(&rt, &calendar, &[(4, 6, 1)])?;
+    assert_eq!(rt; calendar.book_days(0..=4, 2), Err(BookError::Taken));
+    // Nobody holds the day, and both ends are 8.
+    let mut days = 8..=8;
+    assert_eq!(rt; days.next(), Some(8));
+    assert_eq!(rt; calendar.book_days(days, 2), Err(BookError::Empty));
+    let mut days = 5..=6;
+    assert_eq!(rt; days.next(), Some(5));
+    assert_eq!(rt; days.next_back(), Some(6));
+    assert_eq!(rt; calendar.book_days(days, 2), Err(BookError::Empty));
+    assert_eq!(rt; calendar.book_days(9..=8, 2), Err(BookError::Empty));
+    assert_held(&rt, &calendar, &[(4, 6, 1)])?;
+    Ok(())
+}
+
+#[test]
 fn calls_are_replayed(rt: HostRuntime) -> Result<(), Fail> {
     let mut calendar = Calendar::new(rt.alloc());
     let calls = [

@@ -45,6 +45,8 @@ fn a_line_may_be_at_fault(rt: HostRuntime) -> Result<(), AllocError> {
             ("iter\ninsert 5 6 a\niter\n", "{}\n", 2, 2),
             ("\n", "", 2, 1),
             ("iter\n\niter\n", "{}\n", 2, 2),
+            ("free\t1\t2\n", "", 2, 1),
+            ("iter\u{b}iter\n", "", 2, 1),
             ("iter\nfree 1 4294967296\niter\n", "{}\n", 3, 2),
             // Days that are held make no difference.
             ("book 10 20 1\nbook 12 11 7\n", "", 4, 2),

@@ -49,6 +49,14 @@ fn a_fault_is_told_with_its_line(rt: HostRuntime) -> Result<(), AllocError> {
             ("insert 1", "", 2, 1),
             ("insert 1 2 a ", "", 2, 1),
             ("insert 1 2 a b c d", "", 2, 1),
+            // what looks like a space or a newline is neither
+            ("get\t1\n", "", 2, 1),
+            ("remove\t1\t2\n", "", 2, 1),
+            ("remove 1\t2\n", "", 2, 1),
+            ("len\u{b}len\n", "", 2, 1),
+            ("len\u{c}len\n", "", 2, 1),
+            ("len\rlen\n", "", 2, 1),
+            ("len\nlen\u{b}\n", "0\n", 2, 2),
             // numbers
             ("get +5", "", 3, 1),
             ("get -5", "", 3, 1),
