@@ -4,7 +4,7 @@ use Rattle.std.specs.Bool.{⊤}
 use Rattle.std.specs.Hash.{HashWrites}
 use Rattle.std.specs.declared.cmp.Ordering.TheVariants.{Equal}
 use Rattle.rangemap_core.specs.Ranges.{RangeKind, IsCanonOf, IsCanonical, IsCanonOfPoints, covering, covers, erase, overlapped, override, same_pairs, same_ranges, unit_eq, value_at, with_unit}
-use Rattle.rangemap_core.specs.Appends.{Appends, AppendsGaps}
+use Rattle.rangemap_core.specs.Appends.{Appends}
 use Rattle.rangemap_core.specs.Hashes.{pairs_fed, ranges_fed}
 use Rattle.rangemap_core.specs.ListOrder.{pairs_cmp, ranges_cmp}
 use Rattle.rangemap_core.proofs.UnitLemmas.{units_cmp, units_fed, units_same}
@@ -78,6 +78,3 @@ module _ {K X : Type 0} (k : RangeKind K X) (ps : List (X × ⊤)) (list : List 
 
   pub overlapped_with_unit : (q : X) (old new : List (X × ⊤)) → Appends k (unit_eq k) (overlapped k ps q) old new → Appends k (unit_eq k) (overlapped k (with_unit k list) q) old new
   overlapped_with_unit q old new = subst (λ qs. Appends k (unit_eq k) (overlapped k qs q) old new) pairs_are
-
-  pub gaps_with_unit : (q : X) (old new : List X) → AppendsGaps k (ranges ps) q old new → AppendsGaps k (ranges (with_unit k list)) q old new
-  gaps_with_unit q old new = subst (λ qs. AppendsGaps k (ranges qs) q old new) pairs_are

@@ -38,9 +38,16 @@ pub type Overlapping<'a, T> = overlapping::Overlapping<'a, RangeInclusive<T>>;
 pub type Gaps<'a, T, StepFnsT> = inclusive_map::Gaps<'a, T, (), StepFnsT>;
 
 /// The ranges of two sets, joined where they overlap, in order.
+///
+/// `Union::new` knows no steps, and takes every value of the type for a key: by the steps of a set
+/// its items are told by the set's `union`, and by `laws::sets::closed_operations`.
 pub type Union<'a, T> = operations::union::Union<'a, RangeInclusive<T>>;
 
 /// The parts that two sets have in common, in order.
+///
+/// `Intersection::new` knows no steps, and takes every value of the type for a key: by the steps of
+/// a set its items are told by the set's `intersection`, by `&`, and by
+/// `laws::sets::closed_operations`.
 pub type Intersection<'a, T> = operations::intersection::Intersection<'a, RangeInclusive<T>>;
 
 /// A call that makes a set or changes the one at a place of a list.

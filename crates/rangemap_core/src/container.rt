@@ -1,7 +1,7 @@
 //! What every container of the library does, for code that is written once for all of them.
 //!
 //! A container says what it is (its keys, its ranges, their kind, its values, its allocator) and
-//! makes its own public calls. Contracts see it as the list of its pairs, in the words of
+//! makes its public calls. Contracts see it as the list of its pairs, in the words of
 //! `specs/Ranges.antt`; of a set the values are `()`. The JSON form, the laws, the replays, the
 //! program and the tests ask for no more.
 //!
@@ -27,8 +27,10 @@ pub use inserts::insert_pairs;
 
 /// A container of disjoint ranges to values, two of which are equal where their pairs are.
 ///
-/// Each method is the container's own public call, at its cost. Code that is generic over
-/// containers, as the replay and the laws, is so proved of the calls that users make.
+/// A method that bears the name of a public call makes that call, at its cost; of sets those that
+/// speak of values or pairs make `contains`, `get`, `first` and `last`. So code that is generic over
+/// containers, as the replay and the laws, is proved of the calls that users make. The appends give
+/// clones of what `iter`, `overlapping` and `gaps` lend or make.
 pub trait Container: PartialEq + Drop {
     /// What the ranges are over.
     type Key: Ord + Clone;

@@ -1,9 +1,10 @@
 //! What a map does with its list of pairs of a range and a value, for any kind of range.
 //!
 //! The pairs stand in one vector, in order, and the map keeps it canonical: no range shares a key
-//! with another, and no two that touch have equal values. Whatever looks for a key or for a place
-//! to change goes by `search`, which halves and sees stored starts alone; whether the range that it
-//! finds has the key is told by that range's end. A change makes every clone and all room that it
+//! with another, and no two that touch have equal values. Whatever looks for a key, for where a
+//! query begins or for a place to change goes by `search`, which halves and sees stored starts alone;
+//! whether the range that it finds has the key is told by that range's end. Only where a query ends
+//! is searched for over whole pairs (`overlapping`). A change makes every clone and all room that it
 //! needs before it touches the list, so that one that is refused leaves all as it was.
 ghost use Rattle.std.specs.Prelude.{◌≡◌, ◌*◌, ◌^◌, ◌<◌, ◌≤◌, length};
 ghost use Rattle.std.specs.Option.{option_copied};

@@ -1,4 +1,8 @@
 //! The pairs that overlap a range: for queries an iterator over them, for changes their places.
+//!
+//! Where they begin, and where those of a change end, is searched for among the starts, as a lookup
+//! does. Where those of a query end is searched for over whole pairs, by std's `partition_point`: the
+//! iterator knows how its ranges are read, and no kind of range that the search asks for.
 ghost use Rattle.std.specs.Prelude.{◌≡◌, ◌<◌, ◌≤◌, ◌∷◌, [], IfSome, MatchOption, None as NoneWord, true, false, length, nat_lt, take_while};
 ghost use Rattle.std.specs.List.{AllWithin};
 ghost use Rattle.std.specs.List.Sorted.{IsPartitionedBy};
@@ -151,7 +155,8 @@ pub fn overlapped<'a, Q: Kind<K, R>, K: Ord + Clone, R, V: Eq>(
     take_begun::<Q, K, R, V>(overlapping_tail::<Q, K, R, V>(pairs, query), query)
 }
 
-// The pairs that start before the query ends, where these come first: by a search.
+// The pairs that start before the query ends, where these come first: by std's search, which sees
+// whole pairs.
 fn take_begun<'a, I: Interval<K, R>, K: Ord + Clone, R, V>(
     pairs: &'a [(R, V)],
     query: &R,

@@ -1,7 +1,12 @@
-//! The set as one of the library's containers: each method is the set's own call.
+//! The set as one of the library's containers.
+//!
+//! What a map tells of values and pairs is made of `get`, `contains`, `first` and `last`; the appends
+//! of pairs are those of the map inside; `extend` and `from_iter` take pairs, and insert them one
+//! after another. All other methods are the set's own calls, and `append_gaps` appends what its
+//! `gaps` yields.
 
 use super::Set;
-use rangemap_core::container::{Collect, Container, TryClone, insert_pairs};
+use rangemap_core::container::{Collect, Container, TryClone, append_gaps, insert_pairs};
 use rangemap_maps::kinds::OwnSteps;
 use rangemap_maps::range_map::Map;
 use rangemap_operations::combine::Combine;
@@ -111,7 +116,7 @@ impl<Q: SetKind<T, R>, T: Ord + Clone, R: SetRange<Key = T>, A: Allocator> Conta
         outer_range: &R,
         out: &mut Vec<R, B>,
     ) -> Result<(), AllocError> {
-        self.pairs.append_gaps(outer_range, out)
+        append_gaps(self.gaps(outer_range), out)
     }
 }
 

@@ -1,4 +1,5 @@
-//! The map as one of the library's containers: each method is the map's own call.
+//! The map as one of the library's containers: each method but `known` and the appends is the map's
+//! own call.
 
 use super::Map;
 use crate::kinds::{OwnSteps, Stored};

@@ -52,6 +52,11 @@ impl<R: SetRange> Operation<R> for Intersect {
 
 impl<'a, R: SetRange> Combined<'a, Intersect, R> {
     /// Returns the intersection of what is left in two iterators.
+    ///
+    /// Of closed ranges the clause takes every value of the key type for a key, since the iterators
+    /// know nothing of steps: of `char` U+D7FF and U+E000 do not touch here, so a list that is
+    /// canonical by it need not be so for a set. By the steps of a set it is said by the set's own
+    /// `intersection` and `&`, and of these items by the law `closed_operations`.
     pub fn new(left: Iter<'a, R>, right: Iter<'a, R>) -> Self
         ensures items { result ≡ intersection_items R.places left.entry right.entry }
         ensures common { AreCommon R.Kind.kind left.entry right.entry result }

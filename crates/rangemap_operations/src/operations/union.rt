@@ -110,6 +110,10 @@ impl<R: SetRange> Operation<R> for Unite {
 
 impl<'a, R: SetRange> Combined<'a, Unite, R> {
     /// Returns the union of what is left in two iterators.
+    ///
+    /// Of closed ranges the clauses take every value of the key type for a key, since the iterators
+    /// know nothing of steps. By the steps of a set it is said by the set's own `union`, and of these
+    /// items by the law `closed_operations`.
     pub fn new(left: Iter<'a, R>, right: Iter<'a, R>) -> Self
         ensures items { result ≡ union_items R.places left.entry right.entry }
         ensures hulls { AreHulls R.Kind.kind (left.entry ++ right.entry) result }

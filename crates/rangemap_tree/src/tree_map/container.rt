@@ -1,4 +1,5 @@
-//! The map in a tree as one of the library's containers: each method is the map's own call.
+//! The map in a tree as one of the library's containers: each method but `known` and the appends is
+//! the map's own call.
 //!
 //! The two appends have a loop each: the call of one that is generic over iterators takes more than
 //! both to prove.
