@@ -7,8 +7,9 @@ use rows::{Costly, MANY};
 use std::test::Fail;
 
 // The first growth takes a request, a clone of the stored end of each piece that stays another,
-// and so do both ends of a range that is joined; a clone of a map its list, and six keys. The start
-// of a gap is cloned, and its end comes of a step. An append takes a clone of either end of each
+// and so do both ends of a range that is joined, on whichever side what it joins lies; one that joins
+// nothing is moved. A removal that meets nothing takes nothing, nor does a clone of an empty map; one
+// of another map takes its list, and six keys. The start of a gap is cloned, and its end comes of a step. An append takes a clone of either end of each
 // pair; there is room for four.
 #[test]
 fn each_request_may_be_refused(rt: HostRuntime) -> Result<(), Fail> {
@@ -17,10 +18,16 @@ fn each_request_may_be_refused(rt: HostRuntime) -> Result<(), Fail> {
         &heap,
         "| insert 0..=255 a | 0..=255 a | 1
         0..=4 a | insert 5..=9 a | 0..=9 a | 2
+        5..=9 a | insert 0..=4 a | 0..=9 a | 2
+        0..=4 a, 10..=14 a | insert 5..=9 a | 0..=14 a | 2
+        0..=4 a | insert 6..=9 a | 0..=4 a, 6..=9 a | 0
+        0..=9 a | insert 3..=5 a | 0..=9 a | 2
         0..=9 a | insert 3..=5 b | 0..=2 a, 3..=5 b, 6..=9 a | 2
         0..=127 a, 128..=255 b | insert 128..=255 a | 0..=255 a | 2
         0..=9 a | remove 3..=5 | 0..=2 a, 6..=9 a | 2
         0..=9 a | remove 10..=255 | 0..=9 a | 0
+        | remove 0..=5 | | 0
+        | clone | | 0
         0..=2 a, 3..=5 b, 6..=9 a | clone | 0..=2 a, 3..=5 b, 6..=9 a | 7
         10..=249 a | gaps 0..=255 | 0..=9, 250..=255 | 1
         0..=9 a + 3..=5 b | extend | ; 0..=9 a; 0..=9 a; 0..=2 a, 3..=5 b, 6..=9 a | 3

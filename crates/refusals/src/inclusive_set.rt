@@ -7,8 +7,9 @@ use rows::{Costly, MANY};
 use std::test::Fail;
 
 // The first growth takes a request, a clone of the stored end of each piece that stays another,
-// and so do both ends of a range that is joined; a clone of a set its list, and four keys. The
-// start of a gap is cloned, and its end comes of a step.
+// and so do both ends of a range that is joined, on whichever side what it joins lies; one that joins
+// nothing is moved. A removal that meets nothing takes nothing, nor does a clone of an empty set; one
+// of another set takes its list, and four keys. The start of a gap is cloned, and its end comes of a step.
 //
 // Of an item of two sets both ends are cloned; a set asks for the list too, and for two items. Of an
 // `extend` the first range takes a list, and each other is joined with what is stored.
@@ -19,8 +20,14 @@ fn each_request_may_be_refused(rt: HostRuntime) -> Result<(), Fail> {
         &heap,
         "| insert 0..=255 | 0..=255 | 1
         0..=4 | insert 5..=9 | 0..=9 | 2
+        5..=9 | insert 0..=4 | 0..=9 | 2
+        0..=4, 10..=14 | insert 5..=9 | 0..=14 | 2
+        0..=4 | insert 6..=9 | 0..=4, 6..=9 | 0
+        0..=9 | insert 3..=5 | 0..=9 | 2
         0..=9 | remove 3..=5 | 0..=2, 6..=9 | 2
         0..=9 | remove 10..=255 | 0..=9 | 0
+        | remove 0..=5 | | 0
+        | clone | | 0
         0..=4, 9..=255 | clone | 0..=4, 9..=255 | 5
         10..=249 | gaps 0..=255 | 0..=9, 250..=255 | 1
         0..=4, 9..=12 | union 4..=7, 11..=255 | 0..=7, 9..=255 | 2

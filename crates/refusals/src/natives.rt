@@ -6,14 +6,17 @@ mod json;
 mod macros;
 mod steps;
 
+use rangemap_core::half_open::HalfOpen;
+use rangemap_maps::closed::Closed;
 use rows::{Heap, SignedSteps};
 use std::alloc::Global;
+use std::ops::{Range, RangeInclusive};
 use std::test::Fail;
 use trials::{Answer, Row, Tried};
 
-/// These calls. A row has what the call is given (the calls of a replay, two items, the form that is
-/// read, or what is read), its name, what comes of it (how many containers a replay leaves or ranges
-/// are read, or what is made), and the number of requests.
+/// These calls. A row has what the call is given (the calls of a replay, two items, or the form in
+/// which a value is read, and the value), its name, what comes of it (how many containers a replay
+/// leaves, or what is made), and the number of requests.
 pub struct Natives;
 
 impl Tried for Natives {
@@ -33,7 +36,14 @@ impl Tried for Natives {
             "set from" => arrays::try_set(heap, row, left),
             "inclusive set from" => arrays::try_inclusive_set(heap, row, left),
             "macros" => macros::try_lists(heap, left),
-            "read" => json::try_reading(heap, alloc, row, left),
+            "read map" => json::try_map::<HalfOpen, Range<u32>>(heap, alloc, row, left),
+            "read inclusive map" => {
+                json::try_map::<Closed<u32>, RangeInclusive<u32>>(heap, alloc, row, left)
+            }
+            "read set" => json::try_set::<HalfOpen, Range<u32>>(heap, alloc, row, left),
+            "read inclusive set" => {
+                json::try_set::<Closed<u32>, RangeInclusive<u32>>(heap, alloc, row, left)
+            }
             "read costly parts" => json::try_costly(heap, alloc, row, left),
             _ => Err(Fail::new("a row has a call of another name")),
         }

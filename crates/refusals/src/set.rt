@@ -7,7 +7,9 @@ use rows::{Costly, MANY, Text};
 use std::test::Fail;
 
 // The first growth takes a request, and a clone of either end of each piece that stays and of a
-// joined range another; a clone of a set its list, and four keys.
+// joined range another, on whichever side what it joins lies; a range that joins nothing is moved. A
+// removal that meets nothing takes nothing, nor does a clone of an empty set; one of another set
+// takes its list, and four keys.
 //
 // Of an item of two sets both ends are cloned; a set asks for the list too, and for two items. Of an
 // `extend` the first range takes a list, and each other is joined with what is stored, which clones
@@ -19,8 +21,14 @@ fn each_request_may_be_refused(rt: HostRuntime) -> Result<(), Fail> {
         &heap,
         "| insert 0..10 | 0..10 | 1
         0..5 | insert 5..10 | 0..10 | 2
+        5..10 | insert 0..5 | 0..10 | 2
+        0..5, 10..15 | insert 5..10 | 0..15 | 2
+        0..5 | insert 6..9 | 0..5, 6..9 | 0
+        0..10 | insert 3..6 | 0..10 | 2
         0..10 | remove 2..5 | 0..2, 5..10 | 4
         0..10 | remove 12..15 | 0..10 | 0
+        | remove 0..5 | | 0
+        | clone | | 0
         0..2, 5..10 | clone | 0..2, 5..10 | 5
         0..3, 7..10 | union 2..5, 9..13 | 0..5, 7..13 | 2
         0..3, 7..10 | intersection 2..5, 9..13 | 2..3, 9..10 | 2

@@ -1,2 +1,3 @@
 -- Lemmas of the rows.
 pub mod OneMore
+pub mod NoCommonKey

@@ -65,6 +65,17 @@ where
     requires faithful_values { ValuesCloneFaithfully M.Value.is_clone M.Value.eq }
 {
     let mut map = M::empty(alloc);
+    insert_all(&mut map, alloc, pairs)?;
+    Ok(map)
+}
+
+/// Inserts the pairs of a list.
+pub(crate) fn insert_all<M: InRows>(map: &mut M, alloc: M::Alloc, pairs: &str) -> Result<(), Fail>
+where
+    M::Alloc: Copy,
+    requires faithful_keys { KeysCloneFaithfully M.Key.is_clone M.Key.cmp }
+    requires faithful_values { ValuesCloneFaithfully M.Value.is_clone M.Value.eq }
+{
     for pair in pairs.split(", ") {
         if !pair.is_empty() {
             let (range, value) = first_word(pair);
@@ -72,7 +83,7 @@ where
             map.insert(range, M::value(alloc, value)?)?;
         }
     }
-    Ok(map)
+    Ok(())
 }
 
 /// Makes a container of the pairs of each list.

@@ -1,7 +1,6 @@
 //! What rows ask of a container: to make what a text names, and to compare with it.
 ghost use Rattle.std.specs.Prelude.{IfOk};
 
-use crate::lists::ends;
 use crate::words::Word;
 use rangemap::range_set::Set;
 use rangemap::tree_map;
@@ -14,6 +13,9 @@ use readers::Told;
 use std::alloc::Allocator;
 use std::ops::{Range, RangeInclusive};
 use std::test::Fail;
+
+/// Why a text names no range of a container.
+const OTHER_KIND: &str = "a range of a row is of the other kind";
 
 /// A container that rows speak of.
 ///
@@ -44,17 +46,33 @@ pub trait InRows: Told {
 pub trait FromEnds<K>: Drop {
     /// Makes the range from a start to an end.
     fn from_ends(start: K, end: K) -> Self;
+
+    /// The words between which a text has a range, unless it is one of the other kind.
+    fn ends(text: &str) -> Option<(&str, &str)>;
 }
 
 impl<K: Drop> FromEnds<K> for Range<K> {
     fn from_ends(start: K, end: K) -> Self {
         start..end
     }
+
+    fn ends(text: &str) -> Option<(&str, &str)> {
+        let (start, end) = text.split_once("..")?;
+        if end.starts_with('=') {
+            None
+        } else {
+            Some((start, end))
+        }
+    }
 }
 
 impl<K: Drop> FromEnds<K> for RangeInclusive<K> {
     fn from_ends(start: K, end: K) -> Self {
         start..=end
+    }
+
+    fn ends(text: &str) -> Option<(&str, &str)> {
+        text.split_once("..=")
     }
 }
 
@@ -149,26 +167,31 @@ impl<
 }
 
 /// Makes the range of a kind that a text names, which has to hold a key.
-fn read_range<Q: Kind<K, R>, K: Ord + Clone + Word<A>, R: Drop, A: Copy>(
+fn read_range<Q: Kind<K, R>, K: Ord + Clone + Word<A>, R: FromEnds<K>, A: Copy>(
     alloc: A,
     text: &str,
 ) -> Result<R, Fail>
     ensures { IfOk result (λ range. Q.kind.IsNonEmpty range) }
 {
-    let (start, end) = ends(text);
+    let (start, end) = R::ends(text).ok_or(OTHER_KIND)?;
     let (start, end) = (K::read(alloc, start)?, K::read(alloc, end)?);
     Ok(Q::between(start, end).ok_or("a range of a row is empty")?)
 }
 
 /// Makes the range that a query names.
 fn read_query<K: Word<A> + Drop, R: FromEnds<K>, A: Copy>(alloc: A, text: &str) -> Result<R, Fail> {
-    let (start, end) = ends(text);
+    let (start, end) = R::ends(text).ok_or(OTHER_KIND)?;
     let start = K::read(alloc, start)?;
     Ok(R::from_ends(start, K::read(alloc, end)?))
 }
 
 /// Whether a range of a kind is the one that a text names.
-fn is_range<Q: Kind<K, R>, K: Ord + Clone + Word<A>, R, A: Drop>(range: &R, text: &str) -> bool {
-    let (start, end) = ends(text);
-    Q::start(range).is(start) && Q::end(range).is(end)
+fn is_range<Q: Kind<K, R>, K: Ord + Clone + Word<A>, R: FromEnds<K>, A: Drop>(
+    range: &R,
+    text: &str,
+) -> bool {
+    match R::ends(text) {
+        Some((start, end)) => Q::start(range).is(start) && Q::end(range).is(end),
+        None => false,
+    }
 }

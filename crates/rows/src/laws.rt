@@ -2,9 +2,10 @@
 ghost use Rattle.std.specs.Prelude.{IfOk};
 ghost use Rattle.rangemap.specs.Clones.{KeysCloneFaithfully, ValuesCloneFaithfully};
 
-use crate::compared::{are_ranges, holds};
+use crate::compared::{are_ranges, has_gaps, holds};
 use crate::in_rows::InRows;
 use crate::lists::first_word;
+use rangemap_core::kind::Interval;
 use rangemap_laws::laws;
 use std::test::Fail;
 
@@ -26,6 +27,7 @@ where
         "insert" => keeps_insert(alloc, one, operand, outcome),
         "remove" => keeps_remove(alloc, one, operand, outcome),
         "parted" => is_parted(alloc, &one, operand, outcome),
+        "commute" => commute(alloc, one, other, operand, outcome),
         "alike" | "twice" | "back" => are_alike(alloc, one, other, law, outcome),
         _ => Err(Fail::new(format_args!("no law is called {name}"))),
     }
@@ -75,7 +77,7 @@ where
     Ok(holds(&map, pairs)?)
 }
 
-/// Gaps and covered keys make up a range.
+/// Gaps and covered keys make up a range, and the gaps are those that the container itself gives.
 fn is_parted<M: InRows>(
     alloc: M::Alloc,
     map: &M,
@@ -89,12 +91,45 @@ where
 {
     let outer_range = M::query(alloc, outer_range)?;
     let found = laws::gaps_and_covered_keys_make_up_a_range(alloc, map, &outer_range)?;
-    Ok(are_ranges::<M>(found.as_slice(), gaps))
+    Ok(are_ranges::<M>(found.as_slice(), gaps) && has_gaps(map, &outer_range, gaps)?)
 }
 
-/// Equal maps are alike, and are no more after one more insert into one of them. An insert into both
-/// leaves the pairs, made once or `twice`; so does a remove from both, whether or not its range was
-/// inserted before and is `back` out.
+/// Two inserts leave the pairs, in either order. The range of the first ends before that of the
+/// second starts, so that they have no key in common.
+#[tactic(auto, using(crate::proofs::NoCommonKey::no_common_key))]
+fn commute<M: InRows>(
+    alloc: M::Alloc,
+    mut forth: M,
+    mut back: M,
+    inserted: &str,
+    pairs: &str,
+) -> Result<bool, Fail>
+where
+    M::Alloc: Copy,
+    requires faithful_keys { KeysCloneFaithfully M.Key.is_clone M.Key.cmp }
+    requires faithful_values { ValuesCloneFaithfully M.Value.is_clone M.Value.eq }
+{
+    let (first, second) = inserted.split_once(" + ").ok_or("two inserts commute")?;
+    let first = pair_of::<M>(alloc, first)?;
+    let second = pair_of::<M>(alloc, second)?;
+    if M::Kind::reaches(&first.0, &second.0) {
+        return Err(Fail::new("inserts that commute have a key in common"));
+    }
+    if laws::equal_exactly_when_alike(&forth, &back) != (true, false) {
+        return Ok(false);
+    }
+    laws::inserts_commute(
+        &mut forth,
+        &mut back,
+        (&first.0, &first.1),
+        (&second.0, &second.1),
+    )?;
+    Ok(holds(&forth, pairs)? && holds(&back, pairs)?)
+}
+
+/// Equal maps are alike, and are no more after an insert into one of them, which leaves the pairs. An
+/// insert into both leaves them, made once or `twice`; so does a remove from both, whether or not its
+/// range was inserted before and is `back` out.
 fn are_alike<M: InRows>(
     alloc: M::Alloc,
     mut one: M,
@@ -117,7 +152,8 @@ where
         "back" => laws::remove_after_insert_equals_remove(&mut one, &mut other, &range, &value)?,
         _ => {
             other.insert(range, value)?;
-            return Ok(laws::equal_exactly_when_alike(&one, &other) == (false, true));
+            let compared = laws::equal_exactly_when_alike(&one, &other);
+            return Ok(compared == (false, true) && holds(&other, pairs)?);
         }
     }
     Ok(holds(&one, pairs)? && holds(&other, pairs)?)

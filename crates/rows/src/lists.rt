@@ -30,12 +30,6 @@ pub(crate) fn first_word(text: &str) -> (&str, &str) {
     text.split_once(' ').unwrap_or((text, ""))
 }
 
-/// The words between which a range goes. A closed one has `..=` between them.
-pub(crate) fn ends(range: &str) -> (&str, &str) {
-    let (start, end) = range.split_once("..").unwrap_or((range, ""));
-    (start, end.strip_prefix('=').unwrap_or(end))
-}
-
 /// The three parts of a row, of which the last may be empty.
 pub fn parts(row: &str) -> Result<(&str, &str, &str), Fail> {
     let (first, rest) = row.split_once(" | ").ok_or("a row has three parts")?;

@@ -3,11 +3,11 @@
 use crate::words::Word;
 use std::test::Fail;
 
-/// A letter with a note. The letter alone decides whether two are equal.
+/// A number with a note. The number alone decides whether two are equal.
 #[derive(Clone, Copy)]
 pub struct Noted {
     /// By which two are compared.
-    pub letter: char,
+    pub number: u32,
     /// What no comparison reads.
     pub note: char,
 }
@@ -17,32 +17,36 @@ impl PartialEq for Noted {
     ghost use Rattle.std.specs.Cmp.{on_per, nat_eq_equiv, partial_equiv_from_equiv};
     ghost use Rattle.std.specs.Ordering.{on};
 
-    ghost eq = { on (λ noted. noted.letter) nat_eq };
+    ghost eq = { on (λ noted. noted.number) nat_eq };
 
-    ghost laws = { on_per (λ noted. noted.letter) (partial_equiv_from_equiv nat_eq_equiv) };
+    ghost laws = { on_per (λ noted. noted.number) (partial_equiv_from_equiv nat_eq_equiv) };
 
     fn eq(&self, other: &Self) -> bool {
-        self.letter == other.letter
+        self.number == other.number
     }
 }
 
 impl Eq for Noted {
     ghost use Rattle.std.specs.Cmp.{on_equiv, nat_eq_equiv};
 
-    ghost laws = { on_equiv (λ noted. noted.letter) nat_eq_equiv };
+    ghost laws = { on_equiv (λ noted. noted.number) nat_eq_equiv };
 }
 
-/// A word is the letter, and behind it the note, if there is one, as in `a` and `ax`.
+/// A word has a slash between the number and the note, as in `1/x`.
 impl<A: Drop> Word<A> for Noted {
     fn read(_alloc: A, word: &str) -> Result<Self, Fail> {
-        let mut signs = word.chars();
-        let letter = signs.next().ok_or("a value has no letter")?;
-        let note = signs.next().unwrap_or(' ');
-        Ok(Noted { letter, note })
+        let (number, note) = word.split_once('/').ok_or("a value has two parts")?;
+        let number = number.parse()?;
+        let note = note.parse()?;
+        Ok(Noted { number, note })
     }
 
     fn is(&self, word: &str) -> bool {
-        let mut signs = word.chars();
-        signs.next() == Some(self.letter) && signs.next().unwrap_or(' ') == self.note
+        match word.split_once('/') {
+            Some((number, note)) => {
+                number.parse() == Ok(self.number) && note.parse() == Ok(self.note)
+            }
+            None => false,
+        }
     }
 }

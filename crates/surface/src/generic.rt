@@ -1,20 +1,64 @@
-//! Own modules: laws, replay, the run over both representations.
+//! What the library has of its own: laws, replays and their calls, runs of commands, and what code
+//! over any container names.
 
-use rangemap::tree_map::{Answer, Command, Container, run};
+use rangemap::tree_map::Container;
 use rangemap::{laws, map};
 use std::alloc::{AllocError, Allocator, Global};
 use std::ops::Range;
 
-// one function, under the name that each container's module gives it
+// the struct behind both sets, and what containers have in common
+pub use rangemap::container::{
+    Collect, Combine, Container as AnyContainer, TryClone, collect_gaps, insert_pairs, segments,
+};
+pub use rangemap::range_set::Set;
+
+// one function, under the name that each container's module gives it, and the calls that it makes
 pub use rangemap::inclusive_map::{
-    replay as replay_of_closed_maps, replay_with_step_fns as replay_of_maps_by_step_fns,
+    Call as CallOfClosedMaps, Change as ChangeOfClosedMaps, replay as replay_of_closed_maps,
+    replay_with_step_fns as replay_of_maps_by_step_fns,
 };
 pub use rangemap::inclusive_set::{
-    replay as replay_of_closed_sets, replay_with_step_fns as replay_of_sets_by_step_fns,
+    Call as CallOfClosedSets, Change as ChangeOfClosedSets, replay as replay_of_closed_sets,
+    replay_with_step_fns as replay_of_sets_by_step_fns,
 };
-pub use rangemap::map::replay as replay_of_maps;
-pub use rangemap::set::replay as replay_of_sets;
-pub use rangemap::tree_map::replay as replay_of_trees;
+pub use rangemap::map::{Call as CallOfMaps, Change as ChangeOfMaps, replay as replay_of_maps};
+pub use rangemap::set::{Call as CallOfSets, replay as replay_of_sets};
+pub use rangemap::tree_map::{
+    Answer, Call as CallOfTrees, Change as ChangeOfTrees, Command, Outcome,
+    replay as replay_of_trees, run,
+};
+
+// every law
+pub use rangemap::laws::comparisons::{equal_maps_hash_alike, equality_agrees_with_order};
+pub use rangemap::laws::definitions::{
+    canonical_rows, closed_query_rows, closed_rows, function_rows, gap_rows, json_form_rows,
+    json_reading_rows, order_rows, range_rows, set_rows, text_rows,
+};
+pub use rangemap::laws::iterators::{
+    StaysEndedAtBack, StaysEndedByTries, next_back_ends_both_ends, next_ends_both_ends,
+    next_ends_tries, next_stays_ended, try_next_ends_tries,
+};
+pub use rangemap::laws::overlaps::overlaps_exactly_where_covered;
+pub use rangemap::laws::round_trips::{
+    for_memory, from_iter_of_into_iter_is_equal, reading_what_was_written_is_equal,
+};
+pub use rangemap::laws::runs::accepted_runs_answer_alike;
+pub use rangemap::laws::set_round_trips::{
+    from_iter_of_into_iter_is_equal as from_iter_of_a_set_is_equal,
+    reading_what_was_written_is_equal as reading_a_written_set_is_equal,
+};
+pub use rangemap::laws::sets::{
+    Operator, Sides, absorbs, associates, closed_operations, commutes, distributes, is_idempotent,
+};
+pub use rangemap::laws::texts::{
+    ascii_text, closed_set_texts_are_joined, closed_texts_are_joined,
+    half_open_set_texts_are_joined, half_open_texts_are_joined, signed_text, unsigned_text,
+};
+pub use rangemap::laws::{
+    closed_lists_are_unique, equal_exactly_when_alike, gaps_and_covered_keys_make_up_a_range,
+    half_open_lists_are_unique, insert_changes_its_range_alone, insert_twice_equals_once,
+    inserts_commute, remove_after_insert_equals_remove, remove_changes_its_range_alone,
+};
 
 pub fn represented<M: Container<Key = u32, Range = Range<u32>, Value = char>>(
     map: &M,

@@ -40,7 +40,7 @@ where
 }
 
 /// Makes the call of a row. Once it has what it is to be given, the request that comes after `left`
-/// others is refused.
+/// others is refused; the call is refused if it makes that request, and only then.
 fn call_until<M: InRows>(
     heap: &Heap,
     alloc: M::Alloc,
@@ -61,6 +61,7 @@ where
         Change::Clone { .. } => is_made(map.clone(), row.2)?,
         Change::New | Change::Clear { .. } => return Err(Fail::new("a call takes no memory")),
     };
+    check_that(is_accepted != heap.has_refused(), row.1)?;
     heap.refuse_after(MANY);
     Ok(is_accepted)
 }

@@ -8,6 +8,7 @@ mod appends;
 mod calls;
 mod items;
 mod makers;
+mod owners;
 mod replays;
 mod row;
 mod runs;
@@ -17,6 +18,7 @@ mod tried;
 
 pub use calls::is_made;
 pub use makers::two_pairs;
+pub use owners::{Heaps, check_owners, check_set_owners};
 pub use replays::try_changes;
 pub use row::{Answer, Row};
 pub use same::check_that;

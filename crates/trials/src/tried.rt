@@ -56,13 +56,18 @@ fn check_line<M: Tried>(heap: &Heap, alloc: M::Alloc, line: &str) -> Result<(), 
     let row = read_row(line)?;
     for left in 0..=row.3 {
         let is_accepted = M::is_accepted(heap, alloc, &row, left)?;
-        check_turn(heap, line, is_accepted == (left == row.3))?;
+        let is_all = left == row.3;
+        check_turn(
+            heap,
+            line,
+            is_accepted == is_all && !(is_all && heap.has_refused()),
+        )?;
     }
     Ok(())
 }
 
-/// Shows that a call was accepted if all its requests were granted, and only then, and that no
-/// block stays held. Where it is not so, the line of the call is told.
+/// Shows that a call was accepted if all its requests were granted, and only then, that it made no
+/// other, and that no block stays held. Where it is not so, the line of the call is told.
 fn check_turn(heap: &Heap, line: &str, is_expected: bool) -> Result<(), Fail> {
     heap.refuse_after(MANY);
     check_that(is_expected && heap.held() == 0, line)

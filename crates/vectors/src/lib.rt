@@ -11,8 +11,6 @@ mod inclusive_map;
 #[cfg(test)]
 mod iterators;
 #[cfg(test)]
-mod laws;
-#[cfg(test)]
 mod map;
 #[cfg(test)]
 mod searches;

@@ -1,11 +1,9 @@
 //! Rows over half-open ranges, which a map in a sorted vector and one in a tree both pass.
 
-use crate::laws::{check_commute, check_commute_in_tree};
 use crate::tables::check_half_open;
 use rangemap::{RangeMap, tree_map};
-use rangemap_core::half_open::HalfOpen;
+use rows::Noted;
 use std::alloc::Global;
-use std::ops::Range;
 use std::test::Fail;
 
 mod collections;
@@ -18,16 +16,19 @@ pub type Map = RangeMap<u32, char, Global>;
 pub type TreeMap = tree_map::RangeMap<u32, char, Global>;
 
 // Inside a stored range, and its own value back; all of some pairs and parts of others; removals;
-// equality, which forgets the calls, and a clone; and values that are equal in part, of which the
-// newest stays.
+// and equality, which forgets the calls, and a clone.
 #[test]
 fn what_is_covered_is_replaced(rt: HostRuntime) -> Result<(), Fail> {
-    check_half_open(
+    check_half_open::<bool>(
         rt.alloc(),
         "
-        insert 0..10 f, insert 3..6 t | holds | 0..3 f, 3..6 t, 6..10 f
-        insert 0..10 f, insert 3..6 t, insert 3..6 f | holds | 0..10 f
-
+        insert 0..10 false, insert 3..6 true | holds | 0..3 false, 3..6 true, 6..10 false
+        insert 0..10 false, insert 3..6 true, insert 3..6 false | holds | 0..10 false
+        ",
+    )?;
+    check_half_open::<char>(
+        rt.alloc(),
+        "
         insert 0..2 a, insert 3..4 b, insert 5..6 c, insert 7..8 d, insert 9..12 e, insert 1..10 f | holds | 0..1 a, 1..10 f, 10..12 e
         insert 5..8 a, insert 2..5 b, insert 2..8 b | holds | 2..8 b
         insert 0..5 a, insert 5..9 b, insert 5..7 a | holds | 0..7 a, 7..9 b
@@ -46,9 +47,21 @@ fn what_is_covered_is_replaced(rt: HostRuntime) -> Result<(), Fail> {
         insert 0..10 a, insert 3..6 b, insert 3..6 a | equals 0..10 a | true
         insert 0..5 a | equals 0..6 a | false
         insert 0..10 a, insert 3..6 b | clone | 0..3 a, 3..6 b, 6..10 a
+        ",
+    )
+}
 
-        insert 0..4 ax, insert 4..8 ay | holds | 0..8 ay
-        insert 0..4 ax, insert 4..8 ay | at 0 | 0..8 ay
+// Joined to the left, to the right, on both sides, and within a range that has its value already.
+#[test]
+fn the_newest_of_equal_values_stays(rt: HostRuntime) -> Result<(), Fail> {
+    check_half_open::<Noted>(
+        rt.alloc(),
+        "
+        insert 0..4 1/x, insert 4..8 1/y | holds | 0..8 1/y
+        insert 0..4 1/x, insert 4..8 1/y | at 0 | 0..8 1/y
+        insert 4..8 1/x, insert 0..4 1/y | holds | 0..8 1/y
+        insert 0..8 1/x, insert 2..4 1/y | holds | 0..8 1/y
+        insert 0..2 1/x, insert 4..6 1/z, insert 2..4 1/y | holds | 0..6 1/y
         ",
     )
 }
@@ -56,7 +69,15 @@ fn what_is_covered_is_replaced(rt: HostRuntime) -> Result<(), Fail> {
 // A query may be empty, reversed or touch; gaps lie before, between and behind stored ranges.
 #[test]
 fn what_is_asked_is_answered(rt: HostRuntime) -> Result<(), Fail> {
-    check_half_open(
+    check_half_open::<bool>(
+        rt.alloc(),
+        "
+        new | at 5 |
+        new | holds |
+        new | gaps 0..3 | 0..3
+        ",
+    )?;
+    check_half_open::<char>(
         rt.alloc(),
         "
         remove 0..3 | at 5 |
@@ -77,7 +98,6 @@ fn what_is_asked_is_answered(rt: HostRuntime) -> Result<(), Fail> {
         insert 3..8 a | overlapping 8..0 |
         insert 0..2 a, insert 2..4 b, insert 8..9 c | overlapping 1..8 | 0..2 a, 2..4 b
 
-        new | gaps 0..3 | 0..3
         insert 0..2 a, insert 2..4 b | gaps 0..4 |
         insert 0..2 a, insert 2..4 b | gaps 1..6 | 4..6
         insert 1..3 a, insert 5..7 a | gaps 0..8 | 0..1, 3..5, 7..8
@@ -89,24 +109,16 @@ fn what_is_asked_is_answered(rt: HostRuntime) -> Result<(), Fail> {
 
 #[test]
 fn changes_and_gaps_keep_their_laws(rt: HostRuntime) -> Result<(), Fail> {
-    check_half_open(
+    check_half_open::<char>(
         rt.alloc(),
         "
-        insert 0..10 a, insert 3..6 b | law alike 3..5 a |
+        insert 0..10 a, insert 3..6 b | law alike 3..5 a | 0..5 a, 5..6 b, 6..10 a
         insert 0..10 a | law insert 3..6 b | 0..3 a, 3..6 b, 6..10 a
         insert 0..10 a, insert 3..6 b | law remove 2..7 | 0..2 a, 7..10 a
         insert 0..10 a | law twice 3..6 b | 0..3 a, 3..6 b, 6..10 a
         insert 0..10 a | law back 3..6 b | 0..3 a, 6..10 a
+        insert 0..10 a | law commute 2..4 b + 4..12 b | 0..2 a, 2..12 b
         insert 1..3 a, insert 5..7 b | law parted 0..8 | 0..1, 3..5, 7..8
         ",
     )
-}
-
-#[test]
-fn inserts_with_no_common_key_commute(rt: HostRuntime) -> Result<(), Fail> {
-    let (stored, pairs) = ("0..10 a", "0..2 a, 2..12 b");
-    let (first, second) = (2..4, 4..12);
-    let pair = (&first, &'b');
-    check_commute::<HalfOpen, Range<u32>>(rt.alloc(), stored, pair, (&second, &'b'), pairs)?;
-    check_commute_in_tree(rt.alloc(), stored, pair, (&second, &'b'), pairs)
 }

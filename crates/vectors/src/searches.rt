@@ -1,32 +1,49 @@
 //! How many starts a search asks for.
+//!
+//! The table stands here, and not in the crate of `covering`: a crate with tests is proved twice,
+//! and all of the library waits for that one.
 
-use rangemap::RangeMap;
+use rangemap::container::Container;
 use rangemap_core::entries::covering;
 use rangemap_core::half_open::HalfOpen;
-use std::alloc::{AllocError, Global};
-use std::ops::Range;
+use rangemap_core::kind::Interval;
+use rangemap_maps::closed::Closed;
+use rangemap_maps::kinds::Stored;
+use rangemap_maps::range_map::Map;
+use std::alloc::Global;
+use std::ops::{Range, RangeInclusive};
 use std::test::Fail;
 
-/// So many ranges of two keys, each with a key between it and the next.
-fn spread(alloc: Global, count: u16) -> Result<RangeMap<u32, u8, Global>, AllocError> {
-    let mut map = RangeMap::new(alloc);
+/// So many ranges of two keys, each with a key between it and the next. The first goes to `end`.
+fn spread<M: Container<Alloc = Global, Key = u32, Value = u8>>(
+    alloc: Global,
+    count: u16,
+    end: u8,
+) -> Result<M, Fail> {
+    let mut map = M::empty(alloc);
     for place in 0..u32::from(count) {
-        map.insert(3 * place..3 * place + 2, 0)?;
+        let start = 3 * place;
+        let range = M::Kind::between(start, start + u32::from(end)).ok_or("a range is empty")?;
+        map.insert(range, 0)?;
     }
     Ok(map)
 }
 
 /// Looks for each key among so many ranges, and for the one behind them, with so many asks at most.
-fn check_asks(alloc: Global, len: u16, most: usize) -> Result<(), Fail> {
-    let map = spread(alloc, len)?;
+fn check_asks<Q: Stored<u32, R>, R: Drop>(
+    alloc: Global,
+    end: u8,
+    (len, most): (u16, usize),
+) -> Result<(), Fail> {
+    let map: Map<Q, u32, R, u8, Global> = spread(alloc, len, end)?;
     let pairs = map.iter().as_slice();
     if map.len() != usize::from(len) {
         return Err(Fail::new("a map has another number of ranges"));
     }
-    let end = 3 * u32::from(len);
-    for key in 0..end + 1 {
-        let (pair, asked) = covering::<HalfOpen, u32, Range<u32>, u8>(pairs, &key);
-        let is_stored = key % 3 < 2 && key < end;
+    let behind = 3 * u32::from(len);
+    for key in 0..behind + 1 {
+        let (pair, asked) = covering::<Q, u32, R, u8>(pairs, &key);
+        let is_stored = key % 3 < 2 && key < behind;
         if asked > most || pair.is_some() != is_stored {
             return Err(Fail::new(format_args!("{asked} asks for {key} among {len}")));
         }
@@ -49,8 +66,9 @@ fn covering_asks_by_halving(rt: HostRuntime) -> Result<(), Fail> {
         (1000, 10),
         (1024, 11),
     ];
-    for (len, most) in table {
-        check_asks(rt.alloc(), len, most)?;
+    for row in table {
+        check_asks::<HalfOpen, Range<u32>>(rt.alloc(), 2, row)?;
+        check_asks::<Closed<u32>, RangeInclusive<u32>>(rt.alloc(), 1, row)?;
     }
     Ok(())
 }

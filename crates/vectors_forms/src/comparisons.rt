@@ -8,6 +8,7 @@
 //! feeds less than its pairs would still hash alike where it is equal.
 ghost use Rattle.rangemap.specs.Clones.{KeysCloneFaithfully, ValuesCloneFaithfully};
 
+use folding::Folding;
 use rangemap::range_set::Set;
 use rangemap::tree_map;
 use rangemap_maps::kinds::Stored;
@@ -16,12 +17,14 @@ use rangemap_operations::set_range::{SetKind, SetRange};
 use rows::{FromEnds, Tested, Word};
 use std::alloc::Global;
 use std::cmp::Ordering;
-use std::hash::{DefaultHasher, Hash, Hasher};
+use std::hash::{Hash, Hasher};
 use std::test::Fail;
 
+mod folding;
 mod laws;
 mod maps;
 mod sets;
+mod tallied;
 
 /// Compares a table for maps of any kind of range in a sorted vector.
 fn check_maps<
@@ -136,9 +139,9 @@ fn are_hashed<M: Ord + Hash>(made: &[M]) -> bool {
     made.len() > 2
 }
 
-/// What a hasher makes of a container.
+/// What the folding hasher makes of a container.
 fn hash_of<M: Hash>(container: &M) -> u64 {
-    let mut state = DefaultHasher::new();
+    let mut state = Folding::new();
     container.hash(&mut state);
     state.finish()
 }

@@ -1,8 +1,9 @@
 //! The JSON form: what is written of a container, what is read again, and what is refused.
 //!
 //! Keys are whole numbers up to 4294967295, values are texts. A row asks what is `written` of pairs
-//! that are inserted, or of what is read of a value in a form, `any` or `canonical`. Its answer is
-//! the text of the value that is written then, or the debug text of the error.
+//! that are inserted, and is answered the text of the value; or what is read of a value in a form,
+//! `any` or `canonical`, and is answered the debug text of the container. So neither takes the other's
+//! word. The answer may also be the debug text of an error.
 ghost use Rattle.std.specs.Prelude.{◌≡◌, ◌<◌, ◌^◌, ℕ, IfOk, Ok as OkWord};
 ghost use Rattle.serde_json.specs.Data.{number, unsigned};
 ghost use Rattle.serde_json.specs.View.{view};
@@ -15,11 +16,12 @@ use std::test::Fail;
 
 mod long;
 mod maps;
+mod names;
 mod round_trips;
 mod sets;
 
 /// Why a part is refused.
-#[derive(Debug, Drop)]
+#[derive(Debug, PartialEq, Eq, Drop)]
 pub enum Fault {
     /// It is no whole number of 32 bits.
     NoNumber,
@@ -32,7 +34,7 @@ pub enum Fault {
 }
 
 /// A container that rows write and read.
-trait InJson: Drop {
+trait InJson: Debug + Drop {
     /// Makes an empty one.
     fn empty(alloc: Global) -> Self;
 
@@ -116,8 +118,8 @@ fn answer_to<M: InJson>(alloc: Global, question: &str) -> Result<String, Fail> {
     let (name, operand) = question.split_once(' ').unwrap_or((question, ""));
     match name {
         "written" => written(alloc, &made_of::<M>(alloc, operand)?),
-        "any" => read_again::<M>(alloc, Form::Any, operand),
-        "canonical" => read_again::<M>(alloc, Form::Canonical, operand),
+        "any" => pairs_read::<M>(alloc, Form::Any, operand),
+        "canonical" => pairs_read::<M>(alloc, Form::Canonical, operand),
         _ => Err(Fail::new("no row asks so")),
     }
 }
@@ -141,11 +143,11 @@ fn ends(range: &str) -> Result<(u32, u32), Fail> {
     Ok((start.parse()?, end.parse()?))
 }
 
-/// What is written of what is read of a text.
-fn read_again<M: InJson>(alloc: Global, form: Form, text: &str) -> Result<String, Fail> {
+/// The pairs of what is read of a text.
+fn pairs_read<M: InJson>(alloc: Global, form: Form, text: &str) -> Result<String, Fail> {
     let value = Value::from_str(alloc, text)?;
     match M::read(alloc, form, &value) {
-        Ok(read) => written(alloc, &read),
+        Ok(read) => debug_text(alloc, &read),
         Err(error) => debug_text(alloc, &error),
     }
 }
@@ -158,7 +160,7 @@ fn written<M: InJson>(alloc: Global, all: &M) -> Result<String, Fail> {
     }
 }
 
-/// The debug text of an error.
-fn debug_text<E: Debug>(alloc: Global, error: &E) -> Result<String, Fail> {
-    Ok(format!(in alloc; "{error:?}")?)
+/// The debug text of a container or an error.
+fn debug_text<T: Debug>(alloc: Global, value: &T) -> Result<String, Fail> {
+    Ok(format!(in alloc; "{value:?}")?)
 }

@@ -9,7 +9,7 @@ ghost use Rattle.rangemap.specs.StepLaws.{held_follows, held_precedes, nat_after
 ghost use Rattle.vectors_keys.specs.Reversed.{reversed, reversed_follows, reversed_precedes};
 
 use crate::same::assert_same;
-use rangemap::{RangeInclusiveSet, StepLite};
+use rangemap::{RangeInclusiveMap, RangeInclusiveSet, StepLite};
 use rows::{check_text, closed};
 use std::alloc::Global;
 use std::cmp::Ordering;
@@ -92,8 +92,16 @@ fn step_up<K: StepLite>(key: &K, greater: &K) -> K
 #[test]
 fn a_reversed_order_goes_down(rt: HostRuntime) -> Result<(), Fail> {
     assert_same(&rt, step_up(&Down(5), &Down(0)), Down(4));
-    let mut set: RangeInclusiveSet<Down, Down, Global> = RangeInclusiveSet::new(rt.alloc());
+    let mut set: RangeInclusiveSet<Down, Down, Global> = RangeInclusiveSet::new_with_step_fns(
+        rt.alloc(),
+    );
     set.insert(closed(Down(255), Down(128))?)?;
     set.insert(closed(Down(127), Down(0))?)?;
-    check_text(rt.alloc(), &set, "{Down(255)..=Down(0)}")
+    check_text(rt.alloc(), &set, "{Down(255)..=Down(0)}")?;
+    let mut map: RangeInclusiveMap<Down, char, Down, Global> = RangeInclusiveMap::new_with_step_fns(
+        rt.alloc(),
+    );
+    map.insert(closed(Down(255), Down(128))?, 'a')?;
+    map.insert(closed(Down(127), Down(0))?, 'a')?;
+    check_text(rt.alloc(), &map, "{Down(255)..=Down(0): 'a'}")
 }

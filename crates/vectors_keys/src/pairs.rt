@@ -2,8 +2,8 @@
 ghost use Rattle.std.specs.Prelude.{◌^◌};
 ghost use Rattle.vectors_keys.specs.Pairs.{IsPair, pair_after, pair_before, pair_follows, pair_precedes};
 
-use rangemap::{RangeInclusiveSet, StepFns};
-use rows::check_rows;
+use rangemap::{RangeInclusiveMap, RangeInclusiveSet, StepFns};
+use rows::check_stepped_rows;
 use std::alloc::Global;
 use std::test::Fail;
 
@@ -43,19 +43,33 @@ impl StepFns<(u8, u8)> for PairSteps {
     }
 }
 
+/// Letters at pairs of bytes.
+type Letters = RangeInclusiveMap<(u8, u8), char, PairSteps, Global>;
+
 /// Pairs of bytes.
 type Pairs = RangeInclusiveSet<(u8, u8), PairSteps, Global>;
 
 // Pairs touch over their second byte, and the last pair is not stepped past.
 #[test]
 fn pairs_are_stepped_through(rt: HostRuntime) -> Result<(), Fail> {
-    check_rows::<Pairs>(
+    check_stepped_rows::<Pairs>(
         rt.alloc(),
         "
         insert 0/0..=1/255, insert 2/0..=2/0 | holds | 0/0..=2/0
         insert 0/0..=2/0, insert 2/2..=255/255 | gaps 0/0..=255/255 | 2/1..=2/1
         insert 0/0..=2/0, insert 2/2..=255/255, remove 255/255..=255/255 | holds | \
         0/0..=2/0, 2/2..=255/254
+        ",
+    )?;
+    check_stepped_rows::<Letters>(
+        rt.alloc(),
+        "
+        insert 0/0..=1/255 a, insert 2/0..=2/0 a | holds | 0/0..=2/0 a
+        insert 0/0..=1/255 a, insert 2/0..=2/0 b | holds | 0/0..=1/255 a, 2/0..=2/0 b
+        insert 0/0..=2/0 a, insert 1/255..=1/255 b | holds | \
+        0/0..=1/254 a, 1/255..=1/255 b, 2/0..=2/0 a
+        insert 0/0..=255/255 a, remove 255/255..=255/255 | holds | 0/0..=255/254 a
+        insert 0/0..=1/254 a, insert 2/0..=255/255 a | gaps 0/0..=255/255 | 1/255..=1/255
         ",
     )
 }

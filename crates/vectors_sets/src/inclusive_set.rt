@@ -68,3 +68,21 @@ fn bytes_go_to_their_end(rt: HostRuntime) -> Result<(), Fail> {
         ",
     )
 }
+
+// By the set's own calls.
+#[test]
+fn changes_and_gaps_keep_their_laws(rt: HostRuntime) -> Result<(), Fail> {
+    check_closed::<u32>(
+        rt.alloc(),
+        "
+        insert 0..=2, insert 6..=8 | law alike 3..=4 | 0..=4, 6..=8
+        insert 0..=2, insert 6..=8 | law insert 2..=6 | 0..=8
+        insert 0..=2, insert 6..=8 | law insert 4..=4 | 0..=2, 4..=4, 6..=8
+        insert 0..=2, insert 6..=8 | law remove 2..=6 | 0..=1, 7..=8
+        insert 0..=2 | law twice 3..=5 | 0..=5
+        insert 0..=9 | law back 3..=5 | 0..=2, 6..=9
+        insert 0..=2, insert 6..=8 | law commute 2..=3 + 4..=6 | 0..=8
+        insert 1..=2, insert 5..=6 | law parted 0..=7 | 0..=0, 3..=4, 7..=7
+        ",
+    )
+}

@@ -59,3 +59,21 @@ fn what_is_asked_is_answered(rt: HostRuntime) -> Result<(), Fail> {
         ",
     )
 }
+
+// By the set's own calls.
+#[test]
+fn changes_and_gaps_keep_their_laws(rt: HostRuntime) -> Result<(), Fail> {
+    check_half_open(
+        rt.alloc(),
+        "
+        insert 0..3, insert 6..9 | law alike 3..5 | 0..5, 6..9
+        insert 0..3, insert 6..9 | law insert 2..7 | 0..9
+        insert 0..3, insert 6..9 | law insert 4..5 | 0..3, 4..5, 6..9
+        insert 0..3, insert 6..9 | law remove 2..7 | 0..2, 7..9
+        insert 0..3 | law twice 3..6 | 0..6
+        insert 0..10 | law back 3..6 | 0..3, 6..10
+        insert 0..3, insert 6..9 | law commute 2..4 + 4..7 | 0..9
+        insert 1..3, insert 5..7 | law parted 0..8 | 0..1, 3..5, 7..8
+        ",
+    )
+}

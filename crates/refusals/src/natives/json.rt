@@ -4,17 +4,16 @@ ghost use Rattle.rangemap.specs.Clones.{KeysCloneFaithfully, ValuesCloneFaithful
 
 use rangemap::range_set::Set;
 use rangemap::{Form, ReadError};
-use rangemap_core::half_open::HalfOpen;
 use rangemap_maps::closed::Closed;
 use rangemap_maps::kinds::OwnSteps;
 use rangemap_maps::range_map::Map;
 use rangemap_operations::set_range::{SetKind, SetRange};
-use rows::{Costly, Heap};
+use rows::{Costly, FromEnds, Heap, Word};
 use serde_json::Value;
-use std::alloc::Global;
-use std::ops::{Range, RangeInclusive};
+use std::alloc::{AllocError, Global};
+use std::ops::RangeInclusive;
 use std::test::Fail;
-use trials::{Answer, Row, check_that};
+use trials::{Answer, Row, check_that, is_made};
 
 /// A part is no whole number of the size that is read.
 #[derive(Drop)]
@@ -35,134 +34,93 @@ fn read_costly<'a>(heap: &'a Heap, part: &Value) -> Result<Costly<'a>, NoNumber>
     }
 }
 
-/// Thirteen ranges, which don't fit in the first growth.
-const RANGES: &str = "[[0,1],[3,4],[6,7],[9,10],[12,13],[15,16],[18,19],[21,22],[24,25],[27,28],\
-    [30,31],[33,34],[36,37]]";
-
-/// The same with values.
-const PAIRS: &str = "[[[0,1],7],[[3,4],7],[[6,7],7],[[9,10],7],[[12,13],7],[[15,16],7],\
-    [[18,19],7],[[21,22],7],[[24,25],7],[[27,28],7],[[30,31],7],[[33,34],7],[[36,37],7]]";
-
-/// Whether a container was read, which has as many ranges as the row says. One that was not was
-/// refused memory.
-fn is_read(read: Result<usize, ReadError<NoNumber>>, row: &Row<'_>) -> Answer {
-    match read {
-        Ok(len) => {
-            check_that(row.2.parse() == Ok(len), "another number of ranges is read")?;
-            Ok(true)
-        }
-        Err(ReadError::OutOfMemory) => Ok(false),
-        Err(_) => Err(Fail::new("what is read is refused")),
-    }
-}
-
-/// Tries to read each of the four containers in a form. They are refused alike.
-pub fn try_reading(heap: &Heap, alloc: Global, row: &Row<'_>, left: u64) -> Answer {
-    let form = if row.0 == "canonical" {
+/// The form that a row reads in, and the value that it reads.
+fn form_and_value(alloc: Global, given: &str) -> Result<(Form, Value), Fail> {
+    let (form, text) = given.split_once(' ').ok_or("a row names a form")?;
+    let form = if form == "canonical" {
         Form::Canonical
     } else {
         Form::Any
     };
-    let pairs = Value::from_str(alloc, PAIRS)?;
-    let ranges = Value::from_str(alloc, RANGES)?;
-    try_all(heap, form, (&pairs, &ranges), row, left)
+    Ok((form, Value::from_str(alloc, text)?))
 }
 
-/// Tries to read the maps of pairs, and the sets of ranges.
-fn try_all(heap: &Heap, form: Form, values: (&Value, &Value), row: &Row<'_>, left: u64) -> Answer {
+/// Tries to read a map of numbers.
+pub fn try_map<'a, Q, R>(heap: &'a Heap, alloc: Global, row: &Row<'_>, left: u64) -> Answer
+where
+    Q: OwnSteps<u32, R>,
+    R: FromEnds<u32>,
+{
+    let (form, value) = form_and_value(alloc, row.0)?;
     heap.refuse_after(left);
-    let map = read_map::<HalfOpen, u32, Range<u32>, _, _>(
-        heap,
-        form,
-        values.0,
-        read_number,
-        read_number,
-    );
-    let is_map = is_read(map, row)?;
+    read_map::<Q, u32, R, _, _>(heap, form, &value, (read_number, read_number), row.2)
+}
+
+/// Tries to read a set of numbers.
+pub fn try_set<'a, Q, R>(heap: &'a Heap, alloc: Global, row: &Row<'_>, left: u64) -> Answer
+where
+    Q: OwnSteps<u32, R> + SetKind<u32, R>,
+    R: SetRange<Key = u32> + FromEnds<u32>,
+{
+    let (form, value) = form_and_value(alloc, row.0)?;
     heap.refuse_after(left);
-    let closed_map = read_map::<Closed<u32>, u32, RangeInclusive<u32>, _, _>(
-        heap,
-        form,
-        values.0,
-        read_number,
-        read_number,
-    );
-    let are_pairs = is_read(closed_map, row)?;
-    heap.refuse_after(left);
-    let set = read_set::<HalfOpen, u32, Range<u32>, _>(heap, form, values.1, read_number);
-    let is_set = is_read(set, row)?;
-    heap.refuse_after(left);
-    let closed_set = read_set::<Closed<u32>, u32, RangeInclusive<u32>, _>(
-        heap,
-        form,
-        values.1,
-        read_number,
-    );
-    let others = (are_pairs, is_set, is_read(closed_set, row)?);
-    check_that(
-        others == (is_map, is_map, is_map),
-        "one is refused otherwise",
-    )?;
-    Ok(is_map)
+    read_set::<Q, R>(heap, form, &value, row.2)
 }
 
 /// Tries to read a map with parts whose clones take memory.
 pub fn try_costly(heap: &Heap, alloc: Global, row: &Row<'_>, left: u64) -> Answer {
-    let pairs = Value::from_str(alloc, row.0)?;
+    let (form, value) = form_and_value(alloc, row.0)?;
     let read = move |part: &Value| read_costly(heap, part);
     heap.refuse_after(left);
-    let map = read_map::<Closed<Costly<'_>>, Costly<'_>, RangeInclusive<Costly<'_>>, _, _>(
+    read_map::<Closed<Costly<'_>>, Costly<'_>, RangeInclusive<Costly<'_>>, _, _>(
         heap,
-        Form::Any,
-        &pairs,
-        read,
-        read,
-    );
-    is_read(map, row)
+        form,
+        &value,
+        (read, read),
+        row.2,
+    )
 }
 
-/// Reads a map over any kind of range. Answers the number of its ranges.
+/// Reads a map over any kind of range, and compares its pairs.
 fn read_map<'a, Q, K, R, RK, RV>(
     heap: &'a Heap,
     form: Form,
-    pairs: &Value,
-    read_key: RK,
-    read_value: RV,
-) -> Result<usize, ReadError<NoNumber>>
+    value: &Value,
+    read: (RK, RV),
+    pairs: &str,
+) -> Answer
 where
     Q: OwnSteps<K, R>,
-    K: Ord + Clone,
-    R: Drop,
+    K: Ord + Clone + Word<&'a Heap>,
+    R: FromEnds<K>,
     RK: Fn(&Value) -> Result<K, NoNumber>,
     RV: Fn(&Value) -> Result<K, NoNumber>,
-    requires keys { RK.IsAlwaysCallable read_key }
-    requires values { RV.IsAlwaysCallable read_value }
+    requires keys { RK.IsAlwaysCallable read.0 }
+    requires values { RV.IsAlwaysCallable read.1 }
     requires faithful_keys { KeysCloneFaithfully K.is_clone K.cmp }
     requires faithful_values { ValuesCloneFaithfully K.is_clone K.eq }
 {
-    match Map::<Q, K, R, K, &'a Heap>::from_value(heap, form, pairs, read_key, read_value) {
-        Ok(map) => Ok(map.len()),
-        Err(error) => Err(error),
-    }
+    let read = Map::<Q, K, R, K, &'a Heap>::from_value(heap, form, value, read.0, read.1);
+    is_made(unless_refused(read)?, pairs)
 }
 
-/// Reads a set of any kind of range. Answers the number of its ranges.
-fn read_set<'a, Q, T, R, RK>(
-    heap: &'a Heap,
-    form: Form,
-    ranges: &Value,
-    read_key: RK,
-) -> Result<usize, ReadError<NoNumber>>
+/// Reads a set of any kind of range, and compares its ranges.
+fn read_set<'a, Q, R>(heap: &'a Heap, form: Form, value: &Value, ranges: &str) -> Answer
 where
-    Q: OwnSteps<T, R> + SetKind<T, R>,
-    T: Ord + Clone,
-    R: SetRange<Key = T>,
-    RK: Fn(&Value) -> Result<T, NoNumber>,
-    requires keys { RK.IsAlwaysCallable read_key }
-    requires faithful_keys { KeysCloneFaithfully T.is_clone T.cmp }
+    Q: OwnSteps<u32, R> + SetKind<u32, R>,
+    R: SetRange<Key = u32> + FromEnds<u32>,
 {
-    match Set::<Q, T, R, &'a Heap>::from_value(heap, form, ranges, read_key) {
-        Ok(set) => Ok(set.len()),
-        Err(error) => Err(error),
+    let read = Set::<Q, u32, R, &'a Heap>::from_value(heap, form, value, read_number);
+    is_made(unless_refused(read)?, ranges)
+}
+
+/// What was read. What rows name is refused for want of memory alone.
+fn unless_refused<M: Drop>(
+    read: Result<M, ReadError<NoNumber>>,
+) -> Result<Result<M, AllocError>, Fail> {
+    match read {
+        Ok(made) => Ok(Ok(made)),
+        Err(ReadError::OutOfMemory) => Ok(Err(AllocError)),
+        Err(_) => Err(Fail::new("what is read is refused")),
     }
 }

@@ -8,12 +8,13 @@ use std::test::Fail;
 fn ends_are_reached_and_removed(rt: HostRuntime) -> Result<(), Fail> {
     check_closed_replay::<u8>(
         rt.alloc(),
-        "new, insert 0..=127 f, insert 128..=255 t, insert 128..=255 f | ++++ | 0..=255 f",
+        "new, insert 0..=127 false, insert 128..=255 true, insert 128..=255 false | ++++ | \
+        0..=255 false",
     )?;
     check_closed_replay::<i8>(
         rt.alloc(),
-        "from -128..=127 t, clone, remove -128..=-128, remove 127..=127 | ++++ | \
-        -127..=126 t; -128..=127 t",
+        "from -128..=127 true, clone, remove -128..=-128, remove 127..=127 | ++++ | \
+        -127..=126 true; -128..=127 true",
     )
 }
 
@@ -21,12 +22,12 @@ fn ends_are_reached_and_removed(rt: HostRuntime) -> Result<(), Fail> {
 fn changes_by_own_steps_and_by_those_of_another_type(rt: HostRuntime) -> Result<(), Fail> {
     check_changes::<u8, u8>(
         rt.alloc(),
-        "new, insert 0..=127 f, insert 128..=255 t, insert 128..=255 f, remove 255..=255, \
-        remove 0..=0 | ++++++ | 1..=254 f",
+        "new, insert 0..=127 false, insert 128..=255 true, insert 128..=255 false, \
+        remove 255..=255, remove 0..=0 | ++++++ | 1..=254 false",
     )?;
     check_changes::<i8, SignedSteps>(
         rt.alloc(),
-        "new, insert -128..=127 t, clone, remove -128..=-128, clone, remove 127..=127, \
-        2: insert -128..=-128 t | +++++++ | -127..=126 t; -128..=127 t; -128..=127 t",
+        "new, insert -128..=127 true, clone, remove -128..=-128, clone, remove 127..=127, \
+        2: insert -128..=-128 true | +++++++ | -127..=126 true; -128..=127 true; -128..=127 true",
     )
 }

@@ -30,13 +30,29 @@ where
     check_text(alloc, &made, "{0..3: 'd'}")
 }
 
+/// Compares two maps that are equal, and two that are not.
+fn check_equality<M: PartialEq>(same: (&M, &M), others: (&M, &M)) -> Result<(), Fail> {
+    let are_same = same.0 == same.1 && !(same.0 != same.1);
+    let are_others = others.0 != others.1 && !(others.0 == others.1);
+    if are_same && are_others {
+        Ok(())
+    } else {
+        Err(Fail::new("maps are compared otherwise"))
+    }
+}
+
 #[test]
 fn pairs_are_inserted_in_order(rt: HostRuntime) -> Result<(), Fail> {
     let map: Map = RangeMap::from(rt.alloc(), [(0..10, 'a'), (3..6, 'b')])?;
     let copy = map.clone()?;
     let extended = "{0..3: 'a', 3..6: 'b', 6..10: 'a', 10..15: 'c', 20..25: 'c'}";
     check_chains(rt.alloc(), map, extended)?;
-    check_text(rt.alloc(), &copy, "{0..3: 'a', 3..6: 'b', 6..10: 'a'}")
+    check_text(rt.alloc(), &copy, "{0..3: 'a', 3..6: 'b', 6..10: 'a'}")?;
+    let changed: Map = RangeMap::from(rt.alloc(), [(0..10, 'a'), (3..6, 'b'), (3..6, 'a')])?;
+    let plain = RangeMap::from(rt.alloc(), [(0..10, 'a')])?;
+    let short: Map = RangeMap::from(rt.alloc(), [(0..5, 'a')])?;
+    let long = RangeMap::from(rt.alloc(), [(0..6, 'a')])?;
+    check_equality((&changed, &plain), (&short, &long))
 }
 
 #[test]
@@ -45,7 +61,13 @@ fn pairs_are_inserted_in_order_in_a_tree(rt: HostRuntime) -> Result<(), Fail> {
     let copy = map.clone()?;
     let extended = "{0..3: 'a', 3..6: 'b', 6..10: 'a', 10..15: 'c', 20..25: 'c'}";
     check_chains(rt.alloc(), map, extended)?;
-    check_text(rt.alloc(), &copy, "{0..3: 'a', 3..6: 'b', 6..10: 'a'}")
+    check_text(rt.alloc(), &copy, "{0..3: 'a', 3..6: 'b', 6..10: 'a'}")?;
+    let pairs = [(0..10, 'a'), (3..6, 'b'), (3..6, 'a')];
+    let changed: TreeMap = tree_map::RangeMap::from(rt.alloc(), pairs)?;
+    let plain = tree_map::RangeMap::from(rt.alloc(), [(0..10, 'a')])?;
+    let short: TreeMap = tree_map::RangeMap::from(rt.alloc(), [(0..5, 'a')])?;
+    let long = tree_map::RangeMap::from(rt.alloc(), [(0..6, 'a')])?;
+    check_equality((&changed, &plain), (&short, &long))
 }
 
 #[test]

@@ -1,35 +1,65 @@
-//! The laws of comparisons, run on a map, a copy of it and a greater one.
+//! The laws of comparisons, run on two maps that are equal and on two that are not. The values count,
+//! since what equal maps answer does not show which calls a law made, nor on which of the two.
 
+use super::folding::Folding;
+use super::hash_of;
+use super::tallied::{Counts, Tallied, Tally};
 use rangemap::RangeMap;
 use rangemap::laws::comparisons::{equal_maps_hash_alike, equality_agrees_with_order};
-use rows::Tested;
-use std::alloc::Global;
+use std::alloc::{AllocError, Global};
 use std::cmp::Ordering;
-use std::hash::{DefaultHasher, Hasher};
+use std::hash::Hasher;
 use std::test::Fail;
 
-/// A map over numbers.
-type Map = RangeMap<u32, char, Global>;
+/// A map to values that count.
+type Map<'a> = RangeMap<u32, Tallied<'a>, Global>;
 
-/// Whether a map lies so to another by the law.
-fn lies(one: &Map, other: &Map, is_equal: bool, order: Ordering) -> bool {
-    equality_agrees_with_order(one, other) == (is_equal, order)
+/// Where the values of two maps count.
+type Tallies<'a> = (&'a Tally, &'a Tally);
+
+/// A map with one value.
+fn map_to<'a>(alloc: Global, letter: char, tally: &'a Tally) -> Result<Map<'a>, AllocError> {
+    let mut map = RangeMap::new(alloc);
+    map.insert(0..5, Tallied { letter, tally })?;
+    Ok(map)
 }
 
-/// Whether a map and a copy of it hash alike by the law, and are fed to a hasher.
-fn is_alike(one: &Map) -> Result<bool, Fail> {
-    let same = one.clone()?;
-    let (mut left, mut right) = (DefaultHasher::new(), DefaultHasher::new());
-    equal_maps_hash_alike(one, &same, &mut left, &mut right);
-    let is_fed = left.finish() != DefaultHasher::new().finish();
-    Ok(is_fed && left.finish() == right.finish() && lies(one, &same, true, Ordering::Equal))
+/// Whether so much was counted for each of two maps.
+fn are_counted((ours, theirs): Tallies<'_>, counts: Counts) -> bool {
+    (ours.taken(), theirs.taken()) == (counts, counts)
+}
+
+/// Whether a map lies so to another by the law, for which it was compared by `==` and by `cmp`.
+fn lies(one: &Map<'_>, other: &Map<'_>, tallies: Tallies<'_>, order: Ordering) -> bool {
+    equality_agrees_with_order(one, other) == (order.is_eq(), order)
+        && are_counted(tallies, (1, 1, 0))
+}
+
+/// Whether two maps hash alike by the law, if they are equal, for which each was fed once.
+fn are_alike(one: &Map<'_>, same: &Map<'_>, tallies: Tallies<'_>) -> bool {
+    let hash = hash_of(one);
+    if one != same {
+        return false;
+    }
+    let _ = (tallies.0.taken(), tallies.1.taken());
+    let (mut left, mut right) = (Folding::new(), Folding::new());
+    equal_maps_hash_alike(one, same, &mut left, &mut right);
+    (left.finish(), right.finish()) == (hash, hash) && are_counted(tallies, (0, 0, 1))
 }
 
 #[test]
 fn the_laws_of_comparisons_make_their_calls(rt: HostRuntime) -> Result<(), Fail> {
-    let made = Map::make_all(rt.alloc(), &["0..5 a", "0..6 a"])?;
-    match made.as_slice() {
-        [one, greater] if lies(one, greater, false, Ordering::Less) && is_alike(one)? => Ok(()),
-        _ => Err(Fail::new("the laws of comparisons answer otherwise")),
+    let (ours, theirs) = (Tally::new(), Tally::new());
+    let one = map_to(rt.alloc(), 'a', &ours)?;
+    let same = map_to(rt.alloc(), 'a', &theirs)?;
+    let greater = map_to(rt.alloc(), 'b', &theirs)?;
+    let tallies = (&ours, &theirs);
+    let are_kept = lies(&one, &same, tallies, Ordering::Equal)
+        && lies(&one, &greater, tallies, Ordering::Less)
+        && are_alike(&one, &same, tallies);
+    if are_kept {
+        Ok(())
+    } else {
+        Err(Fail::new("the laws of comparisons answer otherwise"))
     }
 }

@@ -8,10 +8,11 @@ use rangemap_maps::kinds::OwnSteps;
 use rangemap_maps::range_map::Map;
 use serde_json::Value;
 use std::alloc::Global;
+use std::fmt::Debug;
 use std::ops::{Range, RangeInclusive};
 use std::test::Fail;
 
-impl<Q: OwnSteps<u32, R>, R: Drop> InJson for Map<Q, u32, R, String, Global> {
+impl<Q: OwnSteps<u32, R>, R: Debug + Drop> InJson for Map<Q, u32, R, String, Global> {
     fn empty(alloc: Global) -> Self {
         Map::empty(alloc)
     }
@@ -31,7 +32,10 @@ impl<Q: OwnSteps<u32, R>, R: Drop> InJson for Map<Q, u32, R, String, Global> {
 }
 
 /// Compares a table for maps of numbers to texts.
-fn check_maps<Q: OwnSteps<u32, R>, R: Drop>(alloc: Global, table: &str) -> Result<(), Fail> {
+fn check_maps<Q: OwnSteps<u32, R>, R: Debug + Drop>(
+    alloc: Global,
+    table: &str,
+) -> Result<(), Fail> {
     check_rows::<Map<Q, u32, R, String, Global>>(alloc, table)
 }
 
@@ -42,15 +46,17 @@ fn maps_are_written_and_read(rt: HostRuntime) -> Result<(), Fail> {
         r#"
         written | []
         written 0..100 abc | [[[0,100],"abc"]]
+        written 0..10 a, 3..6 b | [[[0,3],"a"],[[3,6],"b"],[[6,10],"a"]]
         written 0..5 a, 7..9 ? | Caller(Unwritable)
 
-        any [] | []
-        any [[[0,10],"a"],[[3,6],"b"]] | [[[0,3],"a"],[[3,6],"b"],[[6,10],"a"]]
-        any [[[5,10],"a"],[[0,5],"a"]] | [[[0,10],"a"]]
+        any [] | {}
+        any [[[0,10],"a"],[[3,6],"b"]] | {0..3: "a", 3..6: "b", 6..10: "a"}
+        any [[[5,10],"a"],[[0,5],"a"]] | {0..10: "a"}
+        any [[[7,4294967295],"abc"]] | {7..4294967295: "abc"}
 
-        canonical [] | []
-        canonical [[[0,5],"a"],[[6,10],"a"]] | [[[0,5],"a"],[[6,10],"a"]]
-        canonical [[[0,5],"a"],[[5,10],"b"]] | [[[0,5],"a"],[[5,10],"b"]]
+        canonical [] | {}
+        canonical [[[0,5],"a"],[[6,10],"a"]] | {0..5: "a", 6..10: "a"}
+        canonical [[[0,5],"a"],[[5,10],"b"]] | {0..5: "a", 5..10: "b"}
         "#,
     )
 }
@@ -95,12 +101,14 @@ fn closed_maps_are_written_and_read(rt: HostRuntime) -> Result<(), Fail> {
         written | []
         written 0..=99 abc | [[[0,99],"abc"]]
 
-        any [[[7,7],"a"]] | [[[7,7],"a"]]
-        any [[[5,9],"a"],[[0,4],"a"]] | [[[0,9],"a"]]
+        any [[[7,7],"a"]] | {7..=7: "a"}
+        any [[[5,9],"a"],[[0,4],"a"]] | {0..=9: "a"}
+        any [[[0,9],"a"],[[3,5],"b"]] | {0..=2: "a", 3..=5: "b", 6..=9: "a"}
+        any [[[7,4294967295],"abc"]] | {7..=4294967295: "abc"}
         any [[[8,7],"a"]] | EmptyRange { at: 0 }
 
-        canonical [[[0,4],"a"],[[6,9],"a"]] | [[[0,4],"a"],[[6,9],"a"]]
-        canonical [[[0,4],"a"],[[5,9],"b"]] | [[[0,4],"a"],[[5,9],"b"]]
+        canonical [[[0,4],"a"],[[6,9],"a"]] | {0..=4: "a", 6..=9: "a"}
+        canonical [[[0,4],"a"],[[5,9],"b"]] | {0..=4: "a", 5..=9: "b"}
         canonical [[[0,4],"a"],[[4,9],"b"]] | OutOfOrder { at: 1 }
         canonical [[[0,4],"a"],[[5,9],"a"]] | Uncoalesced { at: 1 }
         "#,

@@ -9,10 +9,11 @@ use rangemap_maps::kinds::OwnSteps;
 use rangemap_operations::set_range::{SetKind, SetRange};
 use serde_json::Value;
 use std::alloc::Global;
+use std::fmt::Debug;
 use std::ops::{Range, RangeInclusive};
 use std::test::Fail;
 
-impl<Q: OwnSteps<u32, R> + SetKind<u32, R>, R: SetRange<Key = u32>> InJson
+impl<Q: OwnSteps<u32, R> + SetKind<u32, R>, R: SetRange<Key = u32> + Debug> InJson
     for Set<Q, u32, R, Global> {
     fn empty(alloc: Global) -> Self {
         Set::new(alloc)
@@ -33,7 +34,7 @@ impl<Q: OwnSteps<u32, R> + SetKind<u32, R>, R: SetRange<Key = u32>> InJson
 }
 
 /// Compares a table for sets of numbers.
-fn check_sets<Q: OwnSteps<u32, R> + SetKind<u32, R>, R: SetRange<Key = u32>>(
+fn check_sets<Q: OwnSteps<u32, R> + SetKind<u32, R>, R: SetRange<Key = u32> + Debug>(
     alloc: Global,
     table: &str,
 ) -> Result<(), Fail> {
@@ -48,12 +49,13 @@ fn sets_are_written_and_read(rt: HostRuntime) -> Result<(), Fail> {
         written | []
         written 0..100, 200..300 | [[0,100],[200,300]]
 
-        any [] | []
-        any [[0,10],[5,15]] | [[0,15]]
-        any [[5,10],[0,5]] | [[0,10]]
+        any [] | {}
+        any [[0,10],[5,15]] | {0..15}
+        any [[5,10],[0,5]] | {0..10}
+        any [[20,30],[7,9]] | {7..9, 20..30}
 
-        canonical [] | []
-        canonical [[0,5],[6,10]] | [[0,5],[6,10]]
+        canonical [] | {}
+        canonical [[0,5],[6,10]] | {0..5, 6..10}
 
         any null | NotAList
         any {} | NotAList
@@ -80,8 +82,10 @@ fn closed_sets_are_written_and_read(rt: HostRuntime) -> Result<(), Fail> {
         written | []
         written 7..=7 | [[7,7]]
 
-        any [[7,7]] | [[7,7]]
-        any [[5,9],[0,4]] | [[0,9]]
+        any [[7,7]] | {7..=7}
+        any [[5,9],[0,4]] | {0..=9}
+        any [[20,30],[7,9]] | {7..=9, 20..=30}
+        canonical [[0,4],[6,4294967295]] | {0..=4, 6..=4294967295}
 
         any [[8,7]] | EmptyRange { at: 0 }
         any [[0,4294967296]] | BadKey { at: 0, part: End, fault: NoNumber }
