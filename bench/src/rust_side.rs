@@ -1,4 +1,4 @@
-//! The Rust crate's side: the same workloads as in `crates/bench_map/src/workloads.rt`.
+//! The Rust crate's side: the same workloads as in `crates/bench_workloads/src/workloads.rt`.
 
 use crate::input::{Entry, Query};
 use std::ops::{Range, RangeInclusive};
