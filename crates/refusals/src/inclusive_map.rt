@@ -6,11 +6,11 @@ use refusing::Refusing;
 use rows::{Costly, MANY};
 use std::test::Fail;
 
-// The first growth takes a request, a clone of the stored end of each piece that stays another,
-// and so do both ends of a range that is joined, on whichever side what it joins lies; one that joins
-// nothing is moved. A removal that meets nothing takes nothing, nor does a clone of an empty map; one
-// of another map takes its list, and six keys. The start of a gap is cloned, and its end comes of a step. An append takes a clone of either end of each
-// pair; there is room for four.
+// The first growth takes a request, a clone of the stored end of each piece that stays another, and
+// so do both ends of a range that is joined, on whichever side what it joins lies; one that joins
+// nothing is moved. A removal that meets nothing takes nothing, nor does a clone of an empty map;
+// one of another map takes its list, and six keys. The start of a gap is cloned, and its end comes
+// of a step. An append takes a clone of either end of each pair; there is room for four.
 #[test]
 fn each_request_may_be_refused(rt: HostRuntime) -> Result<(), Fail> {
     let heap = Refusing::new(rt.alloc(), MANY);

@@ -6,13 +6,14 @@ use refusing::Refusing;
 use rows::{Costly, MANY};
 use std::test::Fail;
 
-// The first growth takes a request, a clone of the stored end of each piece that stays another,
-// and so do both ends of a range that is joined, on whichever side what it joins lies; one that joins
-// nothing is moved. A removal that meets nothing takes nothing, nor does a clone of an empty set; one
-// of another set takes its list, and four keys. The start of a gap is cloned, and its end comes of a step.
+// The first growth takes a request, a clone of the stored end of each piece that stays another, and
+// so do both ends of a range that is joined, on whichever side what it joins lies; one that joins
+// nothing is moved. A removal that meets nothing takes nothing, nor does a clone of an empty set;
+// one of another set takes its list, and four keys. The start of a gap is cloned, and its end comes
+// of a step.
 //
-// Of an item of two sets both ends are cloned; a set asks for the list too, and for two items. Of an
-// `extend` the first range takes a list, and each other is joined with what is stored.
+// Of an item of two sets both ends are cloned; a set asks for the list too, and for two items. Of
+// an `extend` the first range takes a list, and each other is joined with what is stored.
 #[test]
 fn each_request_may_be_refused(rt: HostRuntime) -> Result<(), Fail> {
     let heap = Refusing::new(rt.alloc(), MANY);
