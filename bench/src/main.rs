@@ -3,7 +3,7 @@
 //! Each answer of one side is compared with the other's, and a difference ends the run with an
 //! error.
 //!
-//! To add a container: an `impl Store` in `store.rt` of `crates/bench_workloads` (of a set `SetStore`
+//! To add a container: its type in `store.rt` of `crates/bench_workloads` (of a set `SetStore`
 //! too), its number in `containers.rt` and its arm in `exports.rt`; a `map_store!` or `set_store!` in
 //! `rust_side`, and its `Container` in `containers`.
 //!

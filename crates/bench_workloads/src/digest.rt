@@ -2,18 +2,17 @@
 ghost use Rattle.std.specs.Prelude.{◌<◌};
 
 use crate::value::Stored;
-use readers::{ReadsGaps, ReadsPairs};
+use rangemap_core::key_range::KeyRange;
 use std::alloc::AllocError;
 use std::ops::{Range, RangeInclusive};
+use tests_support::{ReadsGaps, ReadsPairs};
 
 /// A range of keys, told by its first key and the one behind its last.
-pub trait Keys: Drop {
-    /// What a map asks of a range that is inserted or removed.
-    ghost IsNonEmpty: { Self → Type 0 };
-
+pub trait Keys: KeyRange<Key = u64> {
     /// The range from its first key up to the one behind its last.
     fn up_to(first: u64, behind: u64) -> Self
-        ensures { first < behind → IsNonEmpty result };
+        ensures non_empty { first < behind → Self.has_key result }
+        ensures not_exhausted { Self.is_fresh result };
 
     fn first(&self) -> u64;
 
@@ -21,11 +20,6 @@ pub trait Keys: Drop {
 }
 
 impl Keys for Range<u64> {
-    ghost use Rattle.std.specs.Ordering.{nat_cmp};
-    ghost use Rattle.rangemap.specs.Ranges.{half_open};
-
-    ghost IsNonEmpty = { (half_open nat_cmp).IsNonEmpty };
-
     #[inline(always)]
     fn up_to(first: u64, behind: u64) -> Range<u64> {
         first..behind
@@ -43,12 +37,6 @@ impl Keys for Range<u64> {
 }
 
 impl Keys for RangeInclusive<u64> {
-    ghost use Rattle.std.specs.Prelude.{⊤};
-    ghost use Rattle.std.specs.Ordering.{nat_cmp};
-    ghost use Rattle.rangemap.specs.Ranges.{closed};
-
-    ghost IsNonEmpty = { (closed (λ _. ⊤) nat_cmp).IsNonEmpty };
-
     #[inline(always)]
     fn up_to(first: u64, behind: u64) -> RangeInclusive<u64> {
         first..=behind.wrapping_sub(1)

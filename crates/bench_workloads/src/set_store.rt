@@ -1,9 +1,13 @@
 //! What the workloads ask of sets beside what they ask of every map.
 
-use crate::store::{ClosedSet, HalfOpenSet, Store};
+use crate::digest::Keys;
+use crate::store::Store;
 use rangemap::container::Combine;
-use readers::{ReadsGaps, tell_gaps};
-use std::alloc::AllocError;
+use rangemap::range_set::Set;
+use rangemap_core::kind::OwnSteps;
+use rangemap_sorted::SortedVec;
+use std::alloc::{AllocError, Global};
+use tests_support::{ReadsGaps, tell_gaps};
 
 /// A set of `u64` keys.
 pub trait SetStore: Store {
@@ -28,42 +32,12 @@ pub trait SetStore: Store {
     fn common_with(&self, other: &Self) -> Result<Self, AllocError>;
 }
 
-impl SetStore for HalfOpenSet {
-    fn read_union<U: ReadsGaps<Self::Range>>(
-        &self,
-        other: &Self,
-        reader: &mut U,
-    ) -> Result<(), AllocError> {
+impl<Q: OwnSteps<R>, R: Keys> SetStore for Set<SortedVec<Q, R, (), Global>> {
+    fn read_union<U: ReadsGaps<R>>(&self, other: &Self, reader: &mut U) -> Result<(), AllocError> {
         tell_gaps(self.union(other), reader)
     }
 
-    fn read_intersection<U: ReadsGaps<Self::Range>>(
-        &self,
-        other: &Self,
-        reader: &mut U,
-    ) -> Result<(), AllocError> {
-        tell_gaps(self.intersection(other), reader)
-    }
-
-    fn joined_with(&self, other: &Self) -> Result<Self, AllocError> {
-        self.union_set(other)
-    }
-
-    fn common_with(&self, other: &Self) -> Result<Self, AllocError> {
-        self.intersection_set(other)
-    }
-}
-
-impl SetStore for ClosedSet {
-    fn read_union<U: ReadsGaps<Self::Range>>(
-        &self,
-        other: &Self,
-        reader: &mut U,
-    ) -> Result<(), AllocError> {
-        tell_gaps(self.union(other), reader)
-    }
-
-    fn read_intersection<U: ReadsGaps<Self::Range>>(
+    fn read_intersection<U: ReadsGaps<R>>(
         &self,
         other: &Self,
         reader: &mut U,

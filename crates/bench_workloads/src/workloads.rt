@@ -62,7 +62,7 @@ fn put<S: Store>(
 
 // The map of the entries, inserted in their order.
 fn filled<S: Store>(alloc: Global, entries: &[Entry]) -> Result<S, AllocError> {
-    let mut map = S::empty(alloc);
+    let mut map = S::new_with_step_fns(alloc);
     for entry in entries {
         put(&mut map, alloc, entry.start, entry.end, entry.value)?;
     }

@@ -13,10 +13,9 @@ ghost use Rattle.calendar.specs.Bookings.{AreFree, HasDay, IsBookAnswer, IsCance
 mod history;
 
 pub use history::{Call, replay};
-use rangemap::container::Container;
 use rangemap::inclusive_map::{Gaps, Iter};
 use rangemap::{RangeInclusiveMap, StepLite};
-use std::alloc::{AllocError, Allocator};
+use std::alloc::{AllocError, Allocator, Global};
 use std::marker::Model;
 use std::ops::RangeInclusive;
 
@@ -48,7 +47,7 @@ impl From<AllocError> for BookError {
 /// and, of all but the last, a move of what lies behind the days; `free` and `iter` take that of the
 /// map's calls.
 #[derive(Drop)]
-pub struct Calendar<A: Allocator> {
+pub struct Calendar<A: Allocator = Global> {
     days: RangeInclusiveMap<u32, u32, u32, A>,
 }
 
@@ -147,7 +146,7 @@ impl<A: Allocator> Calendar<A> {
     }
 
     /// Returns the stretches of `days` that nobody holds, in order. Nothing is asked of `days`.
-    pub fn free<'a>(&'a self, days: &'a RangeInclusive<u32>) -> Gaps<'a, u32, u32, u32>
+    pub fn free<'a>(&'a self, days: &'a RangeInclusive<u32>) -> Gaps<'a, u32, u32>
         ensures { AreGaps day_ranges (map (λ pair. pair.0) self.now) days.now result }
     {
         self.days.gaps(days)

@@ -18,7 +18,9 @@ use Rattle.rangemap_core.specs.laws.Orders.{eq_le, eq_turn, itself, le_Equal, le
 use Rattle.rangemap_core.specs.engine.PlacedKinds.{place_total}
 use Rattle.rangemap_core.proofs.SameRangeLemmas.{same_gaps}
 use Rattle.rangemap_core.proofs.UniquenessLemmas.{same_points}
-use Rattle.rangemap_laws.proofs.CallerLemmas.{covering_holds, changes_behind, below_end_place, from_start, gap_undefined, gap_within, holds_between, holds_start, none_before, undefined_in_gap}
+use Rattle.rangemap.proofs.Loops.{AsksForGaps}
+use Rattle.rangemap.proofs.CallerLemmas.{gap_keys}
+use Rattle.rangemap_laws.proofs.StoredKeyLemmas.{covering_holds, changes_behind, below_end_place, from_start, holds_between, holds_start, none_before}
 
 -- ---- one gap for a stretch of keys
 
@@ -152,17 +154,10 @@ module _ {K X : Type 0} (k : RangeKind K X) where
 -- to come.
 module _ {K X V : Type 0} {k : RangeKind K X} {end_place : X → Option K} {part : EndpointOf X → EndpointOf X → X} (p : IsPlaced k end_place part) (list : List (X × V)) (q : X) (all start : List X) (items : List (Result X AllocError)) (left new : List X) (result : Option (Result X AllocError))
     (are : AreGaps k (map (λ pair. pair.0) list) q all) (is : start ≡ all) (so_far : Yields (GivesRange k) start items left) (step : GivesRange k left result new) where
-  -- at the end the items are the gaps
-  pub gaps_collected : (collected : List X) → items ≡ map Ok collected → result ≡ None → AreGaps k (map (λ pair. pair.0) list) q collected
-  gaps_collected collected alike none =
-      let taken = taken_same k start collected left (subst (λ xs. Yields (GivesRange k) start xs left) alike so_far) in
-      let ended : left ≡ [] = (subst (λ answer. GivesRange k left answer new) none step).0 in
-      same_gaps p (map (λ pair. pair.0) list) all collected q are (subst (λ xs. AreSame k xs collected) (sym (sym is ∙ taken.1 ∙ (ap (λ xs. taken.0 ++ xs) ended ∙ append-nil taken.0))) taken.2)
-
   -- where P holds of each item: a range of which no key has a value
   module _ (P : X → Type 0) (each : All (λ item. IsOkAnd item P) items) (r : X) (stored : IsStorable k r) (within : (x : K) → k.is_key x → k.holds r x ≡ true → k.holds q x ≡ true) (free : IsUndefinedOn k (value_at k list) r) where
     covered : (x : K) → k.is_key x → k.holds r x ≡ true → covers k all x ≡ true
-    covered x key h = undefined_in_gap k list q all are x key (within x key h) (free x key h)
+    covered x key h = (gap_keys k list q all are).all x key (within x key h) (free x key h)
 
     taken : (xs : List X) × (start ≡ xs ++ left) × AreLike k P xs
     taken = taken_like k P start items left so_far (recursion_from_All (λ item. IsOkAnd item P) items each)
@@ -239,7 +234,15 @@ module _ {K X V : Type 0} {k : RangeKind K X} {end_place : X → Option K} {part
         ap (λ xs. covers k xs x) parts ∙ covers_middle k before.0 next.0 new x (same_points k p next.0 range x stored item_stored key next.2.starts next.2.ends ∙ h)
 
     pub item_within : (x : K) → k.is_key x → k.holds range x ≡ true → k.holds q x ≡ true
-    item_within x key h = gap_within k list q all are x key (item_covered x key h)
+    item_within x key h = (gap_keys k list q all are).within x key (item_covered x key h)
 
     pub item_undefined : IsUndefinedOn k (value_at k list) range
-    item_undefined x key h = gap_undefined k list q all are x key (item_covered x key h)
+    item_undefined x key h = (gap_keys k list q all are).undefined x key (item_covered x key h)
+
+-- at the end of such a loop the items are the gaps
+pub gaps_collected : {K X V : Type 0} {k : RangeKind K X} {end_place : X → Option K} {part : EndpointOf X → EndpointOf X → X} (p : IsPlaced k end_place part) (list : List (X × V)) (q : X) {items : List (Result X AllocError)} {result : Option (Result X AllocError)} → AsksForGaps k (map (λ pair. pair.0) list) q items result → {collected : List X} → items ≡ map Ok collected → result ≡ None → AreGaps k (map (λ pair. pair.0) list) q collected
+gaps_collected {k = k} p list q {items} {result} loop {collected} alike none =
+    let asks = loop.asks in
+    let taken = taken_same k asks.start collected asks.left (subst (λ xs. Yields (GivesRange k) asks.start xs asks.left) alike asks.so_far) in
+    let ended : asks.left ≡ [] = (subst (λ answer. GivesRange k asks.left answer asks.new) none asks.step).0 in
+    same_gaps p (map (λ pair. pair.0) list) loop.all collected q loop.are (subst (λ xs. AreSame k xs collected) (sym (sym asks.is ∙ taken.1 ∙ (ap (λ xs. taken.0 ++ xs) ended ∙ append-nil taken.0))) taken.2)

@@ -1,7 +1,7 @@
-pub use Rattle.rangemap_laws.proofs.GapLemmas
 pub mod MapLemmas
 pub use Rattle.rangemap_core.proofs.IncomingLemmas
-pub use Rattle.rangemap_laws.proofs.CallerLemmas
+pub mod CallerLemmas
+pub mod Loops
 pub mod GapLoopLemmas
 pub mod NumberKinds
 pub mod NumberLemmas

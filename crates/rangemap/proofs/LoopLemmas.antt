@@ -9,20 +9,21 @@ use Rattle.std.specs.Cmp.{int_ranked}
 use Rattle.std.specs.Iterator.{Yields}
 use Rattle.std.specs.Borrow.{Bor}
 use Rattle.std.specs.List.{All, AllByRecursion, find}
-use Rattle.std.specs.Map.Iter.{TakesFirst, deref, deref_pair}
+use Rattle.std.specs.Map.Iter.{deref, deref_pair}
 use Rattle.std.specs.Ordering.{int_cmp, nat_cmp}
 use Rattle.std.specs.Prelude.{ℤ}
 use Rattle.std.specs.declared.alloc.AllocError.{AllocError}
 use Rattle.rangemap_core.specs.MadeRanges.{GivesRange, IsSame}
 use Rattle.rangemap_core.specs.Ranges.{RangeKind, AreGaps, IsCanonical, IsStorable, closed, covers, half_open, overlapped, value_at, with_unit}
 use Rattle.rangemap_core.specs.engine.Endpoints.{IsPlaced, EndpointOf}
-use Rattle.rangemap_operations.specs.Sets.{AreCommon, AreHulls, CoverEither, IsCanonicalSet, IsHull}
-use Rattle.rangemap_operations.proofs.UnitValueLemmas.{ranges_with}
-use Rattle.rangemap_laws.proofs.CallerLemmas.{meets_where_shared, value_cons}
+use Rattle.rangemap_core.specs.Sets.{AreCommon, AreHulls, CoverEither, IsCanonicalSet, IsHull}
+use Rattle.rangemap_unions.proofs.UnitValueLemmas.{ranges_with}
+use Rattle.rangemap_laws.proofs.StoredKeyLemmas.{meets_where_shared, value_cons}
 use Rattle.rangemap.proofs.NumberKinds.{NumberKind}
 use Rattle.rangemap.proofs.NumberLemmas.{IsInOne, IsStretch, last_gap, next_gap}
-use Rattle.rangemap.proofs.PairLoopLemmas.{value_from_items}
-use Rattle.rangemap_operations.proofs.SetLemmas.{valued_where_covered}
+use Rattle.rangemap.proofs.Loops.{AsksAgain, AsksForGaps, LendsPairs, LendsRanges}
+use Rattle.rangemap.proofs.PairLoopLemmas.{ComesFrom, IsAsked, value_from_items}
+use Rattle.rangemap_unions.proofs.SetLemmas.{valued_where_covered}
 
 -- ---- the pairs that overlap a query
 
@@ -37,13 +38,14 @@ module _ {K X V : Type 0} {k : RangeKind K X} {end_place : X → Option K} {part
       go false m true e rest = absurd (true≢false (sym (meets_where_shared p q a.0 x stored can.0 key h e) ∙ m))
       go false m false e rest = rest ∙ sym (value_cons k a list x ∙ ap (λ b. cond b (Some a.1) (value_at k list x)) e)
 
-  -- A loop over them, as `for (range, value) in map.overlapping(&q)`, at its end, where P held of
-  -- each item: a key of the query has its value from one of which P holds.
-  pub value_from_met_items : (P : X × V → Type 0) (list lent start : List (X × V)) (items : List (Bor X × Bor V)) (left new : List (X × V)) (result : Option (Bor X × Bor V))
-      → IsCanonical k eq list → lent ≡ overlapped k list q → start ≡ lent → Yields (TakesFirst deref_pair) start items left → TakesFirst deref_pair left result new → result ≡ None → All (λ item. P (deref_pair item)) items
-      → (x : K) → k.is_key x → k.holds q x ≡ true → (v : V) → value_at k list x ≡ Some v → (a : X × V) × P a × (a.1 ≡ v) × (k.holds a.0 x ≡ true)
-  value_from_met_items P list lent start items left new result can met is so_far step none each x key h v there =
-      value_from_items k P (overlapped k list q) lent start items left new result met is so_far step none each x v (met_value list can x key h ∙ there)
+-- each key of the query has its value from a pair of which P holds
+abbrev pub ComeFrom : {K X V : Type 0} → RangeKind K X → List (X × V) → X → (X × V → Type 0) → Type 0
+ComeFrom {K} {X} {V} k list query P = (x : K) → k.is_key x → k.holds query x ≡ true → (v : V) → value_at k list x ≡ Some v → ComesFrom k P x v
+
+-- at the end of `for (range, value) in map.overlapping(&query)`, where P held of each item
+pub value_from_met_items : {K X V : Type 0} {k : RangeKind K X} {end_place : X → Option K} {part : EndpointOf X → EndpointOf X → X} (p : IsPlaced k end_place part) {eq : V → V → Bool} {list : List (X × V)} {q : X} → IsAsked k eq list q → (P : X × V → Type 0) {items : List (Bor X × Bor V)} {result : Option (Bor X × Bor V)} → LendsPairs (overlapped k list q) items result → All (λ item. P (deref_pair item)) items → result ≡ None → ComeFrom k list q P
+value_from_met_items {k = k} p {eq} {list} {q} asked P asks each none x key h v there =
+    value_from_items k (overlapped k list q) P asks each none x v (met_value p eq q asked.storable list asked.canonical x key h ∙ there)
 
 -- ---- ranges with the same ends are one range, where keys that tie are one key
 
@@ -122,6 +124,12 @@ module _ {K X : Type 0} (k : RangeKind K X) where
         let rest = first_of_all y.0 taken left cut.1 y.2 in
         y.1.1 ∙ (λ i. here i ∷ rest i)
 
+-- The key x is one of a range of which P holds.
+pub record LiesIn {K X : Type 0} (k : RangeKind K X) (P : X → Type 0) (x : K) : Type 0 where
+  pub range : X
+  pub kept : P range
+  pub holds : k.holds range x ≡ true
+
 module _ {X : Type 0} (P : X → Type 0) where
   -- items of each of which P holds are ranges
   ranges_of : (items : List (Result X AllocError)) → AllByRecursion (λ item. IsOkAnd item P) items → (taken : List X) × (items ≡ map Ok taken) × AllByRecursion P taken
@@ -129,74 +137,71 @@ module _ {X : Type 0} (P : X → Type 0) where
   ranges_of (Ok s ∷ items) each = let rest = ranges_of items each.1 in (s ∷ rest.0, ap (λ xs. Ok s ∷ xs) rest.1, (each.0, rest.2))
   ranges_of (Err e ∷ items) each = absurd each.0
 
-  has_one : {K : Type 0} (k : RangeKind K X) (taken : List X) → AllByRecursion P taken → (x : K) → covers k taken x ≡ true → (s : X) × P s × (k.holds s x ≡ true)
+  has_one : {K : Type 0} (k : RangeKind K X) (taken : List X) → AllByRecursion P taken → (x : K) → covers k taken x ≡ true → LiesIn k P x
   has_one k [] each x h = absurd (true≢false (sym h))
   has_one k (t ∷ taken) each x h = go (k.holds t x) refl h (has_one k taken each.1 x)
     where
-      go : (b : Bool) → k.holds t x ≡ b → is_some (cond b (Some t) (find (λ r. k.holds r x) taken)) ≡ true → (covers k taken x ≡ true → (s : X) × P s × (k.holds s x ≡ true)) → (s : X) × P s × (k.holds s x ≡ true)
-      go true e h rest = (t, each.0, e)
+      go : (b : Bool) → k.holds t x ≡ b → is_some (cond b (Some t) (find (λ r. k.holds r x) taken)) ≡ true → (covers k taken x ≡ true → LiesIn k P x) → LiesIn k P x
+      go true e h rest = record { range = t; kept = each.0; holds = e }
       go false e h rest = rest h
 
--- A loop over the ranges `all` that an iterator makes, as `for range in left.union(right)`. It was
--- given `items`, and `left` is still to come when it asks again: the answer is `result`, after
--- which `new` is to come. None of the ranges is empty (`union_full`, `canonical_full`).
-module _ {K X : Type 0} {k : RangeKind K X} (exact : IsExact k) (all start : List X) (items : List (Result X AllocError)) (left new : List X) (result : Option (Result X AllocError))
-    (full : AllByRecursion k.IsNonEmpty all) (is : start ≡ all) (so_far : Yields (GivesRange k) start items left) (step : GivesRange k left result new) where
-  parts : (taken : List X) → items ≡ map Ok taken → all ≡ taken ++ left
-  parts taken alike = sym is ∙ first_of_all k exact start taken left (subst (AllByRecursion k.IsNonEmpty) (sym is) full) (subst (λ xs. Yields (GivesRange k) start xs left) alike so_far)
+-- A loop over the ranges `all` that an iterator makes, as `for range in left.union(right)`. None of the
+-- ranges is empty (`union_full`, `canonical_full`).
+module _ {K X : Type 0} {k : RangeKind K X} (exact : IsExact k) {all : List X} (full : AllByRecursion k.IsNonEmpty all) {items : List (Result X AllocError)} {result : Option (Result X AllocError)} (asks : AsksAgain k all items result) where
+  parts : (taken : List X) → items ≡ map Ok taken → all ≡ taken ++ asks.left
+  parts taken alike = sym asks.is ∙ first_of_all k exact asks.start taken asks.left (subst (AllByRecursion k.IsNonEmpty) (sym asks.is) full) (subst (λ xs. Yields (GivesRange k) asks.start xs asks.left) alike asks.so_far)
 
   -- at the end the items are all of them
-  pub ranges_collected : (collected : List X) → items ≡ map Ok collected → result ≡ None → all ≡ collected
-  ranges_collected collected alike none =
-      let ended : left ≡ [] = (subst (λ answer. GivesRange k left answer new) none step).0 in
+  pub ranges_collected : {collected : List X} → items ≡ map Ok collected → result ≡ None → all ≡ collected
+  ranges_collected {collected} alike none =
+      let ended : asks.left ≡ [] = (subst (λ answer. GivesRange k asks.left answer asks.new) none asks.step).0 in
       parts collected alike ∙ ap (λ xs. collected ++ xs) ended ∙ append-nil collected
 
-  module _ (P : X → Type 0) (each : All (λ item. IsOkAnd item P) items) where
-    given : (taken : List X) × (items ≡ map Ok taken) × AllByRecursion P taken
-    given = ranges_of P items (recursion_from_All (λ item. IsOkAnd item P) items each)
+  -- a further item, where P held of each before, is one of all: it may be stored, and they cover each key
+  -- of it
+  pub item_is_covered : (P : X → Type 0) → All (λ item. IsOkAnd item P) items → {item : Result X AllocError} {range : X} → (result ≡ Some item) × (item ≡ Ok range) → IsStorable k range × ((x : K) → k.holds range x ≡ true → covers k all x ≡ true)
+  item_is_covered P each {item} {range} is =
+      let given = ranges_of P items (recursion_from_All (λ item. IsOkAnd item P) items each) in
+      let next = subst (λ answer. GivesRange k asks.left answer asks.new) (is.0 ∙ ap Some is.1) asks.step in
+      let whole : all ≡ given.0 ++ next.0 ∷ asks.new = parts given.0 given.1 ∙ ap (λ xs. given.0 ++ xs) next.1 in
+      let here : next.0 ≡ range = exact next.0 range (full_middle k given.0 next.0 asks.new (subst (AllByRecursion k.IsNonEmpty) whole full)) next.2 in
+      (next.2.storable, λ x h. ap (λ xs. covers k xs x) whole ∙ covers_middle k given.0 next.0 asks.new x (ap (λ r. k.holds r x) here ∙ h))
 
-    -- a further item is one of all: it may be stored, and they cover each key of it
-    pub item_is_covered : (item : Result X AllocError) (range : X) → result ≡ Some item → item ≡ Ok range → IsStorable k range × ((x : K) → k.holds range x ≡ true → covers k all x ≡ true)
-    item_is_covered item range some ok =
-        let next = subst (λ answer. GivesRange k left answer new) (some ∙ ap Some ok) step in
-        let whole : all ≡ given.0 ++ next.0 ∷ new = parts given.0 given.1 ∙ ap (λ xs. given.0 ++ xs) next.1 in
-        let here : next.0 ≡ range = exact next.0 range (full_middle k given.0 next.0 new (subst (AllByRecursion k.IsNonEmpty) whole full)) next.2 in
-        (next.2.storable, λ x h. ap (λ xs. covers k xs x) whole ∙ covers_middle k given.0 next.0 new x (ap (λ r. k.holds r x) here ∙ h))
-
-    -- at the end each key that they cover is one of an item, of which P holds
-    pub covered_by_item : result ≡ None → (x : K) → covers k all x ≡ true → (s : X) × P s × (k.holds s x ≡ true)
-    covered_by_item none x h = has_one P k given.0 given.2 x (sym (ap (λ xs. covers k xs x) (ranges_collected given.0 given.1 none)) ∙ h)
+  -- at the end each key that they cover is one of an item, of which P holds
+  pub covered_by_item : {P : X → Type 0} → All (λ item. IsOkAnd item P) items → result ≡ None → (x : K) → covers k all x ≡ true → LiesIn k P x
+  covered_by_item {P} each none x h =
+      let given = ranges_of P items (recursion_from_All (λ item. IsOkAnd item P) items each) in
+      has_one P k given.0 given.2 x (sym (ap (λ xs. covers k xs x) (ranges_collected given.1 none)) ∙ h)
 
 -- ---- the ranges of a set
 
-module _ {K X : Type 0} (k : RangeKind K X) (P : X → Type 0) where
+module _ {K X : Type 0} (k : RangeKind K X) (set : List X) (P : X → Type 0) where
   each_range : (items : List (Bor X)) → AllByRecursion (λ item. P (deref item)) items → AllByRecursion P (map deref items)
   each_range [] each = each
   each_range (item ∷ items) each = (each.0, each_range items each.1)
 
-  -- at the end of a loop over `set.iter()` each key of the set is one of a range of which P holds
-  pub covered_by_items : (list lent start : List X) (items : List (Bor X)) (left new : List X) (result : Option (Bor X))
-      → lent ≡ list → start ≡ lent → Yields (TakesFirst deref) start items left → TakesFirst deref left result new → result ≡ None → All (λ item. P (deref item)) items
-      → (x : K) → covers k list x ≡ true → (r : X) × P r × (k.holds r x ≡ true)
-  covered_by_items list lent start items left new result all is so_far step none each =
-      has_one P k list (subst (AllByRecursion P) (iter_end deref list items start left new result (is ∙ all) so_far none step).0 (each_range items (recursion_from_All (λ item. P (deref item)) items each)))
+  -- at the end of a loop over `set.iter()`, where P held of each item, each key of the set is one of a
+  -- range of which P holds
+  pub covered_by_items : {items : List (Bor X)} {result : Option (Bor X)} → LendsRanges set items result → All (λ item. P (deref item)) items → result ≡ None → (x : K) → covers k set x ≡ true → LiesIn k P x
+  covered_by_items {items} {result} asks each none =
+      has_one P k set (subst (AllByRecursion P) (iter_end deref set items asks.start asks.left asks.new result (asks.is ∙ asks.all) asks.so_far none asks.step).0 (each_range items (recursion_from_All (λ item. P (deref item)) items each)))
 
 -- ---- what such a loop has collected at its end
 
-module _ {K X : Type 0} {k : RangeKind K X} (exact : IsExact k) (ps qs all start : List X) (items : List (Result X AllocError)) (left new : List X) (result : Option (Result X AllocError)) where
+module _ {K X : Type 0} {k : RangeKind K X} (exact : IsExact k) (ps qs all : List X) {items : List (Result X AllocError)} {result : Option (Result X AllocError)} (collected : List X) where
   -- of a union, where ranges that only touch stay apart
-  pub either_collected : AreHulls k (ps ++ qs) all → CoverEither k ps qs all → start ≡ all → Yields (GivesRange k) start items left → GivesRange k left result new
-      → (collected : List X) → items ≡ map Ok collected → result ≡ None → CoverEither k ps qs collected
-  either_collected hulls points is so_far step collected alike none =
-      subst (CoverEither k ps qs) (ranges_collected exact all start items left new result (union_full k hulls) is so_far step collected alike none) points
+  pub either_collected : AreHulls k (ps ++ qs) all → CoverEither k ps qs all → AsksAgain k all items result → items ≡ map Ok collected → result ≡ None → CoverEither k ps qs collected
+  either_collected hulls points asks alike none = subst (CoverEither k ps qs) (ranges_collected exact (union_full k hulls) asks alike none) points
 
   -- of an intersection
-  pub common_collected : AreCommon k ps qs all → start ≡ all → Yields (GivesRange k) start items left → GivesRange k left result new
-      → (collected : List X) → items ≡ map Ok collected → result ≡ None → AreCommon k ps qs collected
-  common_collected are is so_far step collected alike none =
-      subst (AreCommon k ps qs) (ranges_collected exact all start items left new result (canonical_full k all are.canonical) is so_far step collected alike none) are
+  pub common_collected : AreCommon k ps qs all → AsksAgain k all items result → items ≡ map Ok collected → result ≡ None → AreCommon k ps qs collected
+  common_collected are asks alike none = subst (AreCommon k ps qs) (ranges_collected exact (canonical_full k all are.canonical) asks alike none) are
 
 -- ---- a loop that searches the gaps of a set, as `next_gap` and `last_gap` of `NumberLemmas`
+
+module _ {K X : Type 0} (k : RangeKind K X) (set : List X) (q : X) where
+  asks_pairs : {items : List (Result X AllocError)} {result : Option (Result X AllocError)} → AsksForGaps k set q items result → AsksForGaps k (map (λ pair. pair.0) (with_unit k set)) q items result
+  asks_pairs asks = record { all = asks.all; are = subst (λ rs. AreGaps k rs q asks.all) (sym (ranges_with k set)) asks.are; asks = asks.asks }
 
 module _ {K X : Type 0} (k : RangeKind K X) (set : List X) (q : X) (gaps : List X) where
   -- the gaps of a set are those of the map that it is, of which `collect_gaps` speaks
@@ -231,23 +236,20 @@ module _ {K X : Type 0} (n : NumberKind K X) (set : List X) where
     pub lacks : LacksBetween (n.kind.start gap) (n.behind gap)
     pub earlier : (first past : K) → IsStretch n first past → n.order.IsAtMost (n.kind.start q) first → n.order.IsAtMost past (n.behind q) → LacksBetween first past → n.order.IsBelow first (n.kind.start gap) → IsInOne n P first past
 
-  module _ (q : X) {all start : List X} {result : Option (Result X AllocError)} {P : X → Type 0} (are : AreGaps n.kind set q all) (is : start ≡ all) where
-    -- a gap that such a loop is given
-    pub next_set_gap : {item : Result X AllocError} {gap : X} → result ≡ Some item → item ≡ Ok gap → (left new : List X) → GivesRange n.kind left result new → (items : List (Result X AllocError)) → All (λ item. IsOkAnd item P) items → Yields (GivesRange n.kind) start items left
-        → IsNextSetGap q P gap
-    next_set_gap some ok left new step items each so_far =
-        let gap = next_gap n (with_unit n.kind set) q (gaps_of_pairs n.kind set q all are) is some ok left new step items each so_far in
-        record {
-          stored = gap.stored;
-          forward = gap.forward;
-          from = gap.from;
-          to = gap.to;
-          lacks = λ x from to. lacked x (gap.free x from to);
-          earlier = λ first past s from to lacks below. gap.earlier first past s from to (λ x at up. none_lacked x (lacks x at up)) below;
-        }
+module _ {K X : Type 0} (n : NumberKind K X) (set : List X) (q : X) {items : List (Result X AllocError)} {result : Option (Result X AllocError)} (asks : AsksForGaps n.kind set q items result) {P : X → Type 0} (each : All (λ item. IsOkAnd item P) items) where
+  -- a gap that such a loop is given
+  pub next_set_gap : {item : Result X AllocError} {gap : X} → (result ≡ Some item) × (item ≡ Ok gap) → IsNextSetGap n set q P gap
+  next_set_gap given =
+      let gap = next_gap n (with_unit n.kind set) q (asks_pairs n.kind set q asks) each given in
+      record {
+        stored = gap.stored;
+        forward = gap.forward;
+        from = gap.from;
+        to = gap.to;
+        lacks = λ x from to. lacked n set x (gap.free x from to);
+        earlier = λ first past s from to lacks below. gap.earlier first past s from to (λ x at up. none_lacked n set x (lacks x at up)) below;
+      }
 
-    -- at its end, numbers that the set lacks lie in some gap
-    pub last_set_gap : result ≡ None → (left new : List X) → GivesRange n.kind left result new → (items : List (Result X AllocError)) → All (λ item. IsOkAnd item P) items → Yields (GivesRange n.kind) start items left
-        → (first past : K) → IsStretch n first past → n.order.IsAtMost (n.kind.start q) first → n.order.IsAtMost past (n.behind q) → LacksBetween first past → IsInOne n P first past
-    last_set_gap none left new step items each so_far first past s from to lacks =
-        last_gap n (with_unit n.kind set) q (gaps_of_pairs n.kind set q all are) is none left new step items each so_far first past s from to (λ x at up. none_lacked x (lacks x at up))
+  -- at its end, numbers that the set lacks lie in some gap
+  pub last_set_gap : result ≡ None → (first past : K) → IsStretch n first past → n.order.IsAtMost (n.kind.start q) first → n.order.IsAtMost past (n.behind q) → LacksBetween n set first past → IsInOne n P first past
+  last_set_gap none first past s from to lacks = last_gap n (with_unit n.kind set) q (asks_pairs n.kind set q asks) each none first past s from to (λ x at up. none_lacked n set x (lacks x at up))

@@ -1,19 +1,28 @@
 -- A map's answers, as those of the set that shows its ranges.
-use Rattle.std.proofs.Common.{◌≡◌, Bool, List, [], ◌∷◌, ℕ, zero, suc, ◌-◌, Option, option_map, slice_get, length, is_some, refl, sym, ap, subst, ◌∙◌, nat_lt}
+use Rattle.std.proofs.Common.{◌≡◌, Bool, List, [], ◌∷◌, ℕ, zero, suc, ◌-◌, Option, option_map, slice_get, length, is_some, Some, None, refl, sym, ap, subst, ◌∙◌, nat_lt}
 use Rattle.std.specs.Bool.{⊤}
+use Rattle.std.specs.Borrow.{Bor}
 use Rattle.std.specs.Hash.{HashWrites}
 use Rattle.std.specs.declared.cmp.Ordering.TheVariants.{Equal}
 use Rattle.rangemap_core.specs.Ranges.{RangeKind, IsCanonOf, IsCanonical, IsCanonOfPoints, covering, covers, erase, overlapped, override, same_pairs, same_ranges, unit_eq, value_at, with_unit}
-use Rattle.rangemap_core.specs.Appends.{Appends}
+use Rattle.rangemap_core.specs.Appends.{Appends, AppendsGaps}
 use Rattle.rangemap_core.specs.Hashes.{pairs_fed, ranges_fed}
 use Rattle.rangemap_core.specs.ListOrder.{pairs_cmp, ranges_cmp}
+use Rattle.rangemap_core.specs.operations.PlaceLaws.{HasPlaces}
+use Rattle.rangemap_core.specs.operations.Places.{RangePlaces}
+use Rattle.rangemap_core.proofs.MetLemmas.{canonical_met}
+use Rattle.rangemap_core.proofs.StoredLemmas.{non_empty_at}
 use Rattle.rangemap_core.proofs.UnitLemmas.{units_cmp, units_fed, units_same}
-use Rattle.rangemap_operations.specs.Sets.{Adds, IsCanonicalSet, TakesOut, met, range_at, ranges}
-use Rattle.rangemap_operations.proofs.UnitValueLemmas.{added, canonical_ranges, covering_covers, covering_range, points_of, ranges_met, taken_out, value_covers, with_ranges}
+use Rattle.rangemap_core.specs.Sets.{Adds, AreCommon, AreEither, IsCanonicalSet, TakesOut, met, range_at, ranges}
+use Rattle.rangemap_unions.proofs.UnitValueLemmas.{added, canonical_ranges, covering_covers, covering_range, points_of, ranges_met, taken_out, value_covers, with_ranges}
 
 module _ {K X : Type 0} (k : RangeKind K X) (ps : List (X × ⊤)) (list : List X) (is : ranges ps ≡ list) where
   pub overlapping : (q : X) (given : List (X × ⊤)) (result : List X) → given ≡ overlapped k ps q → result ≡ ranges given → result ≡ met k list q
   overlapping q given result found shown = shown ∙ ap ranges found ∙ ranges_met k ps q ∙ ap (λ rs. met k rs q) is
+
+  -- what overlaps a range is a canonical list too
+  pub overlapping_canonical : {P : Type 0} {l : RangePlaces P X} {at cut : K → P} → HasPlaces k l at cut → (q : X) (given : List (X × ⊤)) → given ≡ overlapped k ps q → IsCanonical k (unit_eq k) ps → IsCanonicalSet k (ranges given)
+  overlapping_canonical placed q given found h = subst (IsCanonicalSet k) (sym (ap ranges found ∙ ranges_met k ps q)) (canonical_met placed (ranges ps) q (canonical_ranges k ps h))
 
   length_ranges : (qs : List (X × ⊤)) → length (ranges qs) ≡ length qs
   length_ranges [] = refl
@@ -72,9 +81,28 @@ module _ {K X : Type 0} (k : RangeKind K X) (ps : List (X × ⊤)) (list : List 
   pub shown_last : (o : Option (X × ⊤)) → o ≡ slice_get ps (length ps - 1) → option_map (λ (p : X × ⊤). p.0) o ≡ slice_get list (length list - 1)
   shown_last o found = shown (length ps - 1) o found ∙ ap (λ n. slice_get list (n - 1)) (sym (length_ranges ps) ∙ ap length is)
 
+  -- what an operator makes of the ranges of two maps
+  pub united : (qs : List (X × ⊤)) (other all : List X) → ranges qs ≡ other → AreEither k (ranges ps) (ranges qs) all → AreEither k list other all
+  united qs other all it h = subst (λ rs. AreEither k rs other all) is (subst (λ rs. AreEither k (ranges ps) rs all) it h)
+
+  pub intersected : (qs : List (X × ⊤)) (other all : List X) → ranges qs ≡ other → AreCommon k (ranges ps) (ranges qs) all → AreCommon k list other all
+  intersected qs other all it h = subst (λ rs. AreCommon k rs other all) is (subst (λ rs. AreCommon k (ranges ps) rs all) it h)
+
   -- so are those that are put behind others
   pub all_with_unit : (old new : List (X × ⊤)) → Appends k (unit_eq k) ps old new → Appends k (unit_eq k) (with_unit k list) old new
   all_with_unit old new = subst (λ qs. Appends k (unit_eq k) qs old new) pairs_are
 
   pub overlapped_with_unit : (q : X) (old new : List (X × ⊤)) → Appends k (unit_eq k) (overlapped k ps q) old new → Appends k (unit_eq k) (overlapped k (with_unit k list) q) old new
   overlapped_with_unit q old new = subst (λ qs. Appends k (unit_eq k) (overlapped k qs q) old new) pairs_are
+
+  pub gaps_with_unit : (q : X) (old new : List X) → AppendsGaps k (ranges ps) q old new → AppendsGaps k (ranges (with_unit k list)) q old new
+  gaps_with_unit q old new = subst (λ qs. AppendsGaps k (ranges qs) q old new) pairs_are
+
+  -- what was found at a place is not empty
+  pub found_non_empty : IsCanonical k (unit_eq k) ps → (at : ℕ) (pair : X × ⊤) → Some pair ≡ slice_get ps at → k.IsNonEmpty pair.0
+  found_non_empty can at pair h = non_empty_at k (unit_eq k) ps ps can refl at pair h
+
+-- a pair was found where one is shown
+pub found_shown : {X V : Type 0} (found : Option (Bor X × Bor V)) (shown : Option (X × V)) → option_map (λ pair. (pair.0.now, pair.1.now)) found ≡ shown → is_some found ≡ is_some shown
+found_shown None shown h = ap is_some h
+found_shown (Some pair) shown h = ap is_some h

@@ -19,8 +19,8 @@ use Rattle.rangemap_core.specs.engine.Endpoints.{EndpointOf, IsPlaced}
 use Rattle.rangemap_core.specs.engine.PlacedKinds.{half_open_end_place}
 use Rattle.rangemap_core.specs.engine.Places.{place_cmp}
 use Rattle.rangemap_core.specs.laws.Orders.{itself}
-use Rattle.rangemap_maps.specs.ClosedEndpoints.{closed_part, closed_placed}
-use Rattle.rangemap_maps.specs.ClosedPlaces.{closed_end_place}
+use Rattle.rangemap_core.specs.engine.ClosedEndpoints.{closed_part, closed_placed}
+use Rattle.rangemap_core.specs.engine.ClosedPlaces.{closed_end_place}
 use Rattle.rangemap.specs.StepLaws.{IsSigned, int_after, int_before, int_follows, int_precedes, nat_after, nat_before, nat_follows, nat_precedes}
 
 -- ---- the order of numbers

@@ -12,8 +12,10 @@ use Rattle.rangemap_core.specs.MadeRanges.{GivesRange}
 use Rattle.rangemap_core.specs.Ranges.{AreGaps, IsCanonOf, IsCanonical, IsStorable, covering, erase, overlapped, override, value_at}
 use Rattle.rangemap_laws.specs.DefinedIn.{IsDefinedIn}
 use Rattle.rangemap_replay.specs.Histories.{IsUndefinedOn}
-use Rattle.rangemap_laws.proofs.CallerLemmas.{changes_behind, covering_holds, covering_same, defined_by_overlaps, defined_where_one_meets, exact_option, holds_start, insert_outside, insert_within, remove_outside, remove_within, undefined_by_overlaps, undefined_where_none_meets}
+use Rattle.rangemap.proofs.CallerLemmas.{exact_option, insert_outside, insert_within, remove_outside, remove_within}
+use Rattle.rangemap_laws.proofs.StoredKeyLemmas.{changes_behind, covering_holds, covering_same, defined_by_overlaps, defined_where_one_meets, holds_start, undefined_by_overlaps, undefined_where_none_meets}
 use Rattle.rangemap.proofs.GapLoopLemmas.{IsWithin, free_in_earlier, free_in_given, item_stored, item_undefined, item_within}
+use Rattle.rangemap.proofs.Loops.{AsksForGaps}
 use Rattle.rangemap.proofs.NumberKinds.{NumberKind}
 
 -- ---- values: equal ones are the same one
@@ -51,26 +53,33 @@ module _ {K X : Type 0} (n : NumberKind K X) (r : X) where
 
 -- ---- values after a change, where equal values are the same (`same_number` says so of numbers)
 
-module _ {K X V : Type 0} (n : NumberKind K X) {eq : V → V → Bool} (exact : (v w : V) → eq v w ≡ true → v ≡ w) (f : K → Option V) (r : X) (list : List (X × V)) (x : K) (key : n.kind.is_key x) where
-  module _ (v : V) (h : IsCanonOf n.kind eq (override n.kind f r v) list) where
-    pub inserted_within : n.order.IsAtMost (n.kind.start r) x → n.order.IsBelow x (n.behind r) → value_at n.kind list x ≡ Some v
-    inserted_within from to = exact_option exact (value_at n.kind list x) (Some v) (insert_within n.kind eq f r list x key v h (n.holds r x from to))
+-- After an insert of the value v for the range r: a number of the range has the value, and any other
+-- what the function f gave it.
+pub record IsInserted {K X V : Type 0} (n : NumberKind K X) (f : K → Option V) (r : X) (v : V) (list : List (X × V)) : Type 0 where
+  pub within : (x : K) → n.kind.is_key x → n.order.IsAtMost (n.kind.start r) x → n.order.IsBelow x (n.behind r) → value_at n.kind list x ≡ Some v
+  pub before : (x : K) → n.kind.is_key x → n.order.IsBelow x (n.kind.start r) → value_at n.kind list x ≡ f x
+  pub behind : (x : K) → n.kind.is_key x → n.order.IsAtMost (n.behind r) x → value_at n.kind list x ≡ f x
 
-    pub inserted_before : n.order.IsBelow x (n.kind.start r) → value_at n.kind list x ≡ f x
-    inserted_before below = exact_option exact (value_at n.kind list x) (f x) (insert_outside n.kind eq f r list x key v h (not_before n r x below))
+pub inserted : {K X V : Type 0} (n : NumberKind K X) {eq : V → V → Bool} → ((v w : V) → eq v w ≡ true → v ≡ w) → {f : K → Option V} (r : X) {v : V} {list : List (X × V)} → IsCanonOf n.kind eq (override n.kind f r v) list → IsInserted n f r v list
+inserted n {eq} exact {f} r {v} {list} h = record {
+  within = λ x key from to. exact_option exact (value_at n.kind list x) (Some v) (insert_within n.kind eq f r list x key v h (n.holds r x from to));
+  before = λ x key below. exact_option exact (value_at n.kind list x) (f x) (insert_outside n.kind eq f r list x key v h (not_before n r x below));
+  behind = λ x key past. exact_option exact (value_at n.kind list x) (f x) (insert_outside n.kind eq f r list x key v h (not_behind n r x past));
+}
 
-    pub inserted_behind : n.order.IsAtMost (n.behind r) x → value_at n.kind list x ≡ f x
-    inserted_behind past = exact_option exact (value_at n.kind list x) (f x) (insert_outside n.kind eq f r list x key v h (not_behind n r x past))
+-- After a removal of the range r: a number of the range has no value, and any other what the function f
+-- gave it.
+pub record IsRemoved {K X V : Type 0} (n : NumberKind K X) (f : K → Option V) (r : X) (list : List (X × V)) : Type 0 where
+  pub within : (x : K) → n.kind.is_key x → n.order.IsAtMost (n.kind.start r) x → n.order.IsBelow x (n.behind r) → value_at n.kind list x ≡ None
+  pub before : (x : K) → n.kind.is_key x → n.order.IsBelow x (n.kind.start r) → value_at n.kind list x ≡ f x
+  pub behind : (x : K) → n.kind.is_key x → n.order.IsAtMost (n.behind r) x → value_at n.kind list x ≡ f x
 
-  module _ (h : IsCanonOf n.kind eq (erase n.kind f r) list) where
-    pub removed_within : n.order.IsAtMost (n.kind.start r) x → n.order.IsBelow x (n.behind r) → value_at n.kind list x ≡ None
-    removed_within from to = remove_within n.kind eq f r list x key h (n.holds r x from to)
-
-    pub removed_before : n.order.IsBelow x (n.kind.start r) → value_at n.kind list x ≡ f x
-    removed_before below = exact_option exact (value_at n.kind list x) (f x) (remove_outside n.kind eq f r list x key h (not_before n r x below))
-
-    pub removed_behind : n.order.IsAtMost (n.behind r) x → value_at n.kind list x ≡ f x
-    removed_behind past = exact_option exact (value_at n.kind list x) (f x) (remove_outside n.kind eq f r list x key h (not_behind n r x past))
+pub removed : {K X V : Type 0} (n : NumberKind K X) {eq : V → V → Bool} → ((v w : V) → eq v w ≡ true → v ≡ w) → {f : K → Option V} (r : X) {list : List (X × V)} → IsCanonOf n.kind eq (erase n.kind f r) list → IsRemoved n f r list
+removed n {eq} exact {f} r {list} h = record {
+  within = λ x key from to. remove_within n.kind eq f r list x key h (n.holds r x from to);
+  before = λ x key below. exact_option exact (value_at n.kind list x) (f x) (remove_outside n.kind eq f r list x key h (not_before n r x below));
+  behind = λ x key past. exact_option exact (value_at n.kind list x) (f x) (remove_outside n.kind eq f r list x key h (not_behind n r x past));
+}
 
 -- ---- the stored range that has a number
 
@@ -209,14 +218,11 @@ module _ {K X V : Type 0} (n : NumberKind K X) (list : List (X × V)) (q : X) (a
         earlier = λ first past s from to free below. in_earlier first past s from to free item gap some ok below;
       }
 
-module _ {K X V : Type 0} (n : NumberKind K X) (list : List (X × V)) (q : X) {all start : List X} {result : Option (Result X AllocError)} {P : X → Type 0}
-    (are : AreGaps n.kind (map (λ pair. pair.0) list) q all) (is : start ≡ all) where
+module _ {K X V : Type 0} (n : NumberKind K X) (list : List (X × V)) (q : X) {items : List (Result X AllocError)} {result : Option (Result X AllocError)} (asks : AsksForGaps n.kind (map (λ pair. pair.0) list) q items result) {P : X → Type 0} (each : All (λ item. IsOkAnd item P) items) where
   -- a gap that such a loop is given
-  pub next_gap : {item : Result X AllocError} {gap : X} → result ≡ Some item → item ≡ Ok gap → (left new : List X) → GivesRange n.kind left result new → (items : List (Result X AllocError)) → All (λ item. IsOkAnd item P) items → Yields (GivesRange n.kind) start items left
-      → IsNextGap n list q P gap
-  next_gap some ok left new step items each so_far = the_next n list q all start items left new result are is so_far step P each some ok
+  pub next_gap : {item : Result X AllocError} {gap : X} → (result ≡ Some item) × (item ≡ Ok gap) → IsNextGap n list q P gap
+  next_gap given = let a = asks.asks in the_next n list q asks.all a.start items a.left a.new result asks.are a.is a.so_far a.step P each given.0 given.1
 
   -- at its end, numbers without a value lie in some gap
-  pub last_gap : result ≡ None → (left new : List X) → GivesRange n.kind left result new → (items : List (Result X AllocError)) → All (λ item. IsOkAnd item P) items → Yields (GivesRange n.kind) start items left
-      → (first past : K) → IsStretch n first past → n.order.IsAtMost (n.kind.start q) first → n.order.IsAtMost past (n.behind q) → IsFreeBetween n list first past → IsInOne n P first past
-  last_gap none left new step items each so_far first past s from to free = in_last n list q all start items left new result are is so_far step P each first past s from to free none
+  pub last_gap : result ≡ None → (first past : K) → IsStretch n first past → n.order.IsAtMost (n.kind.start q) first → n.order.IsAtMost past (n.behind q) → IsFreeBetween n list first past → IsInOne n P first past
+  last_gap none first past s from to free = let a = asks.asks in in_last n list q asks.all a.start items a.left a.new result asks.are a.is a.so_far a.step P each first past s from to free none

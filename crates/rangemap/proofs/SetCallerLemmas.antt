@@ -1,7 +1,6 @@
 -- For callers: what the contracts of the sets say key by key, and loops over the gaps of a set.
 use Rattle.std.proofs.Common.{◌≡◌, ℕ, ◌<◌, Bool, true, false, not, ◌&&◌, ◌||◌, cond, List, [], ◌∷◌, ◌++◌, map, Option, Some, None, is_some, Result, Ok, refl, sym, ap, subst, ◌∙◌, true≢false, arith, inl, inr}
 use Rattle.std.proofs.Math.Bool.{or-false}
-use Rattle.std.specs.Iterator.{Yields}
 use Rattle.std.specs.List.{find}
 use Rattle.std.specs.Option.{option_eq}
 use Rattle.std.specs.Ordering.{nat_cmp}
@@ -10,40 +9,41 @@ use Rattle.std.specs.Cmp.{nat_cmp_total}
 use Rattle.std.specs.declared.alloc.AllocError.{AllocError}
 use Rattle.std.specs.declared.ops.RangeInclusive.{RangeInclusive}
 use Rattle.rangemap_core.specs.Ranges.{RangeKind, AreGaps, IsCanonOf, closed, covers, same_ranges, unit_eq, value_at, with_unit}
-use Rattle.rangemap_core.specs.MadeRanges.{GivesRange}
 use Rattle.rangemap_core.specs.engine.Endpoints.{IsPlaced, EndpointOf}
-use Rattle.rangemap_maps.specs.ClosedEndpoints.{closed_part, closed_placed}
-use Rattle.rangemap_maps.specs.ClosedPlaces.{closed_end_place}
-use Rattle.rangemap_operations.specs.Sets.{Adds, AreCommon, AreEither, IsCanonicalSet, TakesOut, range_at}
-use Rattle.rangemap_operations.proofs.UnitValueLemmas.{adds_last, covers_one, points_of, ranges_with}
+use Rattle.rangemap_core.specs.engine.ClosedEndpoints.{closed_part, closed_placed}
+use Rattle.rangemap_core.specs.engine.ClosedPlaces.{closed_end_place}
+use Rattle.rangemap_core.specs.Sets.{Adds, AreCommon, AreEither, IsCanonicalSet, TakesOut, range_at}
+use Rattle.rangemap_unions.proofs.UnitValueLemmas.{adds_last, covers_one, points_of, ranges_with}
 use Rattle.rangemap.specs.CharLaws.{IsChar, char_after, char_before, char_follows, char_precedes}
-use Rattle.rangemap_operations.specs.Operators.{common, either}
-use Rattle.rangemap_operations.specs.UnitPairs.{same_with_unit}
-use Rattle.rangemap_laws.proofs.CallerLemmas.{holds_start, same_function}
+use Rattle.rangemap_core.specs.Operators.{common, either}
+use Rattle.rangemap_core.specs.laws.UnitPairs.{same_with_unit}
+use Rattle.rangemap.proofs.CallerLemmas.{same_function}
+use Rattle.rangemap_laws.proofs.StoredKeyLemmas.{holds_start}
 use Rattle.rangemap.proofs.GapLoopLemmas.{gaps_collected}
+use Rattle.rangemap.proofs.Loops.{AsksForGaps}
 use Rattle.rangemap.proofs.NumberKinds.{NumberKind}
 use Rattle.rangemap.proofs.NumberLemmas.{IsRun, run_found}
-use Rattle.rangemap_operations.proofs.OperatorLemmas.{common_some, either_some}
-use Rattle.rangemap_operations.proofs.SetLemmas.{copied, pair_found, valued_where_covered}
+use Rattle.rangemap_unions.proofs.OperatorLemmas.{common_some, either_some}
+use Rattle.rangemap_unions.proofs.SetLemmas.{copied, pair_found, valued_where_covered}
 use Rattle.rangemap.proofs.SetRoundTripLemmas.{unit_equiv}
 
 -- ---- keys of a set
 
 module _ {K X : Type 0} (k : RangeKind K X) where
-  module _ (old new : List X) (r : X) (x : K) (key : k.is_key x) where
+  module _ (old new : List X) (r : X) where
     -- after an insert, a key of the range is in the set, and any other as before
-    pub added_within : Adds k old (r ∷ []) new → k.holds r x ≡ true → covers k new x ≡ true
-    added_within h e = h.points x key ∙ ap (λ b. b || covers k old x) (covers_one k r x ∙ e)
+    pub added_within : Adds k old (r ∷ []) new → (x : K) → k.is_key x → k.holds r x ≡ true → covers k new x ≡ true
+    added_within h x key e = h.points x key ∙ ap (λ b. b || covers k old x) (covers_one k r x ∙ e)
 
-    pub added_outside : Adds k old (r ∷ []) new → k.holds r x ≡ false → covers k new x ≡ covers k old x
-    added_outside h e = h.points x key ∙ ap (λ b. b || covers k old x) (covers_one k r x ∙ e)
+    pub added_outside : Adds k old (r ∷ []) new → (x : K) → k.is_key x → k.holds r x ≡ false → covers k new x ≡ covers k old x
+    added_outside h x key e = h.points x key ∙ ap (λ b. b || covers k old x) (covers_one k r x ∙ e)
 
     -- after a remove, a key of the range is not, and any other as before
-    pub taken_within : TakesOut k old r new → k.holds r x ≡ true → covers k new x ≡ false
-    taken_within h e = h.points x key ∙ ap (λ b. not b && covers k old x) e
+    pub taken_within : TakesOut k old r new → (x : K) → k.is_key x → k.holds r x ≡ true → covers k new x ≡ false
+    taken_within h x key e = h.points x key ∙ ap (λ b. not b && covers k old x) e
 
-    pub taken_outside : TakesOut k old r new → k.holds r x ≡ false → covers k new x ≡ covers k old x
-    taken_outside h e = h.points x key ∙ ap (λ b. not b && covers k old x) e
+    pub taken_outside : TakesOut k old r new → (x : K) → k.is_key x → k.holds r x ≡ false → covers k new x ≡ covers k old x
+    taken_outside h x key e = h.points x key ∙ ap (λ b. not b && covers k old x) e
 
   module _ (ps qs rs : List X) where
     -- what the operators give, as `Combine` says it
@@ -72,12 +72,12 @@ module _ {K X : Type 0} (k : RangeKind K X) where
   given_last [] r = refl
   given_last (s ∷ taken) r = ap (λ items. Ok s ∷ items) (given_last taken r)
 
-  pub one_more_inserted : (items : List (Result X AllocError)) (old new : List X) (item : Result X AllocError) (r : X) → AreInserted k items old → item ≡ Ok r → Adds k old (r ∷ []) new → AreInserted k (items ++ item ∷ []) new
-  one_more_inserted items old new item r h ok added = record {
-    taken = h.taken ++ r ∷ [];
-    is = ap (λ xs. xs ++ item ∷ []) h.is ∙ ap (λ one. given h.taken ++ one ∷ []) ok ∙ given_last h.taken r;
-    made = adds_last k [] old new h.taken r h.made added;
-  }
+pub one_more_inserted : {K X : Type 0} {k : RangeKind K X} {items : List (Result X AllocError)} {old new : List X} {item : Result X AllocError} {r : X} → AreInserted k items old → item ≡ Ok r → Adds k old (r ∷ []) new → AreInserted k (items ++ item ∷ []) new
+one_more_inserted {k = k} {items} {old} {new} {item} {r} h ok added = record {
+  taken = h.taken ++ r ∷ [];
+  is = ap (λ xs. xs ++ item ∷ []) h.is ∙ ap (λ one. given k h.taken ++ one ∷ []) ok ∙ given_last k h.taken r;
+  made = adds_last k [] old new h.taken r h.made added;
+}
 
 module _ {K X : Type 0} {k : RangeKind K X} {end_place : X → Option K} {part : EndpointOf X → EndpointOf X → X} (p : IsPlaced k end_place part) where
   -- ---- one list a set of keys
@@ -110,23 +110,18 @@ module _ {K X : Type 0} {k : RangeKind K X} {end_place : X → Option K} {part :
       in_none true false h f = true≢false (sym (f refl))
       in_none false c h f = true≢false (sym h)
 
-  -- A loop over the gaps `all` of the range q, as `for gap in set.gaps(&q)`. It was given `items`,
-  -- and `left` is still to come when it asks again: the answer is `result`, after which `new` is
-  -- to come.
-  module _ (set : List X) (q : X) (all start : List X) (items : List (Result X AllocError)) (left new : List X) (result : Option (Result X AllocError))
-      (are : AreGaps k set q all) (is : start ≡ all) (so_far : Yields (GivesRange k) start items left) (step : GivesRange k left result new) where
-    -- at the end the items are the gaps
-    pub set_gaps_collected : (collected : List X) → items ≡ map Ok collected → result ≡ None → AreGaps k set q collected
-    set_gaps_collected collected alike none =
-        subst (λ rs. AreGaps k rs q collected) (ranges_with k set)
-        (gaps_collected p (with_unit k set) q all start items left new result (subst (λ rs. AreGaps k rs q all) (sym (ranges_with k set)) are) is so_far step collected alike none)
+-- A loop over the gaps `all` of the range q, as `for gap in set.gaps(&q)`.
+module _ {K X : Type 0} {k : RangeKind K X} {end_place : X → Option K} {part : EndpointOf X → EndpointOf X → X} (p : IsPlaced k end_place part) (set : List X) (q : X) {items : List (Result X AllocError)} {result : Option (Result X AllocError)} (asks : AsksForGaps k set q items result) where
+  -- at the end the items are the gaps
+  pub set_gaps_collected : {collected : List X} → items ≡ map Ok collected → result ≡ None → AreGaps k set q collected
+  set_gaps_collected {collected} alike none = subst (λ rs. AreGaps k rs q collected) (ranges_with k set) (gaps_collected p (with_unit k set) q (record { all = asks.all; are = subst (λ rs. AreGaps k rs q asks.all) (sym (ranges_with k set)) asks.are; asks = asks.asks }) alike none)
 
-    -- so is a set into which they were inserted
-    pub gaps_inserted : (made : List X) → AreInserted k items made → result ≡ None → AreGaps k set q made
-    gaps_inserted made h none = record {
-      canonical = h.made.canonical;
-      points = λ x key. h.made.points x key ∙ or-false (covers k h.taken x) ∙ (set_gaps_collected h.taken h.is none).points x key;
-    }
+  -- so is a set into which they were inserted
+  pub gaps_inserted : {made : List X} → AreInserted k items made → result ≡ None → AreGaps k set q made
+  gaps_inserted h none = record {
+    canonical = h.made.canonical;
+    points = λ x key. h.made.points x key ∙ or-false (covers k h.taken x) ∙ (set_gaps_collected h.is none).points x key;
+  }
 
 -- ---- the stored range that has a number, as `get` gives it
 

@@ -1,6 +1,7 @@
 -- A set's keys after a change, as one equation of truth values over plain numbers, and the first gap of a range without a loop.
-use Rattle.std.proofs.Common.{◌≡◌, ◌<◌, ◌≤◌, ◌+◌, ◌&&◌, ◌||◌, ◌⊎◌, inl, inr, ℕ, List, [], ◌∷◌, ◌++◌, Bool, true, false, Option, Some, None, Result, Ok, IsOkAnd, map, cond, is_some, nat_le, nat_lt, not, arith, ap, ◌∙◌, sym, refl, subst}
+use Rattle.std.proofs.Common.{◌≡◌, ◌<◌, ◌≤◌, ◌+◌, ◌&&◌, ◌||◌, ◌⊎◌, inl, inr, ℕ, List, [], ◌∷◌, ◌++◌, Bool, true, false, Option, Some, None, Result, Ok, IsOkAnd, map, cond, is_some, length, take, get_or, nat_le, nat_lt, not, arith, ap, ◌∙◌, sym, refl, subst}
 use Rattle.std.proofs.lemmas.Bool.Decides.{nat_tests}
+use Rattle.std.proofs.lemmas.List.{take_more}
 use Rattle.std.proofs.lemmas.List.Elements.{All-nil}
 use Rattle.std.specs.List.{find}
 use Rattle.std.specs.Ordering.{nat_cmp}
@@ -8,9 +9,9 @@ use Rattle.std.specs.Range.{range_inclusive_end, range_inclusive_start}
 use Rattle.std.specs.declared.alloc.AllocError.{AllocError}
 use Rattle.std.specs.declared.ops.Range.{Range}
 use Rattle.std.specs.declared.ops.RangeInclusive.{RangeInclusive}
-use Rattle.rangemap.specs.Ranges.{AreGaps, RangeKind, closed, covers, half_open, value_at}
-use Rattle.rangemap.specs.MadeRanges.{GivesRange}
+use Rattle.rangemap.specs.Ranges.{RangeKind, closed, covers, half_open, value_at}
 use Rattle.rangemap.specs.Sets.{Adds, TakesOut}
+use Rattle.rangemap.proofs.Loops.{AsksForGaps}
 use Rattle.rangemap.proofs.NumberKinds.{closed_unsigned, half_open_unsigned}
 use Rattle.rangemap.proofs.NumberLemmas.{IsFreeBetween, last_gap, next_gap, not_before, not_behind}
 
@@ -73,18 +74,41 @@ module _ {K X : Type 0} (k : RangeKind K X) where
   covers_append (r ∷ rs) ss x = one_of r (k.holds r x) (find (λ s. k.holds s x) rs) (find (λ s. k.holds s x) (rs ++ ss)) (covers k ss x) (covers_append rs ss x)
 
 -- what a set of numbers covers after an insert of `a..b`
-pub added_between : (old new : List (Range ℕ)) (r : Range ℕ) (x : ℕ) → Adds (half_open nat_cmp) old (r ∷ []) new → covers (half_open nat_cmp) new x ≡ (covers (half_open nat_cmp) old x || (nat_le r.start x && nat_lt x r.end))
-added_between old new r x adds = added (half_open nat_cmp) old new r x tt adds ∙ ap (λ b. covers (half_open nat_cmp) old x || b) (half_open_test r x)
+pub added_between : (old new : List (Range ℕ)) (r : Range ℕ) → Adds (half_open nat_cmp) old (r ∷ []) new → (x : ℕ) → covers (half_open nat_cmp) new x ≡ (covers (half_open nat_cmp) old x || (nat_le r.start x && nat_lt x r.end))
+added_between old new r adds x = added (half_open nat_cmp) old new r x tt adds ∙ ap (λ b. covers (half_open nat_cmp) old x || b) (half_open_test r x)
 
 -- what a set of numbers covers after a removal of `a..b`
-pub taken_between : (old new : List (Range ℕ)) (r : Range ℕ) (x : ℕ) → TakesOut (half_open nat_cmp) old r new → covers (half_open nat_cmp) new x ≡ (covers (half_open nat_cmp) old x && not (nat_le r.start x && nat_lt x r.end))
-taken_between old new r x takes = taken (half_open nat_cmp) old new r x tt takes ∙ ap (λ b. covers (half_open nat_cmp) old x && not b) (half_open_test r x)
+pub taken_between : (old new : List (Range ℕ)) (r : Range ℕ) → TakesOut (half_open nat_cmp) old r new → (x : ℕ) → covers (half_open nat_cmp) new x ≡ (covers (half_open nat_cmp) old x && not (nat_le r.start x && nat_lt x r.end))
+taken_between old new r takes x = taken (half_open nat_cmp) old new r x tt takes ∙ ap (λ b. covers (half_open nat_cmp) old x && not b) (half_open_test r x)
 
--- what a set of numbers covers after an insert of `a..=b`
-pub added_closed : (bound : ℕ) (old new : List (RangeInclusive ℕ)) (r : RangeInclusive ℕ) {first last : ℕ} (x : ℕ) → x < bound → Adds (closed (λ y. y < bound) nat_cmp) old (r ∷ []) new → range_inclusive_start r ≡ first → range_inclusive_end r ≡ last → covers (closed (λ y. y < bound) nat_cmp) new x ≡ (covers (closed (λ y. y < bound) nat_cmp) old x || (nat_le first x && nat_le x last))
-added_closed bound old new r {first = first} {last = last} x key adds starts ends =
+-- the range `first..=last`
+abbrev pub IsFromTo : ℕ → ℕ → RangeInclusive ℕ → Type 0
+IsFromTo first last r = (range_inclusive_start r ≡ first) × (range_inclusive_end r ≡ last)
+
+-- what a set of numbers covers after an insert of `first..=last`
+pub added_closed : (bound : ℕ) (old new : List (RangeInclusive ℕ)) {first last : ℕ} (r : RangeInclusive ℕ) → IsFromTo first last r → Adds (closed (λ y. y < bound) nat_cmp) old (r ∷ []) new → (x : ℕ) → x < bound → covers (closed (λ y. y < bound) nat_cmp) new x ≡ (covers (closed (λ y. y < bound) nat_cmp) old x || (nat_le first x && nat_le x last))
+added_closed bound old new {first} {last} r ends adds x key =
     added (closed (λ y. y < bound) nat_cmp) old new r x key adds
-    ∙ ap (λ b. covers (closed (λ y. y < bound) nat_cmp) old x || b) (closed_test bound r x ∙ ap (λ a. nat_le a x && nat_le x (range_inclusive_end r)) starts ∙ ap (λ a. nat_le first x && nat_le x a) ends)
+    ∙ ap (λ b. covers (closed (λ y. y < bound) nat_cmp) old x || b) (closed_test bound r x ∙ ap (λ a. nat_le a x && nat_le x (range_inclusive_end r)) ends.0 ∙ ap (λ a. nat_le first x && nat_le x a) ends.1)
+
+-- what the first ranges of a list cover, by one more of them, as a loop over a slice of ranges goes
+pub covers_more : (ranges : List (Range ℕ)) (i : ℕ) (d : Range ℕ) → i < length ranges → (x : ℕ) → covers (half_open nat_cmp) (take (i + 1) ranges) x ≡ (covers (half_open nat_cmp) (take i ranges) x || (nat_le (get_or ranges i d).start x && nat_lt x (get_or ranges i d).end))
+covers_more ranges i d l x =
+    let r = get_or ranges i d in
+    ap (λ rs. covers (half_open nat_cmp) rs x) (take_more ranges i d l)
+    ∙ covers_append (half_open nat_cmp) (take i ranges) (r ∷ []) x
+    ∙ ap (λ b. covers (half_open nat_cmp) (take i ranges) x || b) (alone_covers (half_open_test r x))
+  where
+    alone_covers : {b : Bool} → (half_open nat_cmp).holds (get_or ranges i d) x ≡ b → covers (half_open nat_cmp) (get_or ranges i d ∷ []) x ≡ b
+    alone_covers {b} h = go ((half_open nat_cmp).holds (get_or ranges i d) x) refl ∙ h
+      where
+        go : (t : Bool) → (half_open nat_cmp).holds (get_or ranges i d) x ≡ t → covers (half_open nat_cmp) (get_or ranges i d ∷ []) x ≡ (half_open nat_cmp).holds (get_or ranges i d) x
+        go true e = ap (λ t. is_some (cond t (Some (get_or ranges i d)) None)) e ∙ sym e
+        go false e = ap (λ t. is_some (cond t (Some (get_or ranges i d)) None)) e ∙ sym e
+
+-- a turn of a loop that adds such ranges to a set: what the set had, and the ranges so far, make it up
+pub one_more_added : (old before here : Bool) {now more new : Bool} → now ≡ (old || before) → more ≡ (before || here) → new ≡ (now || here) → new ≡ (old || more)
+one_more_added old before here h i j = grind (arith, h, i, j)
 
 -- ---- the first gap of a range whose first number is free
 
@@ -92,22 +116,22 @@ alone : {V : Type 0} (list : List (Range ℕ × V)) (at : ℕ) → value_at (hal
 alone {V} list at bare x from to = let same : at ≡ x = omega arith in let P : ℕ → Type 0 = λ y. value_at (half_open nat_cmp) list y ≡ None in subst P same bare
 
 -- the gap begins there, and reaches up to a number that has a value, or up to the range's end
-pub record IsFirstGap {V : Type 0} (list : List (Range ℕ × V)) (from to : ℕ) (gap : Range ℕ) : Type 0 where
-  pub starts : gap.start ≤ from
-  pub forward : from < gap.end
-  pub within : gap.end ≤ to
-  pub free : (x : ℕ) → from ≤ x → x < gap.end → value_at (half_open nat_cmp) list x ≡ None
+pub record IsFirstGap {V : Type 0} (list : List (Range ℕ × V)) (q : Range ℕ) (gap : Range ℕ) : Type 0 where
+  pub starts : gap.start ≤ q.start
+  pub forward : q.start < gap.end
+  pub within : gap.end ≤ q.end
+  pub free : (x : ℕ) → q.start ≤ x → x < gap.end → value_at (half_open nat_cmp) list x ≡ None
 
 not_above : (a b : ℕ) → (a < b → ⊥) → b ≤ a
 not_above a b h = grind arith
 
-module _ {V : Type 0} (list : List (Range ℕ × V)) (from to : ℕ) {all : List (Range ℕ)} (left new : List (Range ℕ)) {result : Option (Result (Range ℕ) AllocError)} (are : AreGaps (half_open nat_cmp) (map (λ pair. pair.0) list) (record { start = from; end = to }) all) (is : left ≡ all) (step : GivesRange (half_open nat_cmp) left result new) (forward : from < to) (bare : value_at (half_open nat_cmp) list from ≡ None) where
-  -- the first gap of a range whose first number has no value
-  pub first_gap : {item : Result (Range ℕ) AllocError} {gap : Range ℕ} → result ≡ Some item → item ≡ Ok gap → IsFirstGap list from to gap
-  first_gap {item} {gap} some ok =
-      let next = next_gap half_open_unsigned list (record { start = from; end = to }) {P = λ gap. ⊥} are is some ok left new step [] (All-nil (λ item. IsOkAnd item (λ gap. ⊥))) refl in
-      let above : from < gap.start → ⊥ = λ below. (next.earlier from (from + 1) (record { forward = omega arith; first_is_key = tt; last_is_key = tt }) (omega arith) (omega arith) (alone list from bare) below).kept in
-      let at : gap.start ≤ from = not_above from gap.start above in
+module _ {V : Type 0} (list : List (Range ℕ × V)) (q : Range ℕ) {result : Option (Result (Range ℕ) AllocError)} (asks : AsksForGaps (half_open nat_cmp) (map (λ pair. pair.0) list) q [] result) where
+  -- of half-open ranges: the first gap of a range whose first number has no value
+  pub first_gap : {item : Result (Range ℕ) AllocError} {gap : Range ℕ} → (result ≡ Some item) × (item ≡ Ok gap) → q.start < q.end → value_at (half_open nat_cmp) list q.start ≡ None → IsFirstGap list q gap
+  first_gap {item} {gap} given forward bare =
+      let next = next_gap half_open_unsigned list q asks (All-nil (λ item. IsOkAnd item (λ gap. ⊥))) given in
+      let above : q.start < gap.start → ⊥ = λ below. (next.earlier q.start (q.start + 1) (record { forward = omega arith; first_is_key = tt; last_is_key = tt }) (omega arith) (omega (arith, forward)) (alone list q.start bare) below).kept in
+      let at : gap.start ≤ q.start = not_above q.start gap.start above in
       record {
         starts = at;
         forward = omega (arith, next.from, next.forward);
@@ -115,7 +139,6 @@ module _ {V : Type 0} (list : List (Range ℕ × V)) (from to : ℕ) {all : List
         free = λ x low high. next.free x (omega (arith, at, low)) high;
       }
 
-  -- a range whose first number has no value has a gap
-  pub some_gap : result ≡ None → ⊥
-  some_gap none =
-      (last_gap half_open_unsigned list (record { start = from; end = to }) {P = λ gap. ⊥} are is none left new step [] (All-nil (λ item. IsOkAnd item (λ gap. ⊥))) refl from (from + 1) (record { forward = omega arith; first_is_key = tt; last_is_key = tt }) (omega arith) (omega arith) (alone list from bare)).kept
+  -- of half-open ranges: a range whose first number has no value has a gap
+  pub some_gap : result ≡ None → q.start < q.end → value_at (half_open nat_cmp) list q.start ≡ None → ⊥
+  some_gap none forward bare = (last_gap half_open_unsigned list q asks (All-nil (λ item. IsOkAnd item (λ gap. ⊥))) none q.start (q.start + 1) (record { forward = omega arith; first_is_key = tt; last_is_key = tt }) (omega arith) (omega (arith, forward)) (alone list q.start bare)).kept

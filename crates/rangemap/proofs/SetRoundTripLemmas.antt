@@ -11,8 +11,8 @@ use Rattle.rangemap_core.specs.engine.Endpoints.{EndpointOf, IsPlaced}
 use Rattle.rangemap_core.proofs.OwnPairLemmas.{drained}
 use Rattle.rangemap_core.proofs.UniquenessLemmas.{canon_unique}
 use Rattle.rangemap_core.proofs.UnitLemmas.{units_same}
-use Rattle.rangemap_operations.specs.Sets.{AreNonEmptyRanges, GivesNonEmptyRanges, IsCanonicalSet}
-use Rattle.rangemap_operations.proofs.UnitValueLemmas.{canon_of, ranges_with, value_covers}
+use Rattle.rangemap_core.specs.Sets.{AreNonEmptyRanges, GivesNonEmptyRanges, IsCanonicalSet}
+use Rattle.rangemap_unions.proofs.UnitValueLemmas.{canon_of, ranges_with, value_covers}
 
 module _ {K X : Type 0} (k : RangeKind K X) where
   pub unit_equiv : IsEquivalence (unit_eq k)

@@ -1,21 +1,22 @@
+-- The words of the contracts, by the name of the crate that users list.
 pub use Rattle.rangemap_core.specs.Ranges
 pub use Rattle.rangemap_core.specs.Clones
 pub use Rattle.rangemap_core.specs.NonEmptyPairs
 pub use Rattle.rangemap_core.specs.ListOrder
 pub use Rattle.rangemap_core.specs.Hashes
-pub use Rattle.rangemap_formats.specs.Texts
 pub use Rattle.rangemap_core.specs.MadeRanges
+pub use Rattle.rangemap_core.specs.Operators
 pub use Rattle.rangemap_core.specs.Segments
+pub use Rattle.rangemap_core.specs.Sets
 pub use Rattle.rangemap_formats.specs.Json
-pub use Rattle.rangemap_operations.specs.Sets
+pub use Rattle.rangemap_formats.specs.Texts
 pub use Rattle.rangemap_steps.specs.Steps
 pub use Rattle.rangemap_steps.specs.StepLaws
 pub use Rattle.rangemap_steps.specs.CharLaws
 pub use Rattle.rangemap_replay.specs.Histories
+pub use Rattle.rangemap_replay.specs.SetHistories
 pub use Rattle.rangemap_laws.specs.DefinedIn
 pub use Rattle.rangemap_laws.specs.GapPartition
 pub use Rattle.rangemap_laws.specs.SmallLists
-pub use Rattle.rangemap_operations.specs.Operators
-pub use Rattle.rangemap_replay.specs.SetHistories
 pub use Rattle.rangemap_laws.specs.IteratorEnds
 pub use Rattle.rangemap_laws.specs.Runs

@@ -1,12 +1,83 @@
 //! The map over closed ranges, and the runs of any calls that make or change such maps.
 
-pub use rangemap_maps::inclusive_map::{Gaps, IntoIter, Iter, Overlapping, RangeInclusiveMap};
+use rangemap_core::closed::Closed;
+pub use rangemap_maps::range_map::Map;
 use rangemap_replay::calls;
 pub use rangemap_replay::replay::{replay, replay as replay_with_step_fns};
+use rangemap_sorted::{SortedVec, gaps, into_iter, iter, overlapping};
+use std::alloc::Global;
 use std::ops::RangeInclusive;
 
+/// A map of disjoint closed ranges, `a..=b`, to values, which joins ranges that touch and have equal
+/// values: those that touch have no key between. `StepFnsT` is the type whose steps tell that,
+/// mostly `K` itself. It keeps them in one sorted vector.
+///
+/// Those calls that take or give whole pairs and the texts exist where `StepFnsT` is `K`, and so does
+/// `new`. The range of an `insert` or a `remove` is not empty, `range.start() <= range.end()`, and was
+/// not iterated to its end.
+///
+/// # Examples
+///
+/// ```text
+/// let mut map = RangeInclusiveMap::new(alloc);
+/// map.insert(0..=10, 1)?;
+/// map.insert(3..=6, 2)?;
+/// map.insert(200..=255, 3)?;
+/// ```
+///
+/// Of keys that are `u8` the map has 2 at 3 to 6 then, 1 at the others up to 10, and 3 from 200 on,
+/// 255 too.
+///
+/// # Calls
+///
+/// ```text
+/// new(alloc: A) -> Self
+/// new_with_step_fns(alloc: A) -> Self
+/// from<const N: usize>(alloc: A, value: [(RangeInclusive<K>, V); N]) -> Result<Self, AllocError>
+/// from_iter<I: IntoIterator<Item = (RangeInclusive<K>, V)>>(alloc: A, iter: I) -> Result<Self, AllocError>
+/// insert(&mut self, range: RangeInclusive<K>, value: V) -> Result<(), AllocError>
+/// remove(&mut self, range: RangeInclusive<K>) -> Result<(), AllocError>
+/// extend<I: IntoIterator<Item = (RangeInclusive<K>, V)>>(&mut self, iter: I) -> Result<(), AllocError>
+/// clear(&mut self)
+/// clone(&self) -> Result<Self, AllocError>
+/// get(&self, key: &K) -> Option<&V>
+/// get_key_value(&self, key: &K) -> Option<(&RangeInclusive<K>, &V)>
+/// contains_key(&self, key: &K) -> bool
+/// first_range_value(&self) -> Option<(&RangeInclusive<K>, &V)>
+/// last_range_value(&self) -> Option<(&RangeInclusive<K>, &V)>
+/// len(&self) -> usize
+/// is_empty(&self) -> bool
+/// known(&self)
+/// allocator(&self) -> &A
+/// iter(&self) -> Iter<'_, K, V>
+/// into_iter(self) -> IntoIter<K, V, A>
+/// overlapping(&self, range: &RangeInclusive<K>) -> Overlapping<'_, K, V>
+/// overlaps(&self, range: &RangeInclusive<K>) -> bool
+/// gaps(&self, outer_range: &RangeInclusive<K>) -> Gaps<'_, K, V, StepFnsT>
+/// to_value(&self, alloc: Global, write_key, write_value) -> Result<Value, WriteError<E>>
+/// from_value(alloc: A, form: Form, value: &Value, read_key, read_value) -> Result<Self, ReadError<E>>
+/// ```
+///
+/// Each is described, with its contract, at `Map`; with `==`, the orders, `Hash` and `{:?}` beside.
+pub type RangeInclusiveMap<K, V, StepFnsT = K, A = Global> = Map<
+    SortedVec<Closed<StepFnsT>, RangeInclusive<K>, V, A>,
+>;
+
+/// The pairs of a map, in order and from both ends.
+pub type Iter<'a, K, V> = iter::Iter<'a, RangeInclusive<K>, V>;
+
+/// The pairs that a map hands over, in order and from both ends.
+pub type IntoIter<K, V, A = Global> = into_iter::IntoIter<RangeInclusive<K>, V, A>;
+
+/// The pairs of a map that overlap a range, in order and from both ends. The first `next_back`
+/// searches for the end, in *O*(log *n*).
+pub type Overlapping<'a, K, V> = overlapping::Overlapping<'a, RangeInclusive<K>, V>;
+
+/// The parts of a range that a map does not cover, in order.
+pub type Gaps<'a, K, V, StepFnsT = K> = gaps::Gaps<'a, Closed<StepFnsT>, RangeInclusive<K>, V>;
+
 /// A call that makes a map or changes the one at a place of a list.
-pub type Call<K, V, A> = calls::Call<RangeInclusive<K>, V, A>;
+pub type Call<K, V, A = Global> = calls::Call<RangeInclusive<K>, V, A>;
 
 /// A call that a map over any steps has: those of `Call` but the two that take pairs.
 pub type Change<K, V> = calls::Change<RangeInclusive<K>, V>;

@@ -1,12 +1,72 @@
 //! The map over half-open ranges, and the run of any calls that make or change such maps.
 
-pub use rangemap_maps::map::{Gaps, IntoIter, Iter, Overlapping, RangeMap};
+use rangemap_core::half_open::HalfOpen;
+pub use rangemap_maps::range_map::Map;
 use rangemap_replay::calls;
 pub use rangemap_replay::replay::replay;
+use rangemap_sorted::{SortedVec, gaps, into_iter, iter, overlapping};
+use std::alloc::Global;
 use std::ops::Range;
 
+/// A map of disjoint half-open ranges, `a..b`, to values, which joins ranges that touch and have
+/// equal values. It keeps them in one sorted vector.
+///
+/// # Examples
+///
+/// ```text
+/// let mut rota = RangeMap::from(rt.alloc(), [(0..9u32, "Ann")])?;
+/// rota.insert(3..6, "Bob")?;
+/// ```
+///
+/// The map has `0..3` with `"Ann"`, `3..6` with `"Bob"` and `6..9` with `"Ann"` then.
+///
+/// # Calls
+///
+/// ```text
+/// new(alloc: A) -> Self
+/// from<const N: usize>(alloc: A, value: [(Range<K>, V); N]) -> Result<Self, AllocError>
+/// from_iter<I: IntoIterator<Item = (Range<K>, V)>>(alloc: A, iter: I) -> Result<Self, AllocError>
+/// insert(&mut self, range: Range<K>, value: V) -> Result<(), AllocError>
+/// remove(&mut self, range: Range<K>) -> Result<(), AllocError>
+/// extend<I: IntoIterator<Item = (Range<K>, V)>>(&mut self, iter: I) -> Result<(), AllocError>
+/// clear(&mut self)
+/// clone(&self) -> Result<Self, AllocError>
+/// get(&self, key: &K) -> Option<&V>
+/// get_key_value(&self, key: &K) -> Option<(&Range<K>, &V)>
+/// contains_key(&self, key: &K) -> bool
+/// first_range_value(&self) -> Option<(&Range<K>, &V)>
+/// last_range_value(&self) -> Option<(&Range<K>, &V)>
+/// len(&self) -> usize
+/// is_empty(&self) -> bool
+/// known(&self)
+/// allocator(&self) -> &A
+/// iter(&self) -> Iter<'_, K, V>
+/// into_iter(self) -> IntoIter<K, V, A>
+/// overlapping(&self, range: &Range<K>) -> Overlapping<'_, K, V>
+/// overlaps(&self, range: &Range<K>) -> bool
+/// gaps(&self, outer_range: &Range<K>) -> Gaps<'_, K, V>
+/// to_value(&self, alloc: Global, write_key, write_value) -> Result<Value, WriteError<E>>
+/// from_value(alloc: A, form: Form, value: &Value, read_key, read_value) -> Result<Self, ReadError<E>>
+/// ```
+///
+/// Each is described, with its contract, at `Map`; with `==`, the orders, `Hash` and `{:?}` beside.
+pub type RangeMap<K, V, A = Global> = Map<SortedVec<HalfOpen, Range<K>, V, A>>;
+
+/// The pairs of a map, in order and from both ends.
+pub type Iter<'a, K, V> = iter::Iter<'a, Range<K>, V>;
+
+/// The pairs that a map hands over, in order and from both ends.
+pub type IntoIter<K, V, A = Global> = into_iter::IntoIter<Range<K>, V, A>;
+
+/// The pairs of a map that overlap a range, in order and from both ends. The first `next_back`
+/// searches for the end, in *O*(log *n*).
+pub type Overlapping<'a, K, V> = overlapping::Overlapping<'a, Range<K>, V>;
+
+/// The parts of a range that a map does not cover, in order.
+pub type Gaps<'a, K, V> = gaps::Gaps<'a, HalfOpen, Range<K>, V>;
+
 /// A call that makes a map or changes the one at a place of a list.
-pub type Call<K, V, A> = calls::Call<Range<K>, V, A>;
+pub type Call<K, V, A = Global> = calls::Call<Range<K>, V, A>;
 
 /// A call that every map has, as a `Call` holds it.
 pub type Change<K, V> = calls::Change<Range<K>, V>;

@@ -2,44 +2,79 @@
 
 use crate::range_set::Set;
 use rangemap_core::half_open::HalfOpen;
-use rangemap_maps::map;
-use rangemap_operations::{into_iter, iter, operations, overlapping};
 use rangemap_replay::calls::sets;
 pub use rangemap_replay::replay::replay;
+use rangemap_sorted::{SortedVec, gaps, iter, overlapping};
+use rangemap_unions::{self as unions, IntoRanges, Ranges};
+use std::alloc::Global;
 use std::ops::Range;
 
 /// A set of keys in disjoint half-open ranges, `a..b`, which joins ranges that overlap or touch.
 ///
-/// Its calls are those of `range_set::Set`, and are described there. The range of an `insert` or a
-/// `remove` is not empty: `range.start < range.end`.
+/// The range of an `insert` or a `remove` is not empty: `range.start < range.end`.
 ///
 /// # Examples
 ///
 /// ```text
-/// let mut set = RangeSet::from(alloc, [0..3, 6..9])?;
-/// set.insert(3..6)?; // {0..9}
-/// set.remove(4..5)?; // {0..4, 5..9}
+/// for range in ranges {
+///     if range.start < range.end {
+///         set.insert(range.start..range.end)?;
+///     }
+/// }
 /// ```
-pub type RangeSet<T, A> = Set<HalfOpen, T, Range<T>, A>;
+///
+/// # Calls
+///
+/// ```text
+/// new(alloc: A) -> Self
+/// from<const N: usize>(alloc: A, value: [Range<T>; N]) -> Result<Self, AllocError>
+/// from_iter<I: IntoIterator<Item = Range<T>>>(alloc: A, iter: I) -> Result<Self, AllocError>
+/// insert(&mut self, range: Range<T>) -> Result<(), AllocError>
+/// remove(&mut self, range: Range<T>) -> Result<(), AllocError>
+/// extend<I: IntoIterator<Item = Range<T>>>(&mut self, iter: I) -> Result<(), AllocError>
+/// clear(&mut self)
+/// clone(&self) -> Result<Self, AllocError>
+/// get(&self, value: &T) -> Option<&Range<T>>
+/// contains(&self, value: &T) -> bool
+/// first(&self) -> Option<&Range<T>>
+/// last(&self) -> Option<&Range<T>>
+/// len(&self) -> usize
+/// is_empty(&self) -> bool
+/// known(&self)
+/// allocator(&self) -> &A
+/// iter(&self) -> Iter<'_, T>
+/// into_iter(self) -> IntoIter<T, A>
+/// overlapping(&self, range: &Range<T>) -> Overlapping<'_, T>
+/// overlaps(&self, range: &Range<T>) -> bool
+/// gaps(&self, outer_range: &Range<T>) -> Gaps<'_, T>
+/// union(&self, other: &Self) -> Union<'_, T>
+/// intersection(&self, other: &Self) -> Intersection<'_, T>
+/// &left | &right, &left & &right -> Result<Self, AllocError>
+/// to_value(&self, alloc: Global, write_key) -> Result<Value, WriteError<E>>
+/// from_value(alloc: A, form: Form, value: &Value, read_key) -> Result<Self, ReadError<E>>
+/// ```
+///
+/// Each is described, with its contract, at `Set`; with `==`, the orders, `Hash` and `{:?}` beside.
+pub type RangeSet<T, A = Global> = Set<SortedVec<HalfOpen, Range<T>, (), A>>;
 
 /// The ranges of a set, in order and from both ends.
-pub type Iter<'a, T> = iter::Iter<'a, Range<T>>;
+pub type Iter<'a, T> = Ranges<iter::Iter<'a, Range<T>, ()>>;
 
 /// The ranges that a set hands over, in order and from both ends.
-pub type IntoIter<T, A> = into_iter::IntoIter<Range<T>, A>;
+pub type IntoIter<T, A = Global> = IntoRanges<SortedVec<HalfOpen, Range<T>, (), A>>;
 
 /// The ranges of a set that overlap a range, in order and from both ends. The first `next_back`
 /// searches for the end, in *O*(log *n*).
-pub type Overlapping<'a, T> = overlapping::Overlapping<'a, Range<T>>;
+pub type Overlapping<'a, T> = Ranges<overlapping::Overlapping<'a, Range<T>, ()>>;
 
 /// The parts of a range that a set does not cover, in order.
-pub type Gaps<'a, T> = map::Gaps<'a, T, ()>;
+pub type Gaps<'a, T> = gaps::Gaps<'a, HalfOpen, Range<T>, ()>;
 
 /// The ranges of two sets, joined where they overlap, in order.
-pub type Union<'a, T> = operations::union::Union<'a, Range<T>>;
+pub type Union<'a, T> = unions::Union<iter::Iter<'a, Range<T>, ()>>;
 
 /// The parts that two sets have in common, in order.
-pub type Intersection<'a, T> = operations::intersection::Intersection<'a, Range<T>>;
+pub type Intersection<'a, T> = unions::Intersection<iter::Iter<'a, Range<T>, ()>>;
 
 /// A call that makes a set or changes the one at a place of a list.
-pub type Call<T, A> = sets::SetCall<Range<T>, A>;
+pub type Call<T, A = Global> = sets::SetCall<Range<T>, A>;

@@ -15,14 +15,17 @@ ghost use Rattle.rangemap_core.specs.Clones.{KeysCloneFaithfully, ValuesCloneFai
 ghost use Rattle.rangemap_core.specs.NonEmptyPairs.{GivesNonEmpty};
 ghost use Rattle.rangemap_core.specs.Ranges.{AreGaps, IsCanonOf, IsCanonical, Overrides, covering, erase, nothing, overlapped, override, override_all, same_pairs, value_at};
 
+use crate::key_range::KeyRange;
 use crate::kind::Kind;
 use std::alloc::{AllocError, Allocator};
 use std::iter::IntoIterator;
 
 mod appends;
+mod combine;
 mod inserts;
 
-pub use appends::{append_clone, append_gaps, append_pairs};
+pub use appends::{Appending, append_clone, append_gaps};
+pub use combine::Combine;
 pub use inserts::insert_pairs;
 
 /// A container of disjoint ranges to values, two of which are equal where their pairs are.
@@ -32,11 +35,8 @@ pub use inserts::insert_pairs;
 /// containers, as the replay and the laws, is proved of the calls that users make. The appends give
 /// clones of what `iter`, `overlapping` and `gaps` lend or make.
 pub trait Container: PartialEq + Drop {
-    /// What the ranges are over.
-    type Key: Ord + Clone;
-
     /// A stored range.
-    type Range: Drop;
+    type Range: KeyRange;
 
     /// What a range is mapped to.
     type Value: Eq + Clone;
@@ -45,7 +45,7 @@ pub trait Container: PartialEq + Drop {
     type Alloc: Allocator;
 
     /// The kind of the ranges.
-    type Kind: Kind<Self::Key, Self::Range>;
+    type Kind: Kind<Self::Range>;
 
     /// The stored pairs, in order.
     ghost pairs: { Self → List (Self.Range × Self.Value) };
@@ -54,9 +54,9 @@ pub trait Container: PartialEq + Drop {
     fn known(&self)
         ensures { IsCanonical Self.Kind.kind Self.Value.eq (pairs self.now) };
 
-    /// Makes an empty container, whose memory will come from `alloc`: by `new`, or by
-    /// `new_with_step_fns` where there is one.
-    fn empty(alloc: Self::Alloc) -> Self
+    /// Makes an empty container over the steps of its kind, whose memory will come from `alloc`. Half-open
+    /// ranges have no steps.
+    fn new_with_step_fns(alloc: Self::Alloc) -> Self
         ensures { pairs result ≡ [] };
 
     /// Gives every key of `range`, which is not empty, the `value`, whatever it had before. The
@@ -64,7 +64,7 @@ pub trait Container: PartialEq + Drop {
     /// or a clone was refused: then the container is as it was.
     fn insert(&mut self, range: Self::Range, value: Self::Value) -> Result<(), AllocError>
         requires non_empty { Self.Kind.kind.IsNonEmpty range }
-        requires faithful_keys { KeysCloneFaithfully Self.Key.is_clone Self.Key.cmp }
+        requires faithful_keys { KeysCloneFaithfully Self.Range.Key.is_clone Self.Range.Key.cmp }
         requires faithful_values { ValuesCloneFaithfully Self.Value.is_clone Self.Value.eq }
         ensures ok { OnOk result (IsCanonOf Self.Kind.kind Self.Value.eq (override Self.Kind.kind (value_at Self.Kind.kind (pairs self.old)) range value) (pairs self.new)) }
         ensures err { OnErr result (pairs self.new ≡ pairs self.old) };
@@ -73,7 +73,7 @@ pub trait Container: PartialEq + Drop {
     /// Where nothing stored overlaps the range, nothing is refused and nothing changes.
     fn remove(&mut self, range: Self::Range) -> Result<(), AllocError>
         requires non_empty { Self.Kind.kind.IsNonEmpty range }
-        requires faithful_keys { KeysCloneFaithfully Self.Key.is_clone Self.Key.cmp }
+        requires faithful_keys { KeysCloneFaithfully Self.Range.Key.is_clone Self.Range.Key.cmp }
         requires faithful_values { ValuesCloneFaithfully Self.Value.is_clone Self.Value.eq }
         ensures ok { OnOk result (IsCanonOf Self.Kind.kind Self.Value.eq (erase Self.Kind.kind (value_at Self.Kind.kind (pairs self.old)) range) (pairs self.new)) }
         ensures err { OnErr result (pairs self.new ≡ pairs self.old) }
@@ -82,6 +82,18 @@ pub trait Container: PartialEq + Drop {
     /// Takes every key out. It takes no memory.
     fn clear(&mut self)
         ensures { pairs self.new ≡ [] };
+
+    /// Makes an equal container out of clones, in memory of a clone of this one's allocator. The
+    /// conditions are those of `insert`.
+    ///
+    /// # Errors
+    ///
+    /// `Err` says that memory or a clone was refused.
+    fn clone(&self) -> Result<Self, AllocError>
+        requires faithful_keys { KeysCloneFaithfully Self.Range.Key.is_clone Self.Range.Key.cmp }
+        requires faithful_values { ValuesCloneFaithfully Self.Value.is_clone Self.Value.eq }
+        ensures same { IfOk result (λ copy. same_pairs Self.Kind.kind Self.Value.eq (pairs self.now) (pairs copy) ≡ true) }
+        ensures canon { IfOk result (λ copy. IsCanonOf Self.Kind.kind Self.Value.eq (value_at Self.Kind.kind (pairs self.now)) (pairs copy)) };
 
     /// Returns the number of stored ranges.
     fn len(&self) -> usize
@@ -92,15 +104,18 @@ pub trait Container: PartialEq + Drop {
         ensures { result ≡ nat_eq (length (pairs self.now)) 0 };
 
     /// Returns the value of the stored range that has the key.
-    fn get(&self, key: &Self::Key) -> Option<&Self::Value>
+    fn get(&self, key: &<Self::Range as KeyRange>::Key) -> Option<&Self::Value>
         ensures { option_copied result ≡ value_at Self.Kind.kind (pairs self.now) key.now };
 
     /// Returns the stored range that has the key, and its value.
-    fn get_key_value(&self, key: &Self::Key) -> Option<(&Self::Range, &Self::Value)>
+    fn get_key_value(
+        &self,
+        key: &<Self::Range as KeyRange>::Key,
+    ) -> Option<(&Self::Range, &Self::Value)>
         ensures { option_map (λ pair. (pair.0.now, pair.1.now)) result ≡ covering Self.Kind.kind (pairs self.now) key.now };
 
     /// Whether a stored range has the key.
-    fn contains_key(&self, key: &Self::Key) -> bool
+    fn contains_key(&self, key: &<Self::Range as KeyRange>::Key) -> bool
         ensures { result ≡ is_some (covering Self.Kind.kind (pairs self.now) key.now) };
 
     /// Returns the first stored range and its value.
@@ -122,7 +137,7 @@ pub trait Container: PartialEq + Drop {
         &self,
         out: &mut Vec<(Self::Range, Self::Value), B>,
     ) -> Result<(), AllocError>
-        requires faithful_keys { KeysCloneFaithfully Self.Key.is_clone Self.Key.cmp }
+        requires faithful_keys { KeysCloneFaithfully Self.Range.Key.is_clone Self.Range.Key.cmp }
         requires faithful_values { ValuesCloneFaithfully Self.Value.is_clone Self.Value.eq }
         ensures ok { OnOk result (Appends Self.Kind.kind Self.Value.eq (pairs self.now) out.old.items out.new.items) }
         ensures err { OnErr result (out.new.items ≡ out.old.items) };
@@ -134,7 +149,7 @@ pub trait Container: PartialEq + Drop {
         range: &Self::Range,
         out: &mut Vec<(Self::Range, Self::Value), B>,
     ) -> Result<(), AllocError>
-        requires faithful_keys { KeysCloneFaithfully Self.Key.is_clone Self.Key.cmp }
+        requires faithful_keys { KeysCloneFaithfully Self.Range.Key.is_clone Self.Range.Key.cmp }
         requires faithful_values { ValuesCloneFaithfully Self.Value.is_clone Self.Value.eq }
         ensures ok { OnOk result (Appends Self.Kind.kind Self.Value.eq (overlapped Self.Kind.kind (pairs self.now) range.now) out.old.items out.new.items) }
         ensures err { OnErr result (out.new.items ≡ out.old.items) };
@@ -147,7 +162,7 @@ pub trait Container: PartialEq + Drop {
         outer_range: &Self::Range,
         out: &mut Vec<Self::Range, B>,
     ) -> Result<(), AllocError>
-        requires faithful_keys { KeysCloneFaithfully Self.Key.is_clone Self.Key.cmp }
+        requires faithful_keys { KeysCloneFaithfully Self.Range.Key.is_clone Self.Range.Key.cmp }
         ensures ok { OnOk result (AppendsGaps Self.Kind.kind (map (λ pair. pair.0) (pairs self.now)) outer_range.now out.old.items out.new.items) }
         ensures err { OnErr result (out.new.items ≡ out.old.items) };
 
@@ -155,23 +170,10 @@ pub trait Container: PartialEq + Drop {
     ghost equal: { (left right : Self) → Self.eq left right ≡ same_pairs Self.Kind.kind Self.Value.eq (pairs left) (pairs right) };
 }
 
-/// A map that can be cloned. It is a trait of its own since a map may ask for an allocator with
-/// clones in its type.
-pub trait TryClone: Container {
-    /// Makes an equal map out of clones, in memory of a clone of this one's allocator. The
-    /// conditions are those of `insert`.
-    ///
-    /// # Errors
-    ///
-    /// `Err` says that memory or a clone was refused.
-    fn clone(&self) -> Result<Self, AllocError>
-        requires faithful_keys { KeysCloneFaithfully Self.Key.is_clone Self.Key.cmp }
-        requires faithful_values { ValuesCloneFaithfully Self.Value.is_clone Self.Value.eq }
-        ensures same { IfOk result (λ copy. same_pairs Self.Kind.kind Self.Value.eq (Self.pairs self.now) (Self.pairs copy) ≡ true) }
-        ensures canon { IfOk result (λ copy. IsCanonOf Self.Kind.kind Self.Value.eq (value_at Self.Kind.kind (Self.pairs self.now)) (Self.pairs copy)) };
-}
-
 /// A container that also takes the pairs of an iterator, one after another.
+///
+/// One whose own calls take no pairs, as a set, inserts them: so it has `extend` and `from_iter` as
+/// they stand here.
 pub trait Collect: Container {
     /// Makes an empty container by `new`. It takes no memory yet.
     fn new(alloc: Self::Alloc) -> Self
@@ -186,9 +188,12 @@ pub trait Collect: Container {
     ) -> Result<(), AllocError>
         requires ends { IsFiniteIterable I.into_iter_gives I.IntoIter.can_next I.IntoIter.remaining iter }
         requires non_empty { (it : I.IntoIter) → I.into_iter_gives iter it → GivesNonEmpty Self.Kind.kind I.IntoIter.next_gives it }
-        requires faithful_keys { KeysCloneFaithfully Self.Key.is_clone Self.Key.cmp }
+        requires faithful_keys { KeysCloneFaithfully Self.Range.Key.is_clone Self.Range.Key.cmp }
         requires faithful_values { ValuesCloneFaithfully Self.Value.is_clone Self.Value.eq }
-        ensures { ExtendsWithItems I.into_iter_gives I.IntoIter.next_gives (λ old items new. Overrides Self.Kind.kind Self.Value.eq (Self.pairs old) items (Self.pairs new)) iter self.old self.new result };
+        ensures { ExtendsWithItems I.into_iter_gives I.IntoIter.next_gives (λ old items new. Overrides Self.Kind.kind Self.Value.eq (Self.pairs old) items (Self.pairs new)) iter self.old self.new result }
+    {
+        insert_pairs(self, iter)
+    }
 
     /// The container of the items of `iter`, inserted in the order in which they come, in memory of
     /// `alloc`. The conditions are those of `extend`. `Err` says that an insert was refused;
@@ -199,9 +204,14 @@ pub trait Collect: Container {
     ) -> Result<Self, AllocError>
         requires ends { IsFiniteIterable I.into_iter_gives I.IntoIter.can_next I.IntoIter.remaining iter }
         requires non_empty { (it : I.IntoIter) → I.into_iter_gives iter it → GivesNonEmpty Self.Kind.kind I.IntoIter.next_gives it }
-        requires faithful_keys { KeysCloneFaithfully Self.Key.is_clone Self.Key.cmp }
+        requires faithful_keys { KeysCloneFaithfully Self.Range.Key.is_clone Self.Range.Key.cmp }
         requires faithful_values { ValuesCloneFaithfully Self.Value.is_clone Self.Value.eq }
-        ensures { IfOk result (λ all. (it : I.IntoIter) × (items : List _) × I.into_iter_gives iter it × Drains I.IntoIter.next_gives it items × IsCanonOf Self.Kind.kind Self.Value.eq (override_all Self.Kind.kind nothing items) (Self.pairs all)) };
+        ensures { IfOk result (λ all. (it : I.IntoIter) × (items : List _) × I.into_iter_gives iter it × Drains I.IntoIter.next_gives it items × IsCanonOf Self.Kind.kind Self.Value.eq (override_all Self.Kind.kind nothing items) (Self.pairs all)) }
+    {
+        let mut all = Self::new(alloc);
+        insert_pairs(&mut all, iter)?;
+        Ok(all)
+    }
 }
 
 /// Collects the gaps of `outer_range` into a vector, with memory of `alloc`: the parts of it that no
@@ -216,7 +226,7 @@ pub fn collect_gaps<M: Container, B: Allocator>(
     stored: &M,
     outer_range: &M::Range,
 ) -> Result<Vec<M::Range, B>, AllocError>
-    requires { KeysCloneFaithfully M.Key.is_clone M.Key.cmp }
+    requires { KeysCloneFaithfully M.Range.Key.is_clone M.Range.Key.cmp }
     ensures { IfOk result (λ gaps. AreGaps M.Kind.kind (map (λ pair. pair.0) (M.pairs stored.now)) outer_range.now gaps.items) }
 {
     let mut gaps = Vec::new(alloc);

@@ -1,20 +1,18 @@
-//! The engine that every map with ranges as keys stands on: the sorted list of pairs, its changes,
-//! queries and comparisons, for any kind of range.
+//! What every map and set with ranges as keys stands on: ranges and their kinds, and the traits of
+//! stores and of containers.
 //!
 //! Users name the crate `rangemap`, which exports the containers. What a list of ranges with values
 //! means is said in `specs/Ranges.antt`; every public contract is in its words.
 #![tactic(auto)]
 
+pub mod closed;
 pub mod common;
 pub mod container;
-pub mod entries;
-pub mod gaps;
 pub mod half_open;
-pub mod into_iter;
-pub mod iter;
+pub mod key_range;
 pub mod kind;
-pub mod overlapping;
-mod probe;
-mod search;
-pub mod splice;
+pub mod pair_iter;
+pub mod pairs;
+pub mod reader;
 pub mod std_ext;
+pub mod store;

@@ -1,5 +1,5 @@
 -- What a formatter has written, one text after another, where some texts may not be known.
-use Rattle.std.proofs.Common.{ℕ, List, [], Option, Some, None, IfSome, IsOk, Result}
+use Rattle.std.proofs.Common.{◌≡◌, subst, ℕ, List, [], Option, Some, None, IfSome, IsOk, Result}
 use Rattle.std.specs.Fmt.{IsPlainFormatter, HasWritten, DisplaysOnOk, ◌++?◌}
 use Rattle.std.specs.declared.fmt.Error.{Error}
 use Rattle.std.specs.declared.fmt.Formatter.{Formatter}
@@ -27,3 +27,7 @@ module _ {W : Type 0} (took : W → List ℕ → W → Type 0) where
     pub displays_from : (o : Option (List ℕ)) → (IsPlainFormatter f → IsOk r → Shows f o g) → DisplaysOnOk took f r o g
     displays_from None k = tt
     displays_from (Some a) k = k
+
+    -- the same of a text that is given in another way
+    pub shows_twin : (o p : Option (List ℕ)) → o ≡ p → DisplaysOnOk took f r o g → IsPlainFormatter f → IsOk r → Shows f p g
+    shows_twin o p same x plain ok = subst (λ q. Shows f q g) same (shows_from o x plain ok)

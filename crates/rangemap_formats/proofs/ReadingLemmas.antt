@@ -1,7 +1,9 @@
 -- What reading entries one after another comes to.
-use Rattle.std.proofs.Common.{arith, ◌≡◌, ℕ, zero, suc, ◌<◌, Bool, true, List, [], ◌∷◌, ◌++◌, length, take, get_or, Option, Some, refl, sym, ap, subst, ◌∙◌}
+use Rattle.std.proofs.Common.{arith, ◌≡◌, ℕ, zero, suc, ◌<◌, Bool, true, false, true≢false, List, [], ◌∷◌, ◌++◌, length, take, get_or, Option, Some, refl, sym, ap, subst, ◌∙◌}
 use Rattle.std.specs.Cmp.{IsEquivalence}
-use Rattle.std.specs.List.{AllByRecursion, AllZip, slice_get}
+use Rattle.std.specs.Cmp as order
+use Rattle.std.specs.declared.cmp.Ordering.TheVariants.{Equal}
+use Rattle.std.specs.List.{AllByRecursion, slice_get}
 use Rattle.serde_json.specs.declared.value.Value.{Value}
 use Rattle.rangemap_formats.specs.declared.json.Form.{Form}
 use Rattle.rangemap_formats.specs.declared.json.Form.TheVariants.{Any, Canonical}
@@ -9,15 +11,21 @@ use Rattle.rangemap_formats.specs.declared.json.ReadError.{ReadError}
 use Rattle.rangemap_formats.specs.declared.json.ReadError.TheVariants.{NotAList, BadEntry, BadKey, BadValue, EmptyRange, OutOfMemory, OutOfOrder, Uncoalesced}
 use Rattle.rangemap_core.specs.Ranges.{RangeKind, IsStorable, IsCanonical, IsCanonOf, nothing, override, override_all, same_pairs, value_at}
 use Rattle.rangemap_core.specs.engine.Endpoints.{EndpointOf, IsPlaced}
-use Rattle.rangemap_formats.specs.declared.json.WriteError.{WriteError}
-use Rattle.rangemap_formats.specs.declared.json.WriteError.TheVariants.{Caller, OutOfMemory as NoMemory}
-use Rattle.rangemap_formats.specs.Json.{Accepts, Breaks, CallerOr, IsFirstRefusal, EndsWith, Follows, IsEmptyEntry, IsEntryFault, IsFirstFault, IsInserted, IsRead, IsRefusedIn, IsToBeInserted, IsWritable, IsWritten, Reader, RefusesToRead, Writer, list_of}
+use Rattle.rangemap_core.specs.engine.Intervals.{IsInterval, goes_past, reaches}
+use Rattle.rangemap_formats.specs.Json.{Accepts, Breaks, EndsWith, Follows, IsEmptyEntry, IsEntryFault, IsFirstFault, IsInserted, IsRead, IsToBeInserted, Reader, RefusesToRead, list_of}
 use Rattle.rangemap_formats.proofs.LastPairLemmas.{before_as_twin, before_as_twin_back, canonical_more, equal_as_twin, follows_as_twin, last_storable, same_last, touches_as_twin_back}
 use Rattle.rangemap_core.proofs.CanonLemmas.{Overrides-last}
 use Rattle.rangemap_core.proofs.EqualListLemmas.{IsSamePair}
 use Rattle.rangemap_core.proofs.OwnPairLemmas.{own}
 use Rattle.rangemap_core.proofs.UniquenessLemmas.{canon_unique}
 use Rattle.rangemap_core.proofs.ZipLemmas.{added}
+
+-- where no range goes from a to b, one whose ends tie with these is empty
+pub empty_between : {K X : Type 0} (k : RangeKind K X) (has_end : Bool) → IsInterval k has_end → (a b : K) → reaches k has_end b a ≡ false
+    → (range : X) → k.cmp (k.start range) a ≡ Equal → k.cmp (k.end range) b ≡ Equal → k.IsNonEmpty range → ⊥
+empty_between k has_end i a b none range start_is end_is n =
+    let alike : k.cmp (k.start range) (k.end range) ≡ k.cmp a b = i.total.congr (k.start range) a (k.end range) start_is ∙ order.alike_right i.total (k.end range) b a end_is in
+    true≢false (sym (i.non_empty range n) ∙ ap (goes_past has_end) alike ∙ none)
 
 -- the item at a place, as an option
 pub at_place : {A : Type 0} (xs : List A) (i : ℕ) (x : A) → i < length xs → x ≡ get_or xs i x → slice_get xs i ≡ Some x
@@ -144,16 +152,3 @@ module _ {K X V E : Type 0} (k : RangeKind K X) {end_place : X → Option K} {pa
             equal_as_twin k p eq e t.0 last t.2 t.3 t.4 pair stored ∙ h.3,
           ),
         )
-
-module _ {K X V E : Type 0} (k : RangeKind K X) (w : Writer K V E) where
-  -- what was written can be
-  pub written_all : (pairs : List (X × V)) (entries : List Value) → AllZip (IsWritten k w) pairs entries → AllByRecursion (IsWritable k w) pairs
-  written_all [] entries h = tt
-  written_all (a ∷ pairs) [] h = absurd h
-  written_all (a ∷ pairs) (v ∷ entries) h = ((h.0.start, h.0.end, h.0.value, h.0.start_is, h.0.end_is, h.0.value_is), written_all pairs entries h.1)
-
-  -- the first refusal of a list, from that of a pair
-  pub refused_part : (pairs : List (X × V)) (at : ℕ) (pair : X × V) → slice_get pairs at ≡ Some pair → AllByRecursion (IsWritable k w) (take at pairs)
-      → (error : WriteError E) → CallerOr (IsRefusedIn k w pair) error → CallerOr (IsFirstRefusal k w pairs) error
-  refused_part pairs at pair there before (Caller fault) h = record { at = at; pair = pair; is_there = there; before = before; refused = h }
-  refused_part pairs at pair there before NoMemory h = tt

@@ -1,8 +1,8 @@
-//! The forms in which every container is shown, written and read: the debug text and the JSON form.
-//!
-//! Both go over the pairs that a container holds, and ask of its ranges what `Interval` has. What
-//! they promise is said in `specs/Texts.antt` and `specs/Json.antt`.
+//! What is done with all pairs of a store, for every map and set: equality and order, what a hasher
+//! is fed, the debug text and the JSON form.
 #![tactic(auto)]
 
+pub mod compare;
+pub mod hash;
 pub mod json;
 pub mod text;

@@ -1,4 +1,4 @@
-//! The debug text of lists of pairs.
+//! The debug text of what a store holds.
 //!
 //! It is written by hand where no form is asked for, since std's `Debug` of ranges, and its
 //! builders `debug_map` and `debug_set`, have no contract. Under `{:#?}` these write it, and
@@ -7,166 +7,193 @@ ghost use Rattle.std.specs.Prelude.{◌≡◌, ℕ, List, Option, Some, codes, m
 ghost use Rattle.std.specs.Fmt.{DisplaysOnOk, WritesOnOk, ◌++?◌};
 ghost use Rattle.rangemap_formats.specs.Texts.{braced_text, items_text, map_text, others_text, pair_text, range_text, set_text};
 
+use rangemap_core::key_range::KeyRange;
 use rangemap_core::kind::Kind;
+use rangemap_core::pair_iter::PairIter;
+use rangemap_core::reader::Reader;
+use rangemap_core::store::Store;
 use std::fmt;
 use std::fmt::{Debug, Formatter};
+use std::iter::Iterator;
 use std::marker::PhantomData;
 
-/// Writes the pairs as `{0..100: "abc", 200..300: "ghi"}`, with `dots` between the ends of a range.
-/// Under `{:#?}` each pair has a line of its own.
-pub fn write_map<Q: Kind<K, R>, K: Ord + Clone + Debug, R: Debug, V: Debug, W: fmt::Write>(
-    pairs: &[(R, V)],
-    dots: &str,
+/// Writes the pairs as `{0..100: "abc", 200..300: "ghi"}`. Under `{:#?}` each pair has a line of its
+/// own.
+pub fn write_map<S: Store<Range: Debug, Value: Debug>, W: fmt::Write>(
+    stored: &S,
     f: &mut Formatter<W>,
 ) -> fmt::Result
-    ensures { DisplaysOnOk W.write_str_gives f.old result (map_text Q.kind dots.now K.debug_output V.debug_output pairs.now) f.new }
+where
+    <S::Range as KeyRange>::Key: Debug,
+    ensures { DisplaysOnOk W.write_str_gives f.old result (map_text S.Kind.kind S.Range.dots S.Range.Key.debug_output S.Value.debug_output (S.pairs stored.now)) f.new }
 {
     if f.alternate() {
-        return write_map_on_lines(pairs, f);
+        return stored.read::<MapOnLines<W>>(f);
     }
-    write_all::<RangeAndValue<Q, K>, R, V, W>(pairs, dots, f)
+    write_all::<RangeAndValue<S::Kind>, S, W>(stored, f)
 }
 
 /// Writes the ranges of the pairs as `{0..100, 200..300}`, as `write_map` does the pairs.
-pub fn write_set<Q: Kind<K, R>, K: Ord + Clone + Debug, R: Debug, V, W: fmt::Write>(
-    pairs: &[(R, V)],
-    dots: &str,
+pub fn write_set<S: Store<Range: Debug>, W: fmt::Write>(
+    stored: &S,
     f: &mut Formatter<W>,
 ) -> fmt::Result
-    ensures { DisplaysOnOk W.write_str_gives f.old result (set_text Q.kind dots.now K.debug_output (map (λ pair. pair.0) pairs.now)) f.new }
+where
+    <S::Range as KeyRange>::Key: Debug,
+    ensures { DisplaysOnOk W.write_str_gives f.old result (set_text S.Kind.kind S.Range.dots S.Range.Key.debug_output (map (λ pair. pair.0) (S.pairs stored.now))) f.new }
 {
     if f.alternate() {
-        return write_set_on_lines(pairs, f);
+        return stored.read::<SetOnLines<W>>(f);
     }
-    write_all::<RangeAlone<Q, K>, R, V, W>(pairs, dots, f)
+    write_all::<RangeAlone<S::Kind>, S, W>(stored, f)
 }
 
-fn write_map_on_lines<R: Debug, V: Debug, W: fmt::Write>(
-    pairs: &[(R, V)],
-    f: &mut Formatter<W>,
-) -> fmt::Result {
-    let mut map = f.debug_map();
-    for pair in pairs {
-        map.entry(&pair.0, &pair.1);
+// Writes the pairs with std's builder.
+struct MapOnLines<W>(PhantomData<W>);
+
+impl<R: KeyRange + Debug, V: Debug, W: fmt::Write> Reader<R, V> for MapOnLines<W> {
+    ghost use Rattle.std.specs.Prelude.{⊤};
+
+    type State = Formatter<W>;
+
+    type Answer = fmt::Result;
+
+    ghost reads = { λ _ _ _ _. ⊤ };
+
+    fn read<I: PairIter<Range = R, Value = V>>(pairs: I, f: &mut Formatter<W>) -> fmt::Result {
+        let mut rest = pairs;
+        let mut map = f.debug_map();
+        while let Some(pair) = rest.next() {
+            map.entry(I::range_of(&pair), I::value_of(&pair));
+        }
+        map.finish()
     }
-    map.finish()
 }
 
-fn write_set_on_lines<R: Debug, V, W: fmt::Write>(
-    pairs: &[(R, V)],
-    f: &mut Formatter<W>,
-) -> fmt::Result {
-    let mut set = f.debug_set();
-    for pair in pairs {
-        set.entry(&pair.0);
+// Writes the ranges with std's builder.
+struct SetOnLines<W>(PhantomData<W>);
+
+impl<R: KeyRange + Debug, V, W: fmt::Write> Reader<R, V> for SetOnLines<W> {
+    ghost use Rattle.std.specs.Prelude.{⊤};
+
+    type State = Formatter<W>;
+
+    type Answer = fmt::Result;
+
+    ghost reads = { λ _ _ _ _. ⊤ };
+
+    fn read<I: PairIter<Range = R, Value = V>>(pairs: I, f: &mut Formatter<W>) -> fmt::Result {
+        let mut rest = pairs;
+        let mut set = f.debug_set();
+        while let Some(pair) = rest.next() {
+            set.entry(I::range_of(&pair));
+        }
+        set.finish()
     }
-    set.finish()
 }
 
-/// What is written of a pair.
-pub trait PairText<R, V> {
-    // The text, by the dots.
-    ghost text: { List ℕ → R × V → Option (List ℕ) };
+// What is written of a pair.
+trait PairText<R, V> {
+    // The text.
+    ghost text: { R × V → Option (List ℕ) };
 
-    /// Writes a range and its value, with `dots` between the ends of the range.
-    fn write_pair<W: fmt::Write>(
-        range: &R,
-        value: &V,
-        dots: &str,
-        f: &mut Formatter<W>,
-    ) -> fmt::Result
-        ensures { DisplaysOnOk W.write_str_gives f.old result (text dots.now (range.now, value.now)) f.new };
+    // Writes a range and its value.
+    fn write_pair<W: fmt::Write>(range: &R, value: &V, f: &mut Formatter<W>) -> fmt::Result
+        ensures { DisplaysOnOk W.write_str_gives f.old result (text (range.now, value.now)) f.new };
 }
 
-/// The range and the value.
-pub struct RangeAndValue<Q, K>(PhantomData<(Q, K)>);
+// The range and the value.
+struct RangeAndValue<Q>(PhantomData<Q>);
 
-impl<Q: Kind<K, R>, K: Ord + Clone + Debug, R, V: Debug> PairText<R, V> for RangeAndValue<Q, K> {
+impl<Q: Kind<R>, R: KeyRange, V: Debug> PairText<R, V> for RangeAndValue<Q>
+where
+    R::Key: Debug,
+{
     ghost use Rattle.rangemap_formats.specs.Texts.{pair_text};
 
-    ghost text = { λ dots. pair_text Q.kind dots K.debug_output V.debug_output };
+    ghost text = { pair_text Q.kind R.dots R.Key.debug_output V.debug_output };
 
-    fn write_pair<W: fmt::Write>(
-        range: &R,
-        value: &V,
-        dots: &str,
-        f: &mut Formatter<W>,
-    ) -> fmt::Result {
-        write_range::<Q, K, R, W>(range, dots, f)?;
+    fn write_pair<W: fmt::Write>(range: &R, value: &V, f: &mut Formatter<W>) -> fmt::Result {
+        write_range::<Q, R, W>(range, f)?;
         f.write_str(": ")?;
         value.fmt(f)
     }
 }
 
 // The range alone.
-struct RangeAlone<Q, K>(PhantomData<(Q, K)>);
+struct RangeAlone<Q>(PhantomData<Q>);
 
-impl<Q: Kind<K, R>, K: Ord + Clone + Debug, R, V> PairText<R, V> for RangeAlone<Q, K> {
+impl<Q: Kind<R>, R: KeyRange, V> PairText<R, V> for RangeAlone<Q>
+where
+    R::Key: Debug,
+{
     ghost use Rattle.rangemap_formats.specs.Texts.{range_text};
 
-    ghost text = { λ dots pair. range_text Q.kind dots K.debug_output pair.0 };
+    ghost text = { λ pair. range_text Q.kind R.dots R.Key.debug_output pair.0 };
 
-    fn write_pair<W: fmt::Write>(
-        range: &R,
-        _value: &V,
-        dots: &str,
-        f: &mut Formatter<W>,
-    ) -> fmt::Result {
-        write_range::<Q, K, R, W>(range, dots, f)
+    fn write_pair<W: fmt::Write>(range: &R, _value: &V, f: &mut Formatter<W>) -> fmt::Result {
+        write_range::<Q, R, W>(range, f)
     }
 }
 
-fn write_all<T: PairText<R, V>, R, V, W: fmt::Write>(
-    pairs: &[(R, V)],
-    dots: &str,
+fn write_all<T: PairText<S::Range, S::Value>, S: Store, W: fmt::Write>(
+    stored: &S,
     f: &mut Formatter<W>,
 ) -> fmt::Result
-    ensures { DisplaysOnOk W.write_str_gives f.old result (braced_text (T.text dots.now) pairs.now) f.new }
+    ensures { DisplaysOnOk W.write_str_gives f.old result (braced_text T.text (S.pairs stored.now)) f.new }
 {
     f.write_str("{")?;
-    write_items::<T, R, V, W>(pairs, dots, f)?;
+    stored.read::<Items<T, W>>(f)?;
     f.write_str("}")
 }
 
-fn write_items<T: PairText<R, V>, R, V, W: fmt::Write>(
-    pairs: &[(R, V)],
-    dots: &str,
-    f: &mut Formatter<W>,
-) -> fmt::Result
-    ensures { DisplaysOnOk W.write_str_gives f.old result (items_text (T.text dots.now) pairs.now) f.new }
-{
-    let Some((first, others)) = pairs.split_first() else {
-        return Ok(());
-    };
-    T::write_pair(&first.0, &first.1, dots, f)?;
-    write_others::<T, R, V, W>(others, dots, f)
+// Writes the pairs that it reads, with `, ` between.
+struct Items<T, W>(PhantomData<(T, W)>);
+
+impl<T: PairText<R, V>, R: KeyRange, V, W: fmt::Write> Reader<R, V> for Items<T, W> {
+    ghost use Rattle.std.specs.Fmt.{DisplaysOnOk};
+    ghost use Rattle.rangemap_formats.specs.Texts.{items_text};
+
+    type State = Formatter<W>;
+
+    type Answer = fmt::Result;
+
+    ghost reads = { λ pairs old result new. DisplaysOnOk W.write_str_gives old result (items_text T.text pairs) new };
+
+    fn read<I: PairIter<Range = R, Value = V>>(pairs: I, f: &mut Formatter<W>) -> fmt::Result {
+        let mut rest = pairs;
+        let Some(first) = rest.next() else {
+            return Ok(());
+        };
+        T::write_pair(I::range_of(&first), I::value_of(&first), f)?;
+        write_others::<T, I, W>(rest, f)
+    }
 }
 
 // Each pair, after `, `.
-fn write_others<T: PairText<R, V>, R, V, W: fmt::Write>(
-    pairs: &[(R, V)],
-    dots: &str,
+fn write_others<T: PairText<I::Range, I::Value>, I: PairIter, W: fmt::Write>(
+    pairs: I,
     f: &mut Formatter<W>,
 ) -> fmt::Result
-    ensures { DisplaysOnOk W.write_str_gives f.old result (others_text (T.text dots.now) pairs.now) f.new }
+    ensures { DisplaysOnOk W.write_str_gives f.old result (others_text T.text (I.left pairs)) f.new }
 {
     let mut rest = pairs;
-    'pairs: while let Some((first, others)) = rest.split_first() {
+    'pairs: while let Some(pair) = rest.next() {
         f.write_str(", ")?;
-        T::write_pair(&first.0, &first.1, dots, f)?;
-        rest = others;
+        T::write_pair(I::range_of(&pair), I::value_of(&pair), f)?;
     }
     Ok(())
 }
 
-fn write_range<Q: Kind<K, R>, K: Ord + Clone + Debug, R, W: fmt::Write>(
+fn write_range<Q: Kind<R>, R: KeyRange, W: fmt::Write>(
     range: &R,
-    dots: &str,
     f: &mut Formatter<W>,
 ) -> fmt::Result
-    ensures { DisplaysOnOk W.write_str_gives f.old result (range_text Q.kind dots.now K.debug_output range.now) f.new }
+where
+    R::Key: Debug,
+    ensures { DisplaysOnOk W.write_str_gives f.old result (range_text Q.kind R.dots R.Key.debug_output range.now) f.new }
 {
-    Q::start(range).fmt(f)?;
-    f.write_str(dots)?;
-    Q::end(range).fmt(f)
+    range.start().fmt(f)?;
+    f.write_str(R::dots())?;
+    range.end().fmt(f)
 }

@@ -1,4 +1,5 @@
 pub mod EqualityLemmas
 pub mod GapLemmas
 pub mod RunLemmas
-pub mod CallerLemmas
+pub mod StoredKeyLemmas
+mod EndLemmas

@@ -13,7 +13,7 @@ use Rattle.rangemap_core.specs.Ranges.{RangeKind, Alike, IsCanonOf, IsCanonical,
 use Rattle.rangemap_core.proofs.AlikeLemmas.{Alike-turned, canon_along, erase-alike, override-alike}
 use Rattle.rangemap_core.proofs.EqualListLemmas.{from_same}
 use Rattle.rangemap_core.proofs.UniquenessLemmas.{alike_from_same, canon_unique, first_true, same_points, second_true}
-use Rattle.rangemap_laws.proofs.CallerLemmas.{covering_holds}
+use Rattle.rangemap_laws.proofs.StoredKeyLemmas.{covering_holds}
 use Rattle.rangemap_laws.specs.declared.commands.command.Answer.{Answer}
 use Rattle.rangemap_laws.specs.declared.commands.command.Answer.TheVariants as answer
 use Rattle.rangemap_laws.specs.declared.commands.command.Command.{Command}
@@ -31,10 +31,6 @@ Ran-last step old mid new (c ∷ commands) (a ∷ answers) command given r s = (
 -- two answers to two questions, where the questions have equal answers
 joined : {P : Type 0} {E : P → P → Bool} → IsEquivalence E → (a b c d : P) → E a b ≡ true → E a c ≡ true → E c d ≡ true → E b d ≡ true
 joined q a b c d h s i = sym (q.congr a b d h) ∙ q.congr a c d s ∙ i
-
--- what was found, and a copy of it
-pub found_copied : {P : Type 0} (E : P → P → Bool) (found : Option P) (a copy : P) → Some a ≡ found → E a copy ≡ true → option_eq E found (Some copy) ≡ true
-found_copied E found a copy is same = subst (λ o. option_eq E o (Some copy) ≡ true) is same
 
 module _ {K X V : Type 0} (k : RangeKind K X) {end_place : X → Option K} {part : EndpointOf X → EndpointOf X → X} (p : IsPlaced k end_place part) {eq : V → V → Bool} (e : IsEquivalence eq) where
   -- a range that was found may be stored

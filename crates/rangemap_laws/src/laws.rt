@@ -12,46 +12,35 @@
 //! insert from two equal ones; that the calls are made once is read in the bodies.
 ghost use Rattle.std.specs.Prelude.{◌≡◌, ◌↔◌, ◌&&◌, true, false, not, is_some, map, IsTrue, IfOk, List, Some as SomeWord, None as NoneWord, OnErr, OnOk};
 ghost use Rattle.std.specs.Option.{option_eq};
-ghost use Rattle.std.specs.declared.ops.Range.{Range as RangeOf};
-ghost use Rattle.std.specs.declared.ops.RangeInclusive.{RangeInclusive as RangeInclusiveOf};
 ghost use Rattle.rangemap_core.specs.Clones.{KeysCloneFaithfully, ValuesCloneFaithfully};
 ghost use Rattle.rangemap_laws.specs.GapPartition.{IsPartition};
-ghost use Rattle.rangemap_core.specs.Ranges.{Alike, AreGaps, IsCanonOf, IsCanonical, closed, covering, erase, half_open, override, same_pairs, value_at};
+ghost use Rattle.rangemap_core.specs.Ranges.{Alike, AreGaps, IsCanonOf, IsCanonical, covering, erase, override, same_pairs, value_at};
 
 mod clones;
 pub mod comparisons;
 pub mod definitions;
 pub mod iterators;
 pub mod overlaps;
-pub mod round_trips;
 pub mod runs;
 pub mod sets;
 pub mod texts;
 
 use clones::{insert_clone, remove_clone};
 use rangemap_core::container::{Container, collect_gaps};
-use rangemap_core::std_ext::StepFns;
+use rangemap_core::key_range::KeyRange;
+use rangemap_core::kind::Kind;
 use std::alloc::{AllocError, Allocator};
 
-/// Canonical lists of half-open ranges, over any order, are equal pair by pair exactly when their
-/// point functions are alike. So a point function has at most one canonical list, and which calls
-/// led to it can't be seen.
-pub fn half_open_lists_are_unique<K: Ord, V: Eq>()
-    ensures { (left right : List (RangeOf K × V))
-        → IsCanonical (half_open K.cmp) V.eq left
-        → IsCanonical (half_open K.cmp) V.eq right
-        → (IsTrue (same_pairs (half_open K.cmp) V.eq left right)
-        ↔ Alike (half_open K.cmp) V.eq (value_at (half_open K.cmp) left) (value_at (half_open K.cmp) right)) }
-{}
-
-/// The same of closed ranges, over any order whose keys have neighbours, which is what the steps
-/// tell.
-pub fn closed_lists_are_unique<K: Ord, V: Eq, StepFnsT: StepFns<K>>()
-    ensures { (left right : List (RangeInclusiveOf K × V))
-        → IsCanonical (closed StepFnsT.is_key K.cmp) V.eq left
-        → IsCanonical (closed StepFnsT.is_key K.cmp) V.eq right
-        → (IsTrue (same_pairs (closed StepFnsT.is_key K.cmp) V.eq left right)
-        ↔ Alike (closed StepFnsT.is_key K.cmp) V.eq (value_at (closed StepFnsT.is_key K.cmp) left) (value_at (closed StepFnsT.is_key K.cmp) right)) }
+/// Canonical lists are equal pair by pair exactly when their point functions are alike: those of
+/// half-open ranges over any order, and those of closed ranges over any order whose keys have
+/// neighbours, which is what the steps tell. So a point function has at most one canonical list, and
+/// which calls led to it can't be seen.
+pub fn lists_are_unique<Q: Kind<R>, R: KeyRange, V: Eq>()
+    ensures { (left right : List (R × V))
+        → IsCanonical Q.kind V.eq left
+        → IsCanonical Q.kind V.eq right
+        → (IsTrue (same_pairs Q.kind V.eq left right)
+        ↔ Alike Q.kind V.eq (value_at Q.kind left) (value_at Q.kind right)) }
 {}
 
 /// Two maps are equal exactly when they give alike answers at every key. The answers are those of
@@ -75,11 +64,11 @@ pub fn insert_changes_its_range_alone<M: Container>(
     value: M::Value,
 ) -> Result<(), AllocError>
     requires non_empty { M.Kind.kind.IsNonEmpty range }
-    requires faithful_keys { KeysCloneFaithfully M.Key.is_clone M.Key.cmp }
+    requires faithful_keys { KeysCloneFaithfully M.Range.Key.is_clone M.Range.Key.cmp }
     requires faithful_values { ValuesCloneFaithfully M.Value.is_clone M.Value.eq }
     ensures canonical { OnOk result (IsCanonical M.Kind.kind M.Value.eq (M.pairs map.new)) }
-    ensures within { OnOk result ((x : M.Key) → M.Kind.kind.is_key x → M.Kind.kind.holds range x ≡ true → option_eq M.Value.eq (value_at M.Kind.kind (M.pairs map.new) x) (SomeWord value) ≡ true) }
-    ensures elsewhere { OnOk result ((x : M.Key) → M.Kind.kind.is_key x → M.Kind.kind.holds range x ≡ false → option_eq M.Value.eq (value_at M.Kind.kind (M.pairs map.new) x) (value_at M.Kind.kind (M.pairs map.old) x) ≡ true) }
+    ensures within { OnOk result ((x : M.Range.Key) → M.Kind.kind.is_key x → M.Kind.kind.holds range x ≡ true → option_eq M.Value.eq (value_at M.Kind.kind (M.pairs map.new) x) (SomeWord value) ≡ true) }
+    ensures elsewhere { OnOk result ((x : M.Range.Key) → M.Kind.kind.is_key x → M.Kind.kind.holds range x ≡ false → option_eq M.Value.eq (value_at M.Kind.kind (M.pairs map.new) x) (value_at M.Kind.kind (M.pairs map.old) x) ≡ true) }
     ensures err { OnErr result (M.pairs map.new ≡ M.pairs map.old) }
 {
     map.insert(range, value)
@@ -92,11 +81,11 @@ pub fn remove_changes_its_range_alone<M: Container>(
     range: M::Range,
 ) -> Result<(), AllocError>
     requires non_empty { M.Kind.kind.IsNonEmpty range }
-    requires faithful_keys { KeysCloneFaithfully M.Key.is_clone M.Key.cmp }
+    requires faithful_keys { KeysCloneFaithfully M.Range.Key.is_clone M.Range.Key.cmp }
     requires faithful_values { ValuesCloneFaithfully M.Value.is_clone M.Value.eq }
     ensures canonical { OnOk result (IsCanonical M.Kind.kind M.Value.eq (M.pairs map.new)) }
-    ensures within { OnOk result ((x : M.Key) → M.Kind.kind.is_key x → M.Kind.kind.holds range x ≡ true → value_at M.Kind.kind (M.pairs map.new) x ≡ NoneWord) }
-    ensures elsewhere { OnOk result ((x : M.Key) → M.Kind.kind.is_key x → M.Kind.kind.holds range x ≡ false → option_eq M.Value.eq (value_at M.Kind.kind (M.pairs map.new) x) (value_at M.Kind.kind (M.pairs map.old) x) ≡ true) }
+    ensures within { OnOk result ((x : M.Range.Key) → M.Kind.kind.is_key x → M.Kind.kind.holds range x ≡ true → value_at M.Kind.kind (M.pairs map.new) x ≡ NoneWord) }
+    ensures elsewhere { OnOk result ((x : M.Range.Key) → M.Kind.kind.is_key x → M.Kind.kind.holds range x ≡ false → option_eq M.Value.eq (value_at M.Kind.kind (M.pairs map.new) x) (value_at M.Kind.kind (M.pairs map.old) x) ≡ true) }
     ensures err { OnErr result (M.pairs map.new ≡ M.pairs map.old) }
 {
     map.remove(range)
@@ -112,7 +101,7 @@ pub fn insert_twice_equals_once<M: Container>(
 ) -> Result<(), AllocError>
     requires equal { IsTrue (same_pairs M.Kind.kind M.Value.eq (M.pairs once.old) (M.pairs twice.old)) }
     requires non_empty { M.Kind.kind.IsNonEmpty range.now }
-    requires faithful_keys { KeysCloneFaithfully M.Key.is_clone M.Key.cmp }
+    requires faithful_keys { KeysCloneFaithfully M.Range.Key.is_clone M.Range.Key.cmp }
     requires faithful_values { ValuesCloneFaithfully M.Value.is_clone M.Value.eq }
     ensures once { OnOk result (IsCanonOf M.Kind.kind M.Value.eq (override M.Kind.kind (value_at M.Kind.kind (M.pairs once.old)) range.now value.now) (M.pairs once.new)) }
     ensures twice { OnOk result (IsCanonOf M.Kind.kind M.Value.eq (override M.Kind.kind (override M.Kind.kind (value_at M.Kind.kind (M.pairs twice.old)) range.now value.now) range.now value.now) (M.pairs twice.new)) }
@@ -134,8 +123,8 @@ pub fn inserts_commute<M: Container>(
     requires equal { IsTrue (same_pairs M.Kind.kind M.Value.eq (M.pairs forth.old) (M.pairs back.old)) }
     requires first_non_empty { M.Kind.kind.IsNonEmpty first.0.now }
     requires second_non_empty { M.Kind.kind.IsNonEmpty second.0.now }
-    requires no_common_point { (x : M.Key) → M.Kind.kind.is_key x → (M.Kind.kind.holds first.0.now x && M.Kind.kind.holds second.0.now x) ≡ false }
-    requires faithful_keys { KeysCloneFaithfully M.Key.is_clone M.Key.cmp }
+    requires no_common_point { (x : M.Range.Key) → M.Kind.kind.is_key x → (M.Kind.kind.holds first.0.now x && M.Kind.kind.holds second.0.now x) ≡ false }
+    requires faithful_keys { KeysCloneFaithfully M.Range.Key.is_clone M.Range.Key.cmp }
     requires faithful_values { ValuesCloneFaithfully M.Value.is_clone M.Value.eq }
     ensures forth { OnOk result (IsCanonOf M.Kind.kind M.Value.eq (override M.Kind.kind (override M.Kind.kind (value_at M.Kind.kind (M.pairs forth.old)) first.entry.0.now first.entry.1.now) second.entry.0.now second.entry.1.now) (M.pairs forth.new)) }
     ensures back { OnOk result (IsCanonOf M.Kind.kind M.Value.eq (override M.Kind.kind (override M.Kind.kind (value_at M.Kind.kind (M.pairs back.old)) second.entry.0.now second.entry.1.now) first.entry.0.now first.entry.1.now) (M.pairs back.new)) }
@@ -157,7 +146,7 @@ pub fn remove_after_insert_equals_remove<M: Container>(
 ) -> Result<(), AllocError>
     requires equal { IsTrue (same_pairs M.Kind.kind M.Value.eq (M.pairs changed.old) (M.pairs removed.old)) }
     requires non_empty { M.Kind.kind.IsNonEmpty range.now }
-    requires faithful_keys { KeysCloneFaithfully M.Key.is_clone M.Key.cmp }
+    requires faithful_keys { KeysCloneFaithfully M.Range.Key.is_clone M.Range.Key.cmp }
     requires faithful_values { ValuesCloneFaithfully M.Value.is_clone M.Value.eq }
     ensures changed { OnOk result (IsCanonOf M.Kind.kind M.Value.eq (erase M.Kind.kind (override M.Kind.kind (value_at M.Kind.kind (M.pairs changed.old)) range.now value.now) range.now) (M.pairs changed.new)) }
     ensures removed { OnOk result (IsCanonOf M.Kind.kind M.Value.eq (erase M.Kind.kind (value_at M.Kind.kind (M.pairs removed.old)) range.now) (M.pairs removed.new)) }
@@ -177,7 +166,7 @@ pub fn gaps_and_covered_keys_make_up_a_range<M: Container, B: Allocator>(
     stored: &M,
     outer_range: &M::Range,
 ) -> Result<Vec<M::Range, B>, AllocError>
-    requires { KeysCloneFaithfully M.Key.is_clone M.Key.cmp }
+    requires { KeysCloneFaithfully M.Range.Key.is_clone M.Range.Key.cmp }
     ensures gaps { IfOk result (λ gaps. AreGaps M.Kind.kind (map (λ pair. pair.0) (M.pairs stored.now)) outer_range.now gaps.items) }
     ensures parted { IfOk result (λ gaps. IsPartition M.Kind.kind outer_range.now gaps.items (λ key. is_some (covering M.Kind.kind (M.pairs stored.now) key))) }
 {

@@ -1,15 +1,12 @@
-//! The map, over any kind of range.
+//! The map, over any store.
 ghost use Rattle.std.specs.Prelude.{◌≡◌, [], ◌-◌, length, slice_get, is_some, map, nat_eq, nat_lt, IfSome};
 ghost use Rattle.std.specs.Option.{option_copied, option_map};
 ghost use Rattle.rangemap_core.specs.Ranges.{AreGaps, IsCanonical, covering, overlapped, value_at};
 
-use crate::kinds::{OwnSteps, Stored};
-use rangemap_core::entries::covering;
-use rangemap_core::gaps::Gaps;
-use rangemap_core::iter::Iter;
-use rangemap_core::kind::Kind;
-use rangemap_core::overlapping::{Overlapping, overlaps};
-use std::alloc::Allocator;
+use crate::readers::IsAny;
+use rangemap_core::key_range::KeyRange;
+use rangemap_core::kind::{Kind, OwnSteps};
+use rangemap_core::store::{Lends, Store};
 use std::marker::{Model, PhantomData};
 
 mod changes;
@@ -19,138 +16,154 @@ mod container;
 mod json;
 mod text;
 
-/// A map of disjoint ranges of the kind `Q` to values, which joins ranges that touch and have equal
-/// values.
+/// A map of disjoint ranges to values, which joins ranges that touch and have equal values.
 ///
-/// The pairs stand in one sorted vector. Of *n* stored ranges, *k* meet the range that a call is
-/// given:
+/// `S` keeps the pairs: a sorted vector, a tree, chunks. What a call costs is its store's matter, but
+/// where *n* ranges are stored, all have this in common:
 ///
 /// | Call | Time | Memory |
 /// |---|---|---|
 /// | `new`, `new_with_step_fns`, `allocator`, `len`, `is_empty` | *O*(1) | none |
-/// | `first_range_value`, `last_range_value` | *O*(1) | none |
-/// | `iter`, `into_iter` | *O*(1), and for each item | none |
-/// | `get`, `get_key_value`, `contains_key` | *O*(log *n*) | none |
-/// | `overlaps` | *O*(log *n*) | none |
-/// | `overlapping`, `gaps` | *O*(log *n*), and *O*(*k*) for all items | none; clones for a gap |
-/// | `insert`, `remove` | *O*(log *n* + *k*), and *O*(*n*) to move pairs | growth, clones |
+/// | `iter`, `into_iter`, `overlapping`, `overlaps`, lookups | | none |
+/// | `gaps` | | none; clones for a gap |
+/// | `insert`, `remove` | | growth, clones |
 /// | `extend`, `from_iter`, `from` | that of an `insert` for each item | growth, clones |
-/// | `clear` | *O*(*n*), as each drop | none; the room is kept |
-/// | `clone` | *O*(*n*) | one list, clones |
+/// | `clone` | *O*(*n*) | growth, clones |
 /// | `==` | *O*(*n*), *O*(1) where the numbers differ | none |
-///
-/// A lookup asks for at most log2(*n*) + 1 of the stored starts and looks at one pair. An `insert`
-/// makes at most two clones of a value, and one behind all others moves nothing.
 #[derive(Drop)]
-pub struct Map<Q: Kind<K, R>, K: Ord + Clone, R, V: Eq + Clone, A: Allocator> {
-    pairs: Vec<(R, V), A>,
-    kind: PhantomData<(Q, K)>,
+pub struct Map<S: Store> {
+    stored: S,
+    // Names what keys, values and allocator may borrow, which the checker asks of a struct and `S` alone
+    // does not.
+    lives: PhantomData<(S::Range, S::Value, S::Alloc)>,
 }
 
-impl<Q: Kind<K, R>, K: Ord + Clone, R, V: Eq + Clone, A: Allocator> Model for Map<Q, K, R, V, A> {
+impl<S: Store> Model for Map<S> {
     ghost use Rattle.std.specs.Prelude.{List};
-    ghost use Rattle.rangemap_core.specs.Ranges.{IsCanonical};
 
-    ghost Value = { List (R × V) };
+    ghost Value = { List (S.Range × S.Value) };
 
-    ghost view = { λ m. m.pairs.items };
-
-    ghost invariant = { λ m. IsCanonical Q.kind V.eq m.pairs.items };
+    ghost view = { λ m. S.pairs m.stored };
 }
 
-impl<Q: OwnSteps<K, R>, K: Ord + Clone, R: Drop, V: Eq + Clone, A: Allocator> Map<Q, K, R, V, A> {
+impl<S: Store> Map<S>
+where
+    S::Kind: OwnSteps<S::Range>,
+{
     /// Returns the empty map, whose memory will come from `alloc`.
-    pub fn new(alloc: A) -> Self
+    pub fn new(alloc: S::Alloc) -> Self
         ensures { result ≡ [] }
     {
-        Map::empty(alloc)
+        Map::new_with_step_fns(alloc)
     }
 }
 
-impl<Q: Stored<K, R>, K: Ord + Clone, R: Drop, V: Eq + Clone, A: Allocator> Map<Q, K, R, V, A> {
-    /// Returns the empty map of any kind, whose memory will come from `alloc`.
-    pub fn empty(alloc: A) -> Self
+impl<S: Store> Map<S> {
+    /// Returns the empty map over the steps of its kind, whose memory will come from `alloc`.
+    ///
+    /// Of closed ranges these are the steps of `StepFnsT`. Half-open ranges have none, and `new` is the
+    /// word for them.
+    pub fn new_with_step_fns(alloc: S::Alloc) -> Self
         ensures { result ≡ [] }
     {
         Map {
-            pairs: Vec::new(alloc),
-            kind: PhantomData,
+            stored: S::empty(alloc),
+            lives: PhantomData,
         }
     }
 
+    /// Does nothing, and tells that the list of a map at hand is canonical.
+    pub fn known(&self)
+        ensures { IsCanonical S.Kind.kind S.Value.eq self.now }
+    {
+        self.stored.known();
+    }
+
     /// Returns what the memory comes from.
-    pub fn allocator(&self) -> &A {
-        self.pairs.allocator()
+    pub fn allocator(&self) -> &S::Alloc {
+        self.stored.allocator()
     }
 
     /// Returns the number of stored ranges.
     pub fn len(&self) -> usize
         ensures { result ≡ length self.now }
     {
-        self.pairs.len()
+        self.stored.len()
     }
 
     /// Returns whether no range is stored.
     pub fn is_empty(&self) -> bool
         ensures { result ≡ nat_eq (length self.now) 0 }
     {
-        self.pairs.is_empty()
-    }
-
-    /// Returns the stored pairs, in order, from both ends.
-    pub fn iter(&self) -> Iter<'_, R, V>
-        ensures all { result ≡ self.now }
-        ensures canonical { IsCanonical Q.kind V.eq self.now }
-    {
-        Iter::over(&self.pairs)
+        self.stored.len() == 0
     }
 
     /// Returns the value of the stored range that has the key, if there is one.
-    pub fn get(&self, key: &K) -> Option<&V>
-        ensures { option_copied result ≡ value_at Q.kind self.now key.now }
+    pub fn get(&self, key: &<S::Range as KeyRange>::Key) -> Option<&S::Value>
+        ensures { option_copied result ≡ value_at S.Kind.kind self.now key.now }
     {
-        let pair = covering::<Q, K, R, V>(&self.pairs, key).0?;
-        Some(&pair.1)
+        let (_, value) = self.stored.covering(key)?;
+        Some(value)
     }
 
     /// Returns the stored range that has the key, and its value, if there is one.
-    pub fn get_key_value(&self, key: &K) -> Option<(&R, &V)>
-        ensures found { option_map (λ pair. (pair.0.now, pair.1.now)) result ≡ covering Q.kind self.now key.now }
-        ensures canonical { IsCanonical Q.kind V.eq self.now }
+    pub fn get_key_value(&self, key: &<S::Range as KeyRange>::Key) -> Option<(&S::Range, &S::Value)>
+        ensures found { option_map (λ pair. (pair.0.now, pair.1.now)) result ≡ covering S.Kind.kind self.now key.now }
+        ensures canonical { IsCanonical S.Kind.kind S.Value.eq self.now }
     {
-        let pair = covering::<Q, K, R, V>(&self.pairs, key).0?;
-        Some((&pair.0, &pair.1))
+        self.stored.known();
+        self.stored.covering(key)
     }
 
     /// Returns whether a stored range has the key.
-    pub fn contains_key(&self, key: &K) -> bool
-        ensures { result ≡ is_some (covering Q.kind self.now key.now) }
+    pub fn contains_key(&self, key: &<S::Range as KeyRange>::Key) -> bool
+        ensures { result ≡ is_some (covering S.Kind.kind self.now key.now) }
     {
-        covering::<Q, K, R, V>(&self.pairs, key).0.is_some()
+        self.stored.covering(key).is_some()
     }
 
     /// Returns the first stored range and its value, if there is one.
-    pub fn first_range_value(&self) -> Option<(&R, &V)>
+    pub fn first_range_value(&self) -> Option<(&S::Range, &S::Value)>
         ensures found { option_map (λ pair. (pair.0.now, pair.1.now)) result ≡ slice_get self.now 0 }
-        ensures canonical { IsCanonical Q.kind V.eq self.now }
-        ensures non_empty { IfSome result (λ pair. Q.kind.IsNonEmpty pair.0.now) }
+        ensures canonical { IsCanonical S.Kind.kind S.Value.eq self.now }
+        ensures non_empty { IfSome result (λ pair. S.Kind.kind.IsNonEmpty pair.0.now) }
     {
-        match self.pairs.first() {
-            Some(pair) => Some((&pair.0, &pair.1)),
-            None => None,
-        }
+        self.stored.known();
+        self.stored.first()
     }
 
     /// Returns the last stored range and its value, if there is one.
-    pub fn last_range_value(&self) -> Option<(&R, &V)>
+    pub fn last_range_value(&self) -> Option<(&S::Range, &S::Value)>
         ensures found { option_map (λ pair. (pair.0.now, pair.1.now)) result ≡ slice_get self.now (length self.now - 1) }
-        ensures canonical { IsCanonical Q.kind V.eq self.now }
-        ensures non_empty { IfSome result (λ pair. Q.kind.IsNonEmpty pair.0.now) }
+        ensures canonical { IsCanonical S.Kind.kind S.Value.eq self.now }
+        ensures non_empty { IfSome result (λ pair. S.Kind.kind.IsNonEmpty pair.0.now) }
     {
-        match self.pairs.last() {
-            Some(pair) => Some((&pair.0, &pair.1)),
-            None => None,
-        }
+        self.stored.known();
+        self.stored.last()
+    }
+
+    /// Returns whether `overlapping` has an item for the range.
+    pub fn overlaps(&self, range: &S::Range) -> bool
+        ensures any { result ≡ nat_lt 0 (length (overlapped S.Kind.kind self.now range.now)) }
+        ensures canonical { IsCanonical S.Kind.kind S.Value.eq self.now }
+    {
+        self.stored.known();
+        self.stored.read_overlapping::<IsAny>(range, &mut ())
+    }
+}
+
+impl<'a, S: Lends<'a>> Map<S>
+where
+    S::Range: 'a,
+    S::Value: 'a,
+{
+    /// Returns the stored pairs, in order, from both ends.
+    pub fn iter(&'a self) -> S::Iter
+        ensures all { S.Iter.left result ≡ self.now }
+        ensures canonical { IsCanonical S.Kind.kind S.Value.eq self.now }
+    {
+        self.stored.known();
+        self.stored.iter()
     }
 
     /// Returns the pairs that end after the start of `range` and start before its end, in order.
@@ -166,18 +179,10 @@ impl<Q: Stored<K, R>, K: Ord + Clone, R: Drop, V: Eq + Clone, A: Allocator> Map<
     /// // found.next() is Some((&(0..2), &'a')), found.next_back() is Some((&(2..4), &'b')),
     /// // and then both are None
     /// ```
-    pub fn overlapping<'a>(&'a self, range: &'a R) -> Overlapping<'a, Q::Query, K, R, V>
-        ensures { result ≡ overlapped Q.kind self.now range.now }
+    pub fn overlapping(&'a self, range: &'a S::Range) -> S::Overlapping
+        ensures { S.Overlapping.left result ≡ overlapped S.Kind.kind self.now range.now }
     {
-        Overlapping::new::<Q>(&self.pairs, range)
-    }
-
-    /// Returns whether `overlapping` has an item for the range.
-    pub fn overlaps(&self, range: &R) -> bool
-        ensures any { result ≡ nat_lt 0 (length (overlapped Q.kind self.now range.now)) }
-        ensures canonical { IsCanonical Q.kind V.eq self.now }
-    {
-        overlaps::<Q, K, R, V>(&self.pairs, range)
+        self.stored.overlapping(range)
     }
 
     /// Returns the parts of `outer_range` that no stored range covers, in order.
@@ -193,9 +198,9 @@ impl<Q: Stored<K, R>, K: Ord + Clone, R: Drop, V: Eq + Clone, A: Allocator> Map<
     /// let mut gaps = map.gaps(&(0..6));
     /// // gaps.try_next()? is Some(0..1), then Some(3..5), then None
     /// ```
-    pub fn gaps<'a>(&'a self, outer_range: &'a R) -> Gaps<'a, Q, K, R, V>
-        ensures { AreGaps Q.kind (map (λ pair. pair.0) self.now) outer_range.now result }
+    pub fn gaps(&'a self, outer_range: &'a S::Range) -> S::Gaps
+        ensures { AreGaps S.Kind.kind (map (λ pair. pair.0) self.now) outer_range.now (S.between result) }
     {
-        Gaps::new(&self.pairs, outer_range)
+        self.stored.gaps(outer_range)
     }
 }

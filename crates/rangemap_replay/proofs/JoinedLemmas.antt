@@ -2,7 +2,7 @@
 use Rattle.std.proofs.Common.{◌≡◌, Bool, List, Option, is_some}
 use Rattle.std.specs.Cmp.{IsEquivalence}
 use Rattle.rangemap_core.specs.Ranges.{RangeKind, Alike, IsCanonOf, value_at}
-use Rattle.rangemap_operations.proofs.OperatorLemmas.{common_absorbs, common_alike, common_associates, common_commutes, common_distributes, common_idempotent, common_of, either_absorbs, either_alike, either_associates, either_commutes, either_distributes, either_idempotent, either_of}
+use Rattle.rangemap_core.proofs.OperatorLemmas.{common_absorbs, common_alike, common_associates, common_commutes, common_distributes, common_idempotent, common_of, either_absorbs, either_alike, either_associates, either_commutes, either_distributes, either_idempotent, either_of}
 use Rattle.rangemap_replay.specs.Joined.{joined, other_of}
 use Rattle.rangemap_replay.specs.declared.operator.Operator.{Operator}
 use Rattle.rangemap_replay.specs.declared.operator.Operator.TheVariants.{Union, Intersection}

@@ -1,5 +1,5 @@
 -- What calls on a list of maps make of the functions that these stand for.
-use Rattle.std.proofs.Common.{arith, ◌≡◌, ℕ, ◌<◌, ◌≤◌, Bool, true, false, List, [], ◌∷◌, ◌++◌, length, take, get_or, set, Option, Some, Result, Ok, Err, OnOk, OnErr, IsOk, Vec, is_ok, refl, subst, sym, ap, ◌∙◌, inl, inr, true≢false}
+use Rattle.std.proofs.Common.{arith, ◌≡◌, ℕ, ◌<◌, ◌≤◌, Bool, true, false, List, [], ◌∷◌, ◌++◌, length, take, get_or, set, Option, Some, Result, Ok, Err, IfOk, OnOk, OnErr, IsOk, Vec, is_ok, refl, subst, sym, ap, ◌∙◌, inl, inr, true≢false}
 use Rattle.std.specs.Cmp.{IsEquivalence}
 use Rattle.std.specs.List.{slice_get}
 use Rattle.std.specs.Option.{unwrap_or}
@@ -34,6 +34,13 @@ module _ {K X V M C : Type 0} (k : RangeKind K X) (eq : V → V → Bool) (pairs
       let rest = made_in_turn r.0 new calls answers r.2 first.0 first.2 in
       (rest.0, (first.0, first.1, rest.1), rest.2)
 
+-- what a call makes that adds one thing, where that was made, and else nothing
+pub added_or_not : {M : Type 0} (P : M → Type 0) (MakesIt : Bool → List M → Type 0) (ls new : List M) (made : Result M AllocError) (answer : Bool)
+    → ((m : M) → P m → MakesIt true (ls ++ m ∷ [])) → MakesIt false ls → IfOk made P
+    → answer ≡ is_ok made → IfOk made (λ m. new ≡ ls ++ m ∷ []) → OnErr made (new ≡ ls) → MakesIt answer new
+added_or_not P MakesIt ls new (Ok m) answer one none p is ok err = rw is (rw ok (one m p))
+added_or_not P MakesIt ls new (Err u) answer one none p is ok err = rw is (rw err none)
+
 -- a function that stands at a place stands there alone
 one_there : {F : Type 0} {o : Option F} {f g : F} → o ≡ Some f → o ≡ Some g → f ≡ g
 one_there {f = f} a b = ap (λ o. unwrap_or o f) (sym a ∙ b)
@@ -45,9 +52,6 @@ module _ {K X V M : Type 0} (k : RangeKind K X) {eq : V → V → Bool} (e : IsE
 
   -- a call that names no place
   module _ (at : ℕ) (past : length ls ≤ at) where
-    pub insert_past : (r : X) (v : V) → Makes k eq shown (ChangeStep k) ls (Insert at r v) false ls
-    insert_past r v fs h = (fs, refl, h)
-
     pub remove_past : (r : X) → Makes k eq shown (ChangeStep k) ls (Remove at r) false ls
     remove_past r fs h = (fs, (refl, λ f there. absurd (beyond fs at f (omega (arith, as_long Shows fs ls h)) there)), h)
       where

@@ -9,14 +9,14 @@ use Rattle.rangemap_core.proofs.CanonLemmas.{override_all_of}
 use Rattle.rangemap_core.proofs.ZipLemmas.{added, as_long, changed, found}
 use Rattle.rangemap_replay.specs.declared.calls.sets.SetCall.TheVariants.{FromIter, Extend}
 use Rattle.rangemap_replay.specs.Histories.{Makes}
-use Rattle.rangemap_operations.specs.Operators.{common, either}
+use Rattle.rangemap_core.specs.Operators.{common, either}
 use Rattle.rangemap_replay.specs.SetHistories.{SetStep, joining}
 use Rattle.rangemap_replay.specs.Joined.{joined}
 use Rattle.rangemap_replay.specs.declared.operator.Operator.{Operator}
 use Rattle.rangemap_replay.specs.declared.operator.Operator.TheVariants.{Union, Intersection}
 use Rattle.rangemap_replay.proofs.JoinedLemmas.{joined_alike}
-use Rattle.rangemap_operations.specs.Sets.{Adds, ranges}
-use Rattle.rangemap_operations.proofs.SetLemmas.{canon_shown, overrides_of}
+use Rattle.rangemap_core.specs.Sets.{Adds, ranges}
+use Rattle.rangemap_core.proofs.SetLemmas.{canon_shown, overrides_of}
 
 module _ {K X M : Type 0} (k : RangeKind K X) (shown : M → List (X × ⊤)) (ls : List M) where
   e : IsEquivalence (unit_eq k)

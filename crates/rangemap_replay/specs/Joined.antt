@@ -2,7 +2,7 @@
 use Rattle.std.specs.Prelude.{Option}
 use Rattle.rangemap_replay.specs.declared.operator.Operator.{Operator}
 use Rattle.rangemap_replay.specs.declared.operator.Operator.TheVariants.{Union, Intersection}
-use Rattle.rangemap_operations.specs.Operators.{common, either}
+use Rattle.rangemap_core.specs.Operators.{common, either}
 
 -- what `|` makes, the keys of either function, or `&`, those of both
 abbrev pub joined : {K V : Type 0} → Operator → (K → Option V) → (K → Option V) → K → Option V

@@ -1,14 +1,14 @@
 -- What calls on a list of sets make of the point functions that the sets stand for.
 use Rattle.std.specs.Prelude.{◌≡◌, ℕ, ◌≤◌, ⊤, ◌⊎◌, Bool, true, false, List, ◌∷◌, [], ◌++◌, length, take, Option, Some, slice_get}
 use Rattle.rangemap_replay.specs.Histories.{ChangeStep, Changes}
-use Rattle.rangemap_operations.specs.Operators.{common, either}
+use Rattle.rangemap_core.specs.Operators.{common, either}
 use Rattle.rangemap_replay.specs.declared.calls.Change.TheVariants.{New as MakeEmpty, Insert as InsertPair, Remove as RemoveRange, Clear as ClearMap, Clone as CloneMap}
 use Rattle.rangemap_replay.specs.declared.calls.sets.SetCall.{SetCall}
 use Rattle.rangemap_replay.specs.declared.calls.sets.SetCall.TheVariants.{New, Insert, Remove, Clear, Clone, FromIter, Extend, Union, Intersection}
 use Rattle.rangemap_replay.specs.declared.operator.Operator.{Operator}
 use Rattle.rangemap_replay.specs.declared.operator.Operator.TheVariants.{Union as OfEither, Intersection as OfBoth}
 use Rattle.rangemap_core.specs.Ranges.{RangeKind, nothing, override_all, with_unit}
-use Rattle.rangemap_operations.specs.Sets.{AreNonEmptyRanges}
+use Rattle.rangemap_core.specs.Sets.{AreNonEmptyRanges}
 
 -- what an operator makes of the functions at two places is added at the end
 abbrev pub Joins : {K V : Type 0} → ((K → Option V) → (K → Option V) → K → Option V) → List (K → Option V) → ℕ → ℕ → List (K → Option V) → Type 0

@@ -7,7 +7,7 @@ pub mod sets;
 /// A call that every map has, over ranges of type `R`. It names a map by its place in the list.
 #[derive(Drop)]
 pub enum Change<R, V> {
-    /// Makes an empty map.
+    /// Makes an empty map, by `new_with_step_fns`.
     New,
     /// Gives the keys of the range the value, in the map at the place.
     Insert { at: usize, range: R, value: V },
@@ -23,7 +23,7 @@ pub enum Change<R, V> {
 /// the list.
 #[derive(Drop)]
 pub enum Call<R, V, A: Allocator> {
-    /// A call that every map has.
+    /// A call that every map has, where `New` makes the map by `new`.
     Change(Change<R, V>),
     /// Makes a map of the pairs, inserted in order.
     FromIter { pairs: Vec<(R, V), A> },

@@ -4,7 +4,7 @@ ghost use Rattle.rangemap_core.specs.Clones.{KeysCloneFaithfully};
 ghost use Rattle.rangemap_core.specs.Ranges.{IsCanonOf, value_at};
 ghost use Rattle.rangemap_replay.specs.Joined.{joined, other_of};
 
-use rangemap_operations::combine::Combine;
+use rangemap_core::container::Combine;
 use std::alloc::AllocError;
 
 /// One of the two operators.
@@ -18,7 +18,7 @@ pub enum Operator {
 impl Operator {
     /// Makes the operator.
     pub fn join<M: Combine>(&self, first: &M, second: &M) -> Result<M, AllocError>
-        requires faithful_keys { KeysCloneFaithfully M.Key.is_clone M.Key.cmp }
+        requires faithful_keys { KeysCloneFaithfully M.Range.Key.is_clone M.Range.Key.cmp }
         ensures { IfOk result (λ set. IsCanonOf M.Kind.kind M.Value.eq (joined self.now (value_at M.Kind.kind (M.pairs first.now)) (value_at M.Kind.kind (M.pairs second.now))) (M.pairs set)) }
     {
         match self {

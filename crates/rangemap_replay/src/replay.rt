@@ -20,14 +20,14 @@ pub trait CallOn<M: Container>: Drop {
     ghost has_non_empty: { Self → Type 0 };
 
     /// What the call makes of the functions that the containers stand for, by its answer.
-    ghost step: { List (M.Key → Option M.Value) → Self → Bool → List (M.Key → Option M.Value) → Type 0 };
+    ghost step: { List (M.Range.Key → Option M.Value) → Self → Bool → List (M.Range.Key → Option M.Value) → Type 0 };
 
     /// Makes the call, with `alloc` for a container that it adds at the end, and answers whether it
     /// was accepted. For that one there is room in the list, so that the call alone can be refused.
     fn make(self, alloc: M::Alloc, maps: &mut Vec<M, M::Alloc>) -> bool
         requires room { vec_len maps.old < vec_capacity maps.old }
         requires non_empty { has_non_empty self }
-        requires faithful_keys { KeysCloneFaithfully M.Key.is_clone M.Key.cmp }
+        requires faithful_keys { KeysCloneFaithfully M.Range.Key.is_clone M.Range.Key.cmp }
         requires faithful_values { ValuesCloneFaithfully M.Value.is_clone M.Value.eq }
         ensures made { Makes M.Kind.kind M.Value.eq M.pairs step maps.old.items self result maps.new.items }
         ensures len { vec_len maps.new ≤ vec_len maps.old + 1 }
@@ -38,8 +38,9 @@ pub trait CallOn<M: Container>: Drop {
 /// accepted.
 ///
 /// Each container's module gives it under its own path, with its sorts of call: `map::replay` takes
-/// a `map::Call` or a `map::Change`. Over steps of another type than the key's, which
-/// `replay_with_step_fns` is a name for, there is `Change` alone.
+/// a `map::Call` or a `map::Change`. A `Change::New` makes its container by `new_with_step_fns`, and
+/// that of a `Call` by `new`. So over steps of another type than the key's there is `Change` alone,
+/// and `replay_with_step_fns` is a name for the replay of these.
 ///
 /// A call names a container by its place in the list; an operator of sets names two. A call that
 /// makes a container adds it at the end; where it is refused none is added. A call that names a
@@ -79,7 +80,7 @@ pub fn replay<M: Container, C: CallOn<M>>(
 where
     M::Alloc: Clone,
     requires non_empty { AllByRecursion C.has_non_empty calls.items }
-    requires faithful_keys { KeysCloneFaithfully M.Key.is_clone M.Key.cmp }
+    requires faithful_keys { KeysCloneFaithfully M.Range.Key.is_clone M.Range.Key.cmp }
     requires faithful_values { ValuesCloneFaithfully M.Value.is_clone M.Value.eq }
     ensures ok { IfOk result (λ answers. MakesAll M.Kind.kind M.Value.eq M.pairs C.step maps.old.items calls.items answers.items maps.new.items) }
     ensures err { OnErr result (maps.new.items ≡ maps.old.items) }
@@ -107,7 +108,7 @@ fn make_all<M: Container, C: CallOn<M>>(
     requires room_for_answers { vec_len calls ≤ vec_capacity answers.old }
     requires no_answers { answers.old.items ≡ [] }
     requires non_empty { AllByRecursion C.has_non_empty calls.items }
-    requires faithful_keys { KeysCloneFaithfully M.Key.is_clone M.Key.cmp }
+    requires faithful_keys { KeysCloneFaithfully M.Range.Key.is_clone M.Range.Key.cmp }
     requires faithful_values { ValuesCloneFaithfully M.Value.is_clone M.Value.eq }
     ensures { Run (Makes M.Kind.kind M.Value.eq M.pairs C.step) maps.old.items calls.items answers.new.items maps.new.items }
 {

@@ -16,9 +16,9 @@ use Rattle.rangemap_core.proofs.ListLemmas.{Every-map, Every-right}
 use Rattle.rangemap_core.proofs.InsertPartLemmas.{before_first}
 use Rattle.rangemap_core.proofs.PlaceOrderLemmas.{le_trans, lt_le_trans, le_lt_trans}
 use Rattle.rangemap_core.proofs.RestLemmas.{rests_spaced, rests_erase}
-use Rattle.rangemap_by_start.specs.Starts.{before, from, past, up_to, recut, piece_list, IsCutThere, IsNewAt}
+use Rattle.rangemap_tree.specs.Starts.{before, from, past, up_to, recut, piece_list, IsCutThere, IsNewAt}
 use Rattle.rangemap_tree.specs.Sides.{shape, IsLeft, IsRight, IsLeftCut, IsRightCut}
-use Rattle.rangemap_by_start.proofs.StartLemmas.{from_lower}
+use Rattle.rangemap_tree.proofs.StartLemmas.{from_lower}
 use Rattle.rangemap_tree.proofs.SplitLemmas.{le_of, split, split_past}
 use Rattle.rangemap_tree.proofs.RemoveSideLemmas.{untouched}
 

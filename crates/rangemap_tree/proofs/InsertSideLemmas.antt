@@ -10,9 +10,9 @@ use Rattle.rangemap_core.specs.engine.Stretch.{Every, IsLeftPart, IsRightPart}
 use Rattle.rangemap_core.proofs.ListLemmas.{Every-map, Every-append, Every-right, apart_from_all, IsApart-from_lt, IsSpaced-left, IsSpaced-right}
 use Rattle.rangemap_core.proofs.InsertPartLemmas.{left_uncut, left_taken, left_cut, right_uncut, right_taken, right_cut, before_first}
 use Rattle.rangemap_core.proofs.PlaceOrderLemmas.{lt_le, tied_le, tied_ge, le_trans, lt_le_trans, le_lt_trans}
-use Rattle.rangemap_by_start.specs.Starts.{before, from, past, up_to, recut}
+use Rattle.rangemap_tree.specs.Starts.{before, from, past, up_to, recut}
 use Rattle.rangemap_tree.specs.Sides.{shape, IsLeft, IsRight}
-use Rattle.rangemap_by_start.proofs.StartLemmas.{recut_last, before_tied, past_tied}
+use Rattle.rangemap_tree.proofs.StartLemmas.{recut_last, before_tied, past_tied}
 use Rattle.rangemap_tree.proofs.NearLemmas.{parts_behind, whole as near_whole}
 use Rattle.rangemap_tree.proofs.SplitLemmas.{all_from, all_full, grouped, parts_at, split, split_past}
 

@@ -1,9 +1,14 @@
+pub mod ResultLemmas
+pub mod FilterLemmas
+pub mod StartLemmas
+pub mod EntryLemmas
+pub mod TakenLemmas
+pub mod CloneLemmas
+pub mod AheadLemmas
 pub mod SplitLemmas
 pub mod NearLemmas
 pub mod InsertSideLemmas
 pub mod RemoveSideLemmas
 pub mod ChangeLemmas
 pub mod OverlapLemmas
-pub mod CloneLemmas
 pub mod GapLemmas
-pub mod EndLemmas

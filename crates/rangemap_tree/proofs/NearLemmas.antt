@@ -11,9 +11,9 @@ use Rattle.rangemap_core.specs.engine.Stretch.{Every}
 use Rattle.rangemap_core.proofs.ListLemmas.{Every-map, Every-append, IsSpaced-left}
 use Rattle.rangemap_core.proofs.InsertPartLemmas.{before_first}
 use Rattle.rangemap_core.proofs.PlaceOrderLemmas.{lt_le, lt_le_trans}
-use Rattle.rangemap_by_start.specs.Starts.{before, from, past, up_to}
+use Rattle.rangemap_tree.specs.Starts.{before, from, past, up_to}
 use Rattle.rangemap_tree.specs.Sides.{shape}
-use Rattle.rangemap_by_start.proofs.FilterLemmas.{filter_no, filter_passes, filter_same}
+use Rattle.rangemap_tree.proofs.FilterLemmas.{filter_no, filter_passes, filter_same}
 use Rattle.rangemap_tree.proofs.SplitLemmas.{all_from, all_full, grouped, not_lt_of_le, parts_at, split_past}
 
 not_below : (b c : Bool) → c ≡ true → (b && not c) ≡ false

@@ -13,9 +13,9 @@ use Rattle.rangemap_core.specs.engine.Stretch.{Every}
 use Rattle.rangemap_core.proofs.ListLemmas.{Every-map, Every-append, Every-right, IsSpaced-left, IsSpaced-right}
 use Rattle.rangemap_core.proofs.InsertPartLemmas.{before_first}
 use Rattle.rangemap_core.proofs.PlaceOrderLemmas.{le_trans, lt_le_trans, le_lt_trans}
-use Rattle.rangemap_by_start.specs.Starts.{past, up_to}
+use Rattle.rangemap_tree.specs.Starts.{past, up_to}
 use Rattle.rangemap_tree.specs.Sides.{shape}
-use Rattle.rangemap_by_start.proofs.FilterLemmas.{filter_same}
+use Rattle.rangemap_tree.proofs.FilterLemmas.{filter_same}
 use Rattle.rangemap_tree.proofs.SplitLemmas.{split_past, all_full, grouped, not_lt_of_le}
 
 no_and : (a b : Bool) → (b ≡ false → a ≡ false) → (a && not b) ≡ false

@@ -11,9 +11,9 @@ use Rattle.rangemap_core.specs.engine.Stretch.{Every, IsLeftRest, IsRightRest}
 use Rattle.rangemap_core.proofs.ListLemmas.{Every-map, Every-append, Every-right, apart_from_all, IsSpaced-right}
 use Rattle.rangemap_core.proofs.InsertPartLemmas.{before_first, rest_before_uncut, rest_before_cut, rest_after_uncut, rest_after_cut}
 use Rattle.rangemap_core.proofs.PlaceOrderLemmas.{lt_le, le_trans, lt_le_trans}
-use Rattle.rangemap_by_start.specs.Starts.{before, from, past, recut}
+use Rattle.rangemap_tree.specs.Starts.{before, from, past, recut}
 use Rattle.rangemap_tree.specs.Sides.{shape, IsLeftCut, IsRightCut}
-use Rattle.rangemap_by_start.proofs.StartLemmas.{recut_last}
+use Rattle.rangemap_tree.proofs.StartLemmas.{recut_last}
 use Rattle.rangemap_tree.proofs.SplitLemmas.{grouped, none_up_to, split}
 
 pub not_none : {X : Type 0} (f : X → Bool) (us : List X) (b : X) (ws : List X) → f b ≡ true → filter f (us ++ b ∷ ws) ≡ [] → true ≡ false

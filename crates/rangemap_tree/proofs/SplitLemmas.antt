@@ -9,7 +9,7 @@ use Rattle.rangemap_core.specs.engine.Shape.{Shape, IsSpaced}
 use Rattle.rangemap_core.specs.engine.Stretch.{Every}
 use Rattle.rangemap_core.proofs.ListLemmas.{Every-map, apart_from_all}
 use Rattle.rangemap_core.proofs.PlaceOrderLemmas.{lt_le, lt_le_trans, le_lt_trans, lt_or_le}
-use Rattle.rangemap_by_start.specs.Starts.{before, from, past, up_to}
+use Rattle.rangemap_tree.specs.Starts.{before, from, past, up_to}
 use Rattle.rangemap_tree.specs.Sides.{shape}
 
 pub le_of : (r : Ordering) → is_gt r ≡ false → is_le r ≡ true

@@ -1,2 +1,4 @@
+pub mod Starts
+pub mod Ahead
 pub mod Sides
 pub mod Gaps

@@ -8,7 +8,7 @@ use Rattle.rangemap_core.specs.Ranges.{half_open}
 use Rattle.rangemap_core.specs.engine.PlacedKinds.{half_open_end_place}
 use Rattle.rangemap_core.specs.engine.Shape.{Shape, shape_of}
 use Rattle.rangemap_core.specs.engine.Stretch.{IsLeftPart, IsRightPart, IsLeftRest, IsRightRest}
-use Rattle.rangemap_by_start.specs.Starts.{before, from, past, recut, piece_list, IsCutThere, IsNewAt}
+use Rattle.rangemap_tree.specs.Starts.{before, from, past, recut, piece_list, IsCutThere, IsNewAt}
 
 module _ {K V : Type 0} (cmp : K → K → Ordering) (eq : V → V → Bool) where
   abbrev pub shape : Shape (Range K) (Option K) V

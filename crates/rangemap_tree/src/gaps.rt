@@ -6,9 +6,8 @@ ghost use Rattle.rangemap_core.specs.Clones.{KeysCloneFaithfully};
 ghost use Rattle.rangemap_core.specs.MadeRanges.{GivesRange, TakesRange};
 ghost use Rattle.rangemap_core.specs.Ranges.{AreGaps, IsCanonical, half_open};
 
-use crate::overlapping::overlapping_pairs;
-use rangemap_by_start::ByStart;
-use rangemap_by_start::overlapping::Overlapping;
+use crate::by_start::ByStart;
+use crate::overlapping::{Overlapping, overlapping_pairs};
 use rangemap_core::half_open::HalfOpen;
 use rangemap_core::kind::{Endpoint, Kind};
 use std::alloc::{AllocError, Allocator};
@@ -75,8 +74,8 @@ impl<'a, K: Ord + Clone, V> Gaps<'a, K, V> {
         }
         while let Some(range) = self.next {
             let to = Endpoint::Start(range);
-            if <HalfOpen as Kind<K, Range<K>>>::is_before(self.from, to) {
-                let gap = <HalfOpen as Kind<K, Range<K>>>::part(self.from, to)?;
+            if <HalfOpen as Kind<Range<K>>>::is_before(self.from, to) {
+                let gap = <HalfOpen as Kind<Range<K>>>::part(self.from, to)?;
                 self.from = Endpoint::End(range);
                 self.next = next_range(&mut self.pairs);
                 return Ok(Some(gap));
@@ -85,8 +84,8 @@ impl<'a, K: Ord + Clone, V> Gaps<'a, K, V> {
             self.next = next_range(&mut self.pairs);
         }
         let to = Endpoint::End(self.outer_range);
-        let gap = if <HalfOpen as Kind<K, Range<K>>>::is_before(self.from, to) {
-            Some(<HalfOpen as Kind<K, Range<K>>>::part(self.from, to)?)
+        let gap = if <HalfOpen as Kind<Range<K>>>::is_before(self.from, to) {
+            Some(<HalfOpen as Kind<Range<K>>>::part(self.from, to)?)
         } else {
             None
         };

@@ -1,8 +1,17 @@
-//! A map of half-open ranges that keeps them in a B-tree.
+//! The pairs of a map or a set in a B-tree.
+//!
+//! `ByStart` keeps half-open ranges by their starts, in std's tree. The engine goes over it: what a
+//! query meets, gaps, and the changes, which make every clone first. `Tree` is the store that `Map`
+//! and `Set` stand on.
 #![tactic(auto)]
 
+pub mod by_start;
 pub mod gaps;
-mod overlapping;
-pub mod tree_map;
+pub mod insert;
+pub mod into_iter;
+pub mod iter;
+pub mod overlapping;
+pub mod remove;
+pub mod tree;
 
-pub use tree_map::RangeMap;
+pub use tree::Tree;

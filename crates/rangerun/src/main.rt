@@ -7,5 +7,5 @@
 use std::process::ExitCode;
 
 fn main(rt: HostRuntime) -> ExitCode {
-    rangerun_lines::serve(&rt)
+    rangerun_library::serve(&rt)
 }

@@ -1,6 +1,6 @@
 //! The words after the program's name.
 
-use rangerun_lines::{Fault, run};
+use rangerun_library::{Fault, run};
 use std::alloc::AllocError;
 use std::process::Abort;
 

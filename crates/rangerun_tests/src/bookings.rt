@@ -2,10 +2,10 @@
 //! leave is asked of the program, in `cal.rt`.
 
 use calendar::{BookError, Calendar, Call, replay};
-use refusing::Refusing;
 use std::alloc::{AllocError, Allocator};
 use std::process::Abort;
 use std::test::Fail;
+use tests_support::Refusing;
 
 /// A number of requests for memory that no call here makes.
 const MANY: u64 = 1000;

@@ -1,6 +1,6 @@
 //! What the program tells of the fault that ends it, and its exit status.
 
-use rangerun_lines::{Fault, end, unread};
+use rangerun_library::{Fault, end, unread};
 use std::io::{Error, ErrorKind};
 use std::test::Fail;
 

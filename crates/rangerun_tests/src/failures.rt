@@ -2,7 +2,7 @@
 
 use crate::runs::words_for;
 use crate::streams::{Failure, Pieces, Sink};
-use rangerun_lines::{Fault, run};
+use rangerun_library::{Fault, run};
 use std::alloc::AllocError;
 use std::io::ErrorKind;
 use std::process::Abort;

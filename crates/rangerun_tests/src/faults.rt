@@ -1,7 +1,7 @@
 //! Lines that are no commands, and what is said of them.
 
 use crate::runs::{KINDS, MAPS, SETS, assert_answers, assert_faults, assert_run};
-use rangerun_lines::Fault;
+use rangerun_library::Fault;
 use std::alloc::AllocError;
 use std::process::Abort;
 

@@ -2,10 +2,10 @@
 
 use crate::runs::words_for;
 use crate::streams::Lines;
-use rangerun_lines::{Fault, run_in};
-use refusing::Refusing;
+use rangerun_library::{Fault, run_in};
 use std::alloc::{AllocError, Global};
 use std::process::Abort;
+use tests_support::Refusing;
 
 /// A line, and its answer.
 type Row = (&'static str, &'static str);

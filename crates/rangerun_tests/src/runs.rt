@@ -1,6 +1,6 @@
 //! Runs of the program over texts in memory.
 
-use rangerun_lines::{Fault, run};
+use rangerun_library::{Fault, run};
 use std::alloc::{AllocError, Global};
 use std::process::Abort;
 

@@ -16,11 +16,11 @@ mod points;
 mod session;
 mod soaked;
 
-use refusing::Refusing;
 use session::{Report, soak};
-use soaked::{Heap, InclusiveMap, InclusiveSet, Map, Profile, Set, TreeMap};
+use soaked::{Heap, InclusiveMap, InclusiveSet, Map, Profile, Set, TreeMap, TreeSet};
 use std::process::ExitCode;
 use std::{env, io};
+use tests_support::Refusing;
 
 /// The seed and the number of calls that the program was given, if it was given just these.
 fn arguments(rt: &HostRuntime) -> io::Result<Option<(u64, u64)>> {
@@ -87,12 +87,21 @@ fn soak_sets(rt: &HostRuntime, heap: &Heap, seed: u64, calls: u64) -> io::Result
         blocks_of_each: 0,
         ..set
     };
+    let tree_set = Profile {
+        blocks_of_each: 3,
+        is_tree: true,
+        ..set
+    };
     let report = soak::<Set<'_>>(heap, rt.alloc(), set, seed, calls);
     if !tell(rt, heap, "set", report)? {
         return Ok(false);
     }
     let report = soak::<InclusiveSet<'_>>(heap, rt.alloc(), inclusive_set, seed, calls);
-    tell(rt, heap, "inclusive_set", report)
+    if !tell(rt, heap, "inclusive_set", report)? {
+        return Ok(false);
+    }
+    let report = soak::<TreeSet<'_>>(heap, rt.alloc(), tree_set, seed, calls);
+    tell(rt, heap, "tree_set", report)
 }
 
 fn serve(rt: &HostRuntime) -> io::Result<ExitCode> {

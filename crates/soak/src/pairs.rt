@@ -10,7 +10,7 @@ use std::alloc::{AllocError, Global};
 pub fn range<'a, S: Soaked<'a>>(heap: &'a Heap, run: Run) -> Result<S::Range, AllocError>
     ensures { IfOk result S.Kind.kind.IsNonEmpty }
 {
-    S::Range::between(heap, run.first, run.last)
+    S::Range::from_points(heap, run.first, run.last)
 }
 
 /// Makes the pair of what is to be inserted.

@@ -7,8 +7,8 @@ use crate::chance::Chance;
 use crate::difference::Stop;
 use crate::points::Piece;
 use rangemap::container::Collect;
-use refusing::Refusing;
-use std::alloc::{AllocError, Global};
+use rangemap_core::key_range::KeyRange;
+use std::alloc::AllocError;
 
 mod boxed;
 mod costly;
@@ -19,41 +19,42 @@ mod numbers;
 mod sets;
 
 pub use maps::{InclusiveMap, Map, TreeMap};
-pub use sets::{InclusiveSet, Set};
-
-/// Where a container takes its memory from.
-pub type Heap = Refusing<Global>;
+pub use sets::{InclusiveSet, Set, TreeSet};
+pub use tests_support::Heap;
 
 /// Ranges over keys that stand for points.
-pub trait PointRange<'a>: Drop {
-    /// What a container asks of a range that is inserted or removed.
+pub trait PointRange<'a>: KeyRange {
+    /// That the range has a point.
     ghost IsNonEmpty: { Self → Type 0 };
 
     /// Makes the range from one point up to another, which is in it.
-    fn between(heap: &'a Heap, first: u8, last: u8) -> Result<Self, AllocError>
+    fn from_points(heap: &'a Heap, first: u8, last: u8) -> Result<Self, AllocError>
         ensures { first ≤ last → IfOk result IsNonEmpty };
 
     /// Returns the points of the range, as a piece with a mark.
     fn piece(&self, mark: u8) -> Piece;
+
+    /// A range with a point in it is what a container asks for.
+    ghost takes: { (range : Self) → IsNonEmpty range → Self.has_key range × Self.is_fresh range };
+
+    /// A clone of a key ties with it.
+    ghost faithful: { KeysCloneFaithfully Self.Key.is_clone Self.Key.cmp };
 }
 
 /// Values that stand for marks.
-pub trait Mark<'a>: Drop {
+pub trait Mark<'a>: Eq + Clone {
     /// Makes the value that stands for a mark.
     fn of(heap: &'a Heap, mark: u8) -> Result<Self, AllocError>;
 
     /// Returns the mark that the value stands for.
     fn mark(&self) -> u8;
+
+    /// A clone of a value equals it.
+    ghost faithful: { ValuesCloneFaithfully Self.is_clone Self.eq };
 }
 
 /// A container over points.
-///
-/// It has one supertrait: with `TryClone` beside `Collect`, both of which stand on one trait,
-/// each function over it would be far dearer to prove.
 pub trait Soaked<'a>: Collect<Alloc = &'a Heap, Range: PointRange<'a>, Value: Mark<'a>> {
-    /// Makes an equal container by `clone`.
-    fn copied(&self) -> Result<Self, AllocError>;
-
     /// Makes `self | other` or `self & other`, where the container has these operators.
     fn combined(&self, other: &Self, is_union: bool) -> Option<Result<Self, AllocError>>;
 
@@ -65,15 +66,6 @@ pub trait Soaked<'a>: Collect<Alloc = &'a Heap, Range: PointRange<'a>, Value: Ma
         pieces: &[Piece],
         chance: &mut Chance<'_>,
     ) -> Result<bool, Stop>;
-
-    /// A range with a point in it is what the container asks for.
-    ghost takes: { (range : Self.Range) → Self.Range.IsNonEmpty range → Self.Kind.kind.IsNonEmpty range };
-
-    /// A clone of a key ties with it.
-    ghost faithful_keys: { KeysCloneFaithfully Self.Key.is_clone Self.Key.cmp };
-
-    /// A clone of a value equals it.
-    ghost faithful_values: { ValuesCloneFaithfully Self.Value.is_clone Self.Value.eq };
 }
 
 /// What is known of a container beside its type.

@@ -1,7 +1,7 @@
 //! Rows over closed ranges.
 
+use crate::noted::Noted;
 use crate::tables::{check_closed, check_stepped};
-use rows::Noted;
 use std::test::Fail;
 
 mod collections;

@@ -1,7 +1,7 @@
 //! The worked rows of maps, as tests over the crate that users name.
 //!
 //! A file and a folder for each container. A row gives the calls that are made on an empty container,
-//! what it is asked then, and what it answers; the crate `rows` compares it for every container
+//! what it is asked then, and what it answers; the crate `tests_rows` compares it for every container
 //! alike, and `tables` says for which. docs/TESTS.md leads from each row to its test, and from each
 //! wrong body to its edit.
 #![tactic(auto)]
@@ -12,6 +12,8 @@ mod inclusive_map;
 mod iterators;
 #[cfg(test)]
 mod map;
+#[cfg(test)]
+mod noted;
 #[cfg(test)]
 mod searches;
 #[cfg(test)]

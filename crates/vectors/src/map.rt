@@ -1,19 +1,11 @@
 //! Rows over half-open ranges, which a map in a sorted vector and one in a tree both pass.
 
+use crate::noted::Noted;
 use crate::tables::check_half_open;
-use rangemap::{RangeMap, tree_map};
-use rows::Noted;
-use std::alloc::Global;
 use std::test::Fail;
 
 mod collections;
 mod replays;
-
-/// A map over numbers.
-pub type Map = RangeMap<u32, char, Global>;
-
-/// The same in a tree.
-pub type TreeMap = tree_map::RangeMap<u32, char, Global>;
 
 // Inside a stored range, and its own value back; all of some pairs and parts of others; removals;
 // and equality, which forgets the calls, and a clone.

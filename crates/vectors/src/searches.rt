@@ -3,50 +3,49 @@
 //! The table stands here, and not in the crate of `covering`: a crate with tests is proved twice,
 //! and all of the library waits for that one.
 
-use rangemap::container::Container;
-use rangemap_core::entries::covering;
+use rangemap::map::Map;
+use rangemap_core::closed::Closed;
 use rangemap_core::half_open::HalfOpen;
-use rangemap_core::kind::Interval;
-use rangemap_maps::closed::Closed;
-use rangemap_maps::kinds::Stored;
-use rangemap_maps::range_map::Map;
+use rangemap_core::key_range::KeyRange;
+use rangemap_core::kind::Kind;
+use rangemap_sorted::SortedVec;
+use rangemap_sorted::entries::covering;
 use std::alloc::Global;
 use std::ops::{Range, RangeInclusive};
 use std::test::Fail;
+use tests_support::{check_same, check_that, filled};
 
 /// So many ranges of two keys, each with a key between it and the next. The first goes to `end`.
-fn spread<M: Container<Alloc = Global, Key = u32, Value = u8>>(
+fn spread<Q: Kind<R>, R: KeyRange<Key = u32>>(
     alloc: Global,
     count: u16,
     end: u8,
-) -> Result<M, Fail> {
-    let mut map = M::empty(alloc);
+) -> Result<Map<SortedVec<Q, R, u8, Global>>, Fail> {
+    let mut map = Map::new_with_step_fns(alloc);
     for place in 0..u32::from(count) {
         let start = 3 * place;
-        let range = M::Kind::between(start, start + u32::from(end)).ok_or("a range is empty")?;
-        map.insert(range, 0)?;
+        map.insert(filled(start, start + u32::from(end))?, 0)?;
     }
     Ok(map)
 }
 
 /// Looks for each key among so many ranges, and for the one behind them, with so many asks at most.
-fn check_asks<Q: Stored<u32, R>, R: Drop>(
+fn check_asks<Q: Kind<R>, R: KeyRange<Key = u32>>(
     alloc: Global,
     end: u8,
     (len, most): (u16, usize),
 ) -> Result<(), Fail> {
-    let map: Map<Q, u32, R, u8, Global> = spread(alloc, len, end)?;
+    let map = spread::<Q, R>(alloc, len, end)?;
     let pairs = map.iter().as_slice();
-    if map.len() != usize::from(len) {
-        return Err(Fail::new("a map has another number of ranges"));
-    }
+    check_same(map.len(), usize::from(len))?;
     let behind = 3 * u32::from(len);
     for key in 0..behind + 1 {
-        let (pair, asked) = covering::<Q, u32, R, u8>(pairs, &key);
+        let (pair, asked) = covering::<Q, R, u8>(pairs, &key);
         let is_stored = key % 3 < 2 && key < behind;
-        if asked > most || pair.is_some() != is_stored {
-            return Err(Fail::new(format_args!("{asked} asks for {key} among {len}")));
-        }
+        check_that(
+            asked <= most && pair.is_some() == is_stored,
+            format_args!("{asked} asks for {key} among {len}"),
+        )?;
     }
     Ok(())
 }

@@ -4,13 +4,13 @@
 use rangemap::container::{Container, segments};
 use rangemap::{RangeMap, range_inclusive_set, tree_map};
 use rangemap_core::half_open::HalfOpen;
-use rows::check_text;
 use std::alloc::Global;
 use std::ops::Range;
 use std::test::Fail;
+use tests_support::check_text;
 
 /// Compares the stretches of a container of half-open ranges, for each query.
-fn check_stretches<M: Container<Kind = HalfOpen, Key = u32, Range = Range<u32>, Value = char>>(
+fn check_stretches<M: Container<Kind = HalfOpen, Range = Range<u32>, Value = char>>(
     alloc: Global,
     stored: &M,
     queries: &[Range<u32>],
@@ -50,15 +50,15 @@ fn stretches_of_a_map_in_a_tree(rt: HostRuntime) -> Result<(), Fail> {
 #[test]
 fn stretches_of_a_set(rt: HostRuntime) -> Result<(), Fail> {
     let set = range_inclusive_set![in rt.alloc(); 1..=3u64, 5..=7, 9..=u64::MAX]?;
-    let found = (
-        segments(rt.alloc(), &set, &(2..=u64::MAX))?,
-        segments(rt.alloc(), &set, &(6..=5))?,
-        segments(rt.alloc(), &set, &(9..=2))?,
-    );
+    let queries = [2..=u64::MAX, 6..=5, 9..=2];
+    let mut found = Vec::new(rt.alloc());
+    for query in queries.as_slice() {
+        found.push(segments(rt.alloc(), &set, query)?)?;
+    }
     check_text(
         rt.alloc(),
         &found,
-        "({2..=3: Some(()), 4..=4: None, 5..=7: Some(()), 8..=8: None, \
-        9..=18446744073709551615: Some(())}, {}, {})",
+        "[{2..=3: Some(()), 4..=4: None, 5..=7: Some(()), 8..=8: None, \
+        9..=18446744073709551615: Some(())}, {}, {}]",
     )
 }

@@ -6,93 +6,46 @@
 //!
 //! That equal ones hash alike is proved. That others mostly do not is shown here: a container that
 //! feeds less than its pairs would still hash alike where it is equal.
-ghost use Rattle.rangemap.specs.Clones.{KeysCloneFaithfully, ValuesCloneFaithfully};
 
 use folding::Folding;
-use rangemap::range_set::Set;
-use rangemap::tree_map;
-use rangemap_maps::kinds::Stored;
-use rangemap_maps::range_map::Map;
-use rangemap_operations::set_range::{SetKind, SetRange};
-use rows::{FromEnds, Tested, Word};
 use std::alloc::Global;
 use std::cmp::Ordering;
 use std::hash::{Hash, Hasher};
 use std::test::Fail;
+use tested::Tested;
+use tests_support::{check_that, lists, rows, two_parts};
 
 mod folding;
 mod laws;
 mod maps;
 mod sets;
 mod tallied;
-
-/// Compares a table for maps of any kind of range in a sorted vector.
-fn check_maps<
-    Q: Stored<K, R>,
-    K: Ord + Clone + Hash + Word<Global>,
-    R: FromEnds<K>,
-    V: Ord + Clone + Hash + Word<Global>,
->(alloc: Global, table: &str) -> Result<(), Fail>
-    requires faithful_keys { KeysCloneFaithfully K.is_clone K.cmp }
-    requires faithful_values { ValuesCloneFaithfully V.is_clone V.eq }
-{
-    check_rows::<Map<Q, K, R, V, Global>>(alloc, table)
-}
-
-/// Compares a table for maps in a tree.
-fn check_trees(alloc: Global, table: &str) -> Result<(), Fail> {
-    check_rows::<tree_map::RangeMap<u32, char, Global>>(alloc, table)
-}
-
-/// Compares a table for sets of any kind of range.
-fn check_sets<Q: SetKind<u32, R>, R: SetRange<Key = u32> + FromEnds<u32>>(
-    alloc: Global,
-    table: &str,
-) -> Result<(), Fail> {
-    check_rows::<Set<Q, u32, R, Global>>(alloc, table)
-}
+mod tested;
 
 /// Compares the containers of each row of a table.
-fn check_rows<M: Tested<Alloc = Global> + Ord + Hash + Drop>(
-    alloc: Global,
-    table: &str,
-) -> Result<(), Fail>
+fn check_rows<M: Tested + Ord + Hash + Drop>(alloc: Global, table: &str) -> Result<(), Fail>
     requires { M.clones_are_faithful }
 {
-    for line in table.split('\n') {
-        let row = line.trim();
-        if !row.is_empty() && !is_so::<M>(alloc, row)? {
-            return Err(Fail::new(format_args!("compared otherwise: {row}")));
-        }
+    for row in rows(alloc, table)? {
+        let is_so = is_so::<M>(alloc, row)?;
+        check_that(is_so, format_args!("compared otherwise: {row}"))?;
     }
     Ok(())
 }
 
 /// Whether containers are as a row says.
-fn is_so<M: Tested<Alloc = Global> + Ord + Hash + Drop>(
-    alloc: Global,
-    row: &str,
-) -> Result<bool, Fail>
+fn is_so<M: Tested + Ord + Hash + Drop>(alloc: Global, row: &str) -> Result<bool, Fail>
     requires { M.clones_are_faithful }
 {
-    let (name, lists) = row.split_once(" | ").ok_or("a row has two parts")?;
-    let (made, again): (Vec<M>, Vec<M>) = (made_of(alloc, lists)?, made_of(alloc, lists)?);
+    let (name, part) = two_parts(row)?;
+    let lists = lists(alloc, part)?;
+    let made = M::make_all(alloc, lists.as_slice())?;
+    let again = M::make_all(alloc, lists.as_slice())?;
     match name {
         "ascending" => Ok(are_ascending(made.as_slice(), again.as_slice())),
         "hashed" => Ok(are_hashed(made.as_slice())),
         _ => Err(Fail::new(format_args!("no row is called {name}"))),
     }
-}
-
-/// Makes a container of each list.
-fn made_of<M: Tested<Alloc = Global>>(alloc: Global, lists: &str) -> Result<Vec<M>, Fail>
-    requires { M.clones_are_faithful }
-{
-    let mut all = Vec::new(alloc);
-    for list in lists.split(';') {
-        all.push(list.trim())?;
-    }
-    M::make_all(alloc, all.as_slice())
 }
 
 /// Whether containers lie in ascending order, and so do the same ones made again: each of the first

@@ -5,6 +5,7 @@
 //! `any` or `canonical`, and is answered the debug text of the container. So neither takes the other's
 //! word. The answer may also be the debug text of an error.
 ghost use Rattle.std.specs.Prelude.{◌≡◌, ◌<◌, ◌^◌, ℕ, IfOk, Ok as OkWord};
+ghost use Rattle.rangemap.specs.Clones.{KeysCloneFaithfully, ValuesCloneFaithfully};
 ghost use Rattle.serde_json.specs.Data.{number, unsigned};
 ghost use Rattle.serde_json.specs.View.{view};
 
@@ -13,6 +14,7 @@ use serde_json::Value;
 use std::alloc::{AllocError, Global};
 use std::fmt::Debug;
 use std::test::Fail;
+use tests_support::{InRows, check_same, first_word, made_of, rows, two_parts};
 
 mod long;
 mod maps;
@@ -35,12 +37,6 @@ pub enum Fault {
 
 /// A container that rows write and read.
 trait InJson: Debug + Drop {
-    /// Makes an empty one.
-    fn empty(alloc: Global) -> Self;
-
-    /// Inserts the range from a start to an end, and in a map the text.
-    fn put(&mut self, ends: (u32, u32), text: String) -> Result<(), Fail>;
-
     /// `to_value`, with `write_number` and `write_text`.
     fn write(&self, alloc: Global) -> Result<Value, WriteError<Fault>>;
 
@@ -92,55 +88,33 @@ fn read_text(part: &Value) -> Result<String, Fault> {
 }
 
 /// Compares the answer of each row of a table.
-fn check_rows<M: InJson>(alloc: Global, table: &str) -> Result<(), Fail> {
-    for line in table.split('\n') {
-        let row = line.trim();
-        if !row.is_empty() {
-            check_row::<M>(alloc, row)?;
-        }
+fn check_rows<M: InRows<Alloc = Global> + InJson>(alloc: Global, table: &str) -> Result<(), Fail>
+    requires faithful_keys { KeysCloneFaithfully M.Range.Key.is_clone M.Range.Key.cmp }
+    requires faithful_values { ValuesCloneFaithfully M.Value.is_clone M.Value.eq }
+{
+    for row in rows(alloc, table)? {
+        let (question, answer) = two_parts(row)?;
+        let found = answer_to::<M>(alloc, question)?;
+        check_same(found.as_str(), answer)?;
     }
     Ok(())
 }
 
-/// Compares the answer of a row.
-fn check_row<M: InJson>(alloc: Global, row: &str) -> Result<(), Fail> {
-    let (question, answer) = row.split_once(" | ").ok_or("a row has two parts")?;
-    let found = answer_to::<M>(alloc, question)?;
-    if found.as_str() == answer {
-        Ok(())
-    } else {
-        Err(Fail::new(format_args!("{question} gives {found}")))
-    }
-}
-
 /// What a question is answered.
-fn answer_to<M: InJson>(alloc: Global, question: &str) -> Result<String, Fail> {
-    let (name, operand) = question.split_once(' ').unwrap_or((question, ""));
+fn answer_to<M: InRows<Alloc = Global> + InJson>(
+    alloc: Global,
+    question: &str,
+) -> Result<String, Fail>
+    requires faithful_keys { KeysCloneFaithfully M.Range.Key.is_clone M.Range.Key.cmp }
+    requires faithful_values { ValuesCloneFaithfully M.Value.is_clone M.Value.eq }
+{
+    let (name, operand) = first_word(question);
     match name {
         "written" => written(alloc, &made_of::<M>(alloc, operand)?),
         "any" => pairs_read::<M>(alloc, Form::Any, operand),
         "canonical" => pairs_read::<M>(alloc, Form::Canonical, operand),
         _ => Err(Fail::new("no row asks so")),
     }
-}
-
-/// Makes a container of the pairs of a list, by inserts.
-fn made_of<M: InJson>(alloc: Global, pairs: &str) -> Result<M, Fail> {
-    let mut made = M::empty(alloc);
-    for pair in pairs.split(", ") {
-        if !pair.is_empty() {
-            let (range, text) = pair.split_once(' ').unwrap_or((pair, ""));
-            made.put(ends(range)?, String::from_str(alloc, text)?)?;
-        }
-    }
-    Ok(made)
-}
-
-/// The ends of a range. A closed one has `..=` between them.
-fn ends(range: &str) -> Result<(u32, u32), Fail> {
-    let (start, end) = range.split_once("..").ok_or("a range has two ends")?;
-    let end = end.strip_prefix('=').unwrap_or(end);
-    Ok((start.parse()?, end.parse()?))
 }
 
 /// The pairs of what is read of a text.

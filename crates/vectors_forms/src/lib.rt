@@ -1,9 +1,7 @@
 //! What every container becomes beside its pairs: its order, its hash, its text, its JSON form, and
 //! the macros that make one of a list.
 //!
-//! Rows are text, and lie in tables as those of `rows` do. Functions that are generic over the kind
-//! of range compare them, since in each function that names a type of container all that the
-//! container does is proved anew.
+//! Rows are text, and lie in tables as those of `tests_rows` do.
 #![tactic(auto)]
 
 #[cfg(test)]
@@ -12,7 +10,5 @@ mod comparisons;
 mod json;
 #[cfg(test)]
 mod macros;
-#[cfg(test)]
-mod same;
 #[cfg(test)]
 mod text;

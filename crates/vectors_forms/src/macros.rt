@@ -5,10 +5,10 @@ use rangemap::{
     RangeInclusiveMap, RangeMap, RangeSet, range_inclusive_map, range_inclusive_set, range_map,
     range_set,
 };
-use rows::check_text;
 use std::alloc::{AllocError, Global};
 use std::fmt::Debug;
 use std::test::Fail;
+use tests_support::check_text;
 
 /// Compares the debug text of a container that was made, unless it was refused memory.
 fn check_made<M: Debug + Drop>(
@@ -39,10 +39,10 @@ fn a_list_makes_a_map(rt: HostRuntime) -> Result<(), Fail> {
 #[test]
 fn a_list_may_be_empty(rt: HostRuntime) -> Result<(), Fail> {
     let alloc = rt.alloc();
-    let none: RangeMap<u32, char, Global> = range_map! { in alloc; }?;
+    let none: RangeMap<u32, char> = range_map! { in alloc; }?;
     let one = range_map! { in alloc; 0..5u32 => 'a', }?;
     check_text(alloc, &[none, one], "[{}, {0..5: 'a'}]")?;
-    let none: RangeInclusiveMap<u32, char, u32, Global> = range_inclusive_map! { in alloc; }?;
+    let none: RangeInclusiveMap<u32, char> = range_inclusive_map! { in alloc; }?;
     let one = range_inclusive_map! { in alloc; 0..=5u32 => 'a', }?;
     check_text(alloc, &[none, one], "[{}, {0..=5: 'a'}]")
 }
@@ -50,7 +50,7 @@ fn a_list_may_be_empty(rt: HostRuntime) -> Result<(), Fail> {
 #[test]
 fn a_list_makes_a_set(rt: HostRuntime) -> Result<(), Fail> {
     let alloc = rt.alloc();
-    let none: Result<RangeSet<u32, Global>, AllocError> = range_set![in alloc;];
+    let none: Result<RangeSet<u32>, AllocError> = range_set![in alloc;];
     check_made(alloc, none, "{}")?;
     check_made(alloc, range_set![in alloc; 0u32..5, 5..9,], "{0..9}")?;
     check_made(

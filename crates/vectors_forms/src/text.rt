@@ -1,92 +1,79 @@
 //! Rows about the debug text of containers: what `{:?}` writes, and what `{:#?}` does, which gives
 //! each pair a line.
 ghost use Rattle.rangemap.specs.Clones.{KeysCloneFaithfully, ValuesCloneFaithfully};
-ghost use Rattle.rangemap.specs.Ranges.{AreNonEmpty, closed, half_open};
+ghost use Rattle.rangemap.specs.Ranges.{AreNonEmpty};
 
-use rangemap::{RangeInclusiveMap, RangeMap, StepLite, tree_map};
+use rangemap::map::Map;
+use rangemap_core::closed::Closed;
+use rangemap_core::half_open::HalfOpen;
+use rangemap_core::key_range::KeyRange;
+use rangemap_core::kind::OwnSteps;
+use rangemap_core::store::Store;
+use rangemap_sorted::SortedVec;
+use rangemap_tree::Tree;
 use std::alloc::Global;
 use std::fmt::{Debug, Write};
 use std::ops::{Range, RangeInclusive};
 use std::test::Fail;
+use tests_support::check_same;
 
 mod laws;
+
+/// The pairs of a map of half-open ranges.
+type Sorted<K, V> = SortedVec<HalfOpen, Range<K>, V, Global>;
+
+/// Those of a map of closed ranges.
+type SortedClosed<K, V> = SortedVec<Closed<K>, RangeInclusive<K>, V, Global>;
+
+/// Those of a map in a tree.
+type InTree<K, V> = Tree<K, V, Global>;
 
 /// Compares what is written of a container.
 pub fn check_texts<M: Debug>(alloc: Global, all: &M, text: &str, lines: &str) -> Result<(), Fail> {
     let (mut short, mut long) = (String::new(alloc), String::new(alloc));
     write!(short, "{all:?}")?;
     write!(long, "{all:#?}")?;
-    if short.as_str() == text && long.as_str() == lines {
-        Ok(())
-    } else {
-        Err(Fail::new(format_args!("{short} is written, and {long}")))
-    }
+    check_same((short.as_str(), long.as_str()), (text, lines))
 }
 
-/// Compares what is written of a map of half-open ranges.
-fn check_half_open<K: Ord + Clone + Debug, V: Eq + Clone + Debug, const N: usize>(
+/// Compares what is written of a map of some pairs.
+fn check_pairs<S, const N: usize>(
     alloc: Global,
-    pairs: [(Range<K>, V); N],
+    pairs: [(S::Range, S::Value); N],
     text: &str,
     lines: &str,
 ) -> Result<(), Fail>
-    requires non_empty { AreNonEmpty (half_open K.cmp) pairs }
-    requires faithful_keys { KeysCloneFaithfully K.is_clone K.cmp }
-    requires faithful_values { ValuesCloneFaithfully V.is_clone V.eq }
+where
+    S: Store<Range: KeyRange<Key: Debug> + Debug, Value: Debug, Alloc = Global> + Drop,
+    S::Kind: OwnSteps<S::Range>,
+    requires non_empty { AreNonEmpty S.Kind.kind pairs }
+    requires faithful_keys { KeysCloneFaithfully S.Range.Key.is_clone S.Range.Key.cmp }
+    requires faithful_values { ValuesCloneFaithfully S.Value.is_clone S.Value.eq }
 {
-    check_texts(alloc, &RangeMap::from(alloc, pairs)?, text, lines)
-}
-
-/// Compares what is written of a map of half-open ranges in a tree.
-fn check_tree<K: Ord + Clone + Debug, V: Eq + Clone + Debug, const N: usize>(
-    alloc: Global,
-    pairs: [(Range<K>, V); N],
-    text: &str,
-    lines: &str,
-) -> Result<(), Fail>
-    requires non_empty { AreNonEmpty (half_open K.cmp) pairs }
-    requires faithful_keys { KeysCloneFaithfully K.is_clone K.cmp }
-    requires faithful_values { ValuesCloneFaithfully V.is_clone V.eq }
-{
-    let map = tree_map::RangeMap::from(alloc, pairs)?;
-    check_texts(alloc, &map, text, lines)
-}
-
-/// Compares what is written of a map of closed ranges.
-fn check_closed<K: StepLite + Clone + Debug, V: Eq + Clone + Debug, const N: usize>(
-    alloc: Global,
-    pairs: [(RangeInclusive<K>, V); N],
-    text: &str,
-    lines: &str,
-) -> Result<(), Fail>
-    requires non_empty { AreNonEmpty (closed K.is_key K.cmp) pairs }
-    requires faithful_keys { KeysCloneFaithfully K.is_clone K.cmp }
-    requires faithful_values { ValuesCloneFaithfully V.is_clone V.eq }
-{
-    let map = RangeInclusiveMap::from(alloc, pairs)?;
+    let map: Map<S> = Map::from(alloc, pairs)?;
     check_texts(alloc, &map, text, lines)
 }
 
 #[test]
 fn maps_are_written_in_braces(rt: HostRuntime) -> Result<(), Fail> {
-    check_half_open(
+    check_pairs::<Sorted<u32, &str>, 2>(
         rt.alloc(),
         [(0..100u32, "abc"), (200..300, "ghi")],
         "{0..100: \"abc\", 200..300: \"ghi\"}",
         "{\n    0..100: \"abc\",\n    200..300: \"ghi\",\n}",
     )?;
-    check_half_open::<u32, bool, 0>(rt.alloc(), [], "{}", "{}")
+    check_pairs::<Sorted<u32, bool>, 0>(rt.alloc(), [], "{}", "{}")
 }
 
 #[test]
 fn keys_and_values_have_their_own_text(rt: HostRuntime) -> Result<(), Fail> {
-    check_half_open(
+    check_pairs::<Sorted<i8, u16>, 1>(
         rt.alloc(),
         [(-3..0i8, 7u16)],
         "{-3..0: 7}",
         "{\n    -3..0: 7,\n}",
     )?;
-    check_half_open(
+    check_pairs::<Sorted<char, Option<bool>>, 2>(
         rt.alloc(),
         [('a'..'f', Some(true)), ('x'..'z', None)],
         "{'a'..'f': Some(true), 'x'..'z': None}",
@@ -96,31 +83,31 @@ fn keys_and_values_have_their_own_text(rt: HostRuntime) -> Result<(), Fail> {
 
 #[test]
 fn closed_maps_are_written_in_braces(rt: HostRuntime) -> Result<(), Fail> {
-    check_closed(
+    check_pairs::<SortedClosed<u32, &str>, 2>(
         rt.alloc(),
         [(0..=100u32, "abc"), (200..=300, "ghi")],
         "{0..=100: \"abc\", 200..=300: \"ghi\"}",
         "{\n    0..=100: \"abc\",\n    200..=300: \"ghi\",\n}",
     )?;
-    check_closed(
+    check_pairs::<SortedClosed<u32, char>, 1>(
         rt.alloc(),
         [(0..=100u32, 'a')],
         "{0..=100: 'a'}",
         "{\n    0..=100: 'a',\n}",
     )?;
-    check_closed::<u32, bool, 0>(rt.alloc(), [], "{}", "{}")
+    check_pairs::<SortedClosed<u32, bool>, 0>(rt.alloc(), [], "{}", "{}")
 }
 
 #[test]
 fn maps_in_a_tree_are_written_in_braces(rt: HostRuntime) -> Result<(), Fail> {
-    check_tree::<u32, char, 0>(rt.alloc(), [], "{}", "{}")?;
-    check_tree(
+    check_pairs::<InTree<u32, char>, 0>(rt.alloc(), [], "{}", "{}")?;
+    check_pairs::<InTree<u32, char>, 2>(
         rt.alloc(),
         [(0u32..100, 'a'), (200..300, 'g')],
         "{0..100: 'a', 200..300: 'g'}",
         "{\n    0..100: 'a',\n    200..300: 'g',\n}",
     )?;
-    check_tree(
+    check_pairs::<InTree<i8, u16>, 1>(
         rt.alloc(),
         [(-3..0i8, 7u16)],
         "{-3..0: 7}",

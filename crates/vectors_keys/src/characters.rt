@@ -1,12 +1,11 @@
 //! A set of characters, whose ranges touch over the surrogates.
 
 use rangemap::RangeInclusiveSet;
-use rows::check_rows;
-use std::alloc::Global;
 use std::test::Fail;
+use tests_rows::check_rows;
 
 /// A set of characters.
-type Chars = RangeInclusiveSet<char, char, Global>;
+type Chars = RangeInclusiveSet<char>;
 
 #[test]
 fn characters_touch_over_the_surrogates(rt: HostRuntime) -> Result<(), Fail> {

@@ -1,19 +1,17 @@
 //! Bytes in the reversed order.
-ghost use Rattle.std.specs.Prelude.{◌≡◌, ◌<◌, ◌^◌, option_map, nat_eq, refl};
+ghost use Rattle.std.specs.Prelude.{◌<◌, ◌^◌, option_map, nat_eq, refl};
 ghost use Rattle.std.proofs.Common.{rules};
 ghost use Rattle.std.specs.Cmp.{nat_eq_equiv, on_equiv, on_per, partial_equiv_from_equiv, partial_order_from_own_ties};
 ghost use Rattle.std.specs.Cmp.Rules.{comparing};
-ghost use Rattle.std.specs.declared.cmp.Ordering.TheVariants.{Less};
 ghost use Rattle.std.specs.Ordering.{as_partial_cmp, nat_cmp, on};
 ghost use Rattle.rangemap.specs.StepLaws.{held_follows, held_precedes, nat_after, nat_before, nat_follows, nat_precedes};
 ghost use Rattle.vectors_keys.specs.Reversed.{reversed, reversed_follows, reversed_precedes};
 
-use crate::same::assert_same;
+use crate::steps::step_up;
 use rangemap::{RangeInclusiveMap, RangeInclusiveSet, StepLite};
-use rows::{check_text, closed};
-use std::alloc::Global;
 use std::cmp::Ordering;
 use std::test::Fail;
+use tests_support::{check_same, check_text, filled};
 
 /// A byte, in the order in which the greater comes first.
 #[derive(Clone, Copy, Debug)]
@@ -81,27 +79,21 @@ impl StepLite for Down {
     }
 }
 
-/// The key after one that has a greater.
-fn step_up<K: StepLite>(key: &K, greater: &K) -> K
-    requires { K.cmp key.now greater.now ≡ Less }
-{
-    greater.known();
-    key.add_one()
-}
+/// Bytes in this order.
+type Set = RangeInclusiveSet<Down>;
+
+/// Letters at such bytes.
+type Map = RangeInclusiveMap<Down, char>;
 
 #[test]
 fn a_reversed_order_goes_down(rt: HostRuntime) -> Result<(), Fail> {
-    assert_same(&rt, step_up(&Down(5), &Down(0)), Down(4));
-    let mut set: RangeInclusiveSet<Down, Down, Global> = RangeInclusiveSet::new_with_step_fns(
-        rt.alloc(),
-    );
-    set.insert(closed(Down(255), Down(128))?)?;
-    set.insert(closed(Down(127), Down(0))?)?;
+    check_same(step_up(&Down(5), &Down(0)), Down(4))?;
+    let mut set = Set::new_with_step_fns(rt.alloc());
+    set.insert(filled(Down(255), Down(128))?)?;
+    set.insert(filled(Down(127), Down(0))?)?;
     check_text(rt.alloc(), &set, "{Down(255)..=Down(0)}")?;
-    let mut map: RangeInclusiveMap<Down, char, Down, Global> = RangeInclusiveMap::new_with_step_fns(
-        rt.alloc(),
-    );
-    map.insert(closed(Down(255), Down(128))?, 'a')?;
-    map.insert(closed(Down(127), Down(0))?, 'a')?;
+    let mut map = Map::new_with_step_fns(rt.alloc());
+    map.insert(filled(Down(255), Down(128))?, 'a')?;
+    map.insert(filled(Down(127), Down(0))?, 'a')?;
     check_text(rt.alloc(), &map, "{Down(255)..=Down(0): 'a'}")
 }

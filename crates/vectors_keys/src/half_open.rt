@@ -1,11 +1,9 @@
 //! Maps over half-open ranges of keys that are no integers.
 
-use crate::same::assert_same;
 use rangemap::RangeMap;
-use rows::filled;
-use std::alloc::{AllocError, AllocGlobal, Global};
-use std::process::Abort;
+use std::alloc::{AllocError, Global};
 use std::test::Fail;
+use tests_support::{check_same, filled};
 
 /// A text of its own.
 fn text(text: &str, alloc: Global) -> Result<String, AllocError> {
@@ -13,7 +11,7 @@ fn text(text: &str, alloc: Global) -> Result<String, AllocError> {
 }
 
 /// Numbers at texts.
-type Texts = RangeMap<String, u32, Global>;
+type Texts = RangeMap<String, u32>;
 
 /// Gives the texts between two ends a value.
 #[tactic(auto, using(rangemap::proofs::TextKeys::clones_tie))]
@@ -36,25 +34,23 @@ fn at_text(map: &Texts, alloc: Global, key: &str) -> Result<Option<u32>, AllocEr
 #[test]
 fn texts_are_keys(rt: HostRuntime) -> Result<(), Fail> {
     let mut map: Texts = RangeMap::new(rt.alloc());
-    check_texts(&rt, &mut map)
+    check_texts(rt.alloc(), &mut map)
 }
 
 /// Inserts texts into an empty map, and looks them up.
-fn check_texts<R: AllocGlobal + Abort>(rt: &R, map: &mut Texts) -> Result<(), Fail> {
-    let alloc = rt.alloc();
+fn check_texts(alloc: Global, map: &mut Texts) -> Result<(), Fail> {
     insert_texts(map, alloc, ("a", "m"), 1)?;
     insert_texts(map, alloc, ("m", "z"), 1)?;
-    assert_same(rt, map.len(), 1);
+    check_same(map.len(), 1)?;
     insert_texts(map, alloc, ("fig", "figs"), 2)?;
-    assert_same(rt, map.len(), 3);
+    check_same(map.len(), 3)?;
     let inner = (at_text(map, alloc, "fi")?, at_text(map, alloc, "fig")?);
     let outer = (at_text(map, alloc, "figs")?, at_text(map, alloc, "z")?);
-    assert_same(rt, (inner, outer), ((Some(1), Some(2)), (Some(1), None)));
-    Ok(())
+    check_same((inner, outer), ((Some(1), Some(2)), (Some(1), None)))
 }
 
 /// Letters at pairs of a text and a number.
-type Pairs = RangeMap<(String, u32), char, Global>;
+type Pairs = RangeMap<(String, u32), char>;
 
 /// A pair as it stands in a test.
 type Pair<'a> = (&'a str, u32);
@@ -90,17 +86,16 @@ fn at_pair(map: &Pairs, alloc: Global, key: Pair<'_>) -> Result<Option<char>, Al
 #[test]
 fn pairs_of_a_text_and_a_number_are_keys(rt: HostRuntime) -> Result<(), Fail> {
     let mut map: Pairs = RangeMap::new(rt.alloc());
-    check_pairs(&rt, &mut map)
+    check_pairs(rt.alloc(), &mut map)
 }
 
 /// Inserts pairs into an empty map, removes one, and looks them up.
-fn check_pairs<R: AllocGlobal + Abort>(rt: &R, map: &mut Pairs) -> Result<(), Fail> {
-    let alloc = rt.alloc();
+fn check_pairs(alloc: Global, map: &mut Pairs) -> Result<(), Fail> {
     insert_pairs(map, alloc, (("a", 5), ("b", 0)), 'x')?;
     insert_pairs(map, alloc, (("b", 0), ("b", 7)), 'x')?;
-    assert_same(rt, map.len(), 1);
+    check_same(map.len(), 1)?;
     remove_pairs(map, alloc, (("a", 9), ("a", 10)))?;
-    assert_same(rt, map.len(), 2);
+    check_same(map.len(), 2)?;
     let before = (
         at_pair(map, alloc, ("a", 4))?,
         at_pair(map, alloc, ("a", 9))?,
@@ -109,6 +104,5 @@ fn check_pairs<R: AllocGlobal + Abort>(rt: &R, map: &mut Pairs) -> Result<(), Fa
         at_pair(map, alloc, ("a", 10))?,
         at_pair(map, alloc, ("b", 6))?,
     );
-    assert_same(rt, (before, behind), ((None, None), (Some('x'), Some('x'))));
-    Ok(())
+    check_same((before, behind), ((None, None), (Some('x'), Some('x'))))
 }

@@ -14,6 +14,4 @@ mod half_open;
 #[cfg(test)]
 mod pairs;
 #[cfg(test)]
-mod same;
-#[cfg(test)]
 mod steps;

@@ -3,9 +3,8 @@ ghost use Rattle.std.specs.Prelude.{◌^◌};
 ghost use Rattle.vectors_keys.specs.Pairs.{IsPair, pair_after, pair_before, pair_follows, pair_precedes};
 
 use rangemap::{RangeInclusiveMap, RangeInclusiveSet, StepFns};
-use rows::check_stepped_rows;
-use std::alloc::Global;
 use std::test::Fail;
+use tests_rows::check_rows;
 
 /// The steps of pairs of bytes: behind `(1, 255)` comes `(2, 0)`.
 pub struct PairSteps;
@@ -44,15 +43,15 @@ impl StepFns<(u8, u8)> for PairSteps {
 }
 
 /// Letters at pairs of bytes.
-type Letters = RangeInclusiveMap<(u8, u8), char, PairSteps, Global>;
+type Letters = RangeInclusiveMap<(u8, u8), char, PairSteps>;
 
 /// Pairs of bytes.
-type Pairs = RangeInclusiveSet<(u8, u8), PairSteps, Global>;
+type Pairs = RangeInclusiveSet<(u8, u8), PairSteps>;
 
 // Pairs touch over their second byte, and the last pair is not stepped past.
 #[test]
 fn pairs_are_stepped_through(rt: HostRuntime) -> Result<(), Fail> {
-    check_stepped_rows::<Pairs>(
+    check_rows::<Pairs>(
         rt.alloc(),
         "
         insert 0/0..=1/255, insert 2/0..=2/0 | holds | 0/0..=2/0
@@ -61,7 +60,7 @@ fn pairs_are_stepped_through(rt: HostRuntime) -> Result<(), Fail> {
         0/0..=2/0, 2/2..=255/254
         ",
     )?;
-    check_stepped_rows::<Letters>(
+    check_rows::<Letters>(
         rt.alloc(),
         "
         insert 0/0..=1/255 a, insert 2/0..=2/0 a | holds | 0/0..=2/0 a

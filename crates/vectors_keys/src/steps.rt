@@ -3,11 +3,12 @@ ghost use Rattle.std.specs.Prelude.{◌≡◌, Some, ◌<◌, ◌+◌, ◌^◌, 
 ghost use Rattle.std.specs.declared.cmp.Ordering.TheVariants.{Less};
 ghost use Rattle.rangemap.specs.StepLaws.{nat_after, nat_before, nat_follows, nat_precedes};
 
-use crate::same::assert_same;
 use rangemap::{StepFns, StepLite};
+use std::test::Fail;
+use tests_support::check_same;
 
 /// The key after one that has a greater.
-fn step_up<K: StepLite>(key: &K, greater: &K) -> K
+pub fn step_up<K: StepLite>(key: &K, greater: &K) -> K
     requires { K.cmp key.now greater.now ≡ Less }
     ensures { K.after key.now ≡ Some result }
 {
@@ -97,17 +98,17 @@ impl StepFns<u8> for ByteSteps {
 }
 
 #[test]
-fn one_step_leads_to_the_nearest_key(rt: HostRuntime) {
-    assert_same(&rt, step_up(&254u8, &255), 255);
-    assert_same(&rt, step_down(&1u8, &0), 0);
-    assert_same(&rt, step_up(&126i8, &127), 127);
-    assert_same(&rt, step_down(&-127i8, &-128), -128);
-    assert_same(&rt, step_up(&0u8, &255), 1);
-    assert_same(&rt, step_down(&255u8, &0), 254);
-    assert_same(&rt, step_up(&-1i8, &127), 0);
-    assert_same(&rt, step_down(&1i8, &-128), 0);
-    assert_same(&rt, next_byte(99, 255), 100);
-    assert_same(&rt, previous_signed_byte(0, -128), -1);
+fn one_step_leads_to_the_nearest_key(rt: HostRuntime) -> Result<(), Fail> {
+    check_same(step_up(&254u8, &255), 255)?;
+    check_same(step_down(&1u8, &0), 0)?;
+    check_same(step_up(&126i8, &127), 127)?;
+    check_same(step_down(&-127i8, &-128), -128)?;
+    check_same(step_up(&0u8, &255), 1)?;
+    check_same(step_down(&255u8, &0), 254)?;
+    check_same(step_up(&-1i8, &127), 0)?;
+    check_same(step_down(&1i8, &-128), 0)?;
+    check_same(next_byte(99, 255), 100)?;
+    check_same(previous_signed_byte(0, -128), -1)
 }
 
 #[test]
@@ -153,7 +154,7 @@ fn neighbours_are_one_step_apart(rt: HostRuntime) {
 }
 
 #[test]
-fn characters_step_over_the_surrogates(rt: HostRuntime) {
+fn characters_step_over_the_surrogates(rt: HostRuntime) -> Result<(), Fail> {
     let pairs = [
         ('\u{0}', '\u{1}'),
         ('\u{D7FE}', '\u{D7FF}'),
@@ -162,8 +163,8 @@ fn characters_step_over_the_surrogates(rt: HostRuntime) {
         ('\u{10FFFE}', '\u{10FFFF}'),
     ];
     assert!(rt; are_neighbours(&pairs));
-    assert_same(&rt, step_up(&'\u{D7FF}', &'\u{10FFFF}'), '\u{E000}');
-    assert_same(&rt, step_down(&'\u{E000}', &'\u{0}'), '\u{D7FF}');
+    check_same(step_up(&'\u{D7FF}', &'\u{10FFFF}'), '\u{E000}')?;
+    check_same(step_down(&'\u{E000}', &'\u{0}'), '\u{D7FF}')
 }
 
 #[test]

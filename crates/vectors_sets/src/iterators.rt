@@ -1,63 +1,50 @@
 //! What sets lend and hand over, taken from both ends and beyond: each iterator ends and stays ended.
 
+ghost use Rattle.rangemap.specs.Clones.{KeysCloneFaithfully};
+
 use rangemap::range_set::Set;
-use rangemap_core::gaps::Gaps;
+use rangemap::tree_set;
+use rangemap_core::closed::Closed;
 use rangemap_core::half_open::HalfOpen;
-use rangemap_maps::closed::Closed;
-use rangemap_maps::kinds::OwnSteps;
-use rangemap_operations::set_range::{SetKind, SetRange};
-use rows::{
-    FromEnds, InRows, check_both_ends, check_counted_back, check_text, check_three, check_tries,
-    made_of, ranges_of,
-};
+use rangemap_core::kind::{Kind, OwnSteps};
+use rangemap_core::pair_iter::PairIter;
+use rangemap_sorted::SortedVec;
+use rangemap_unions::{Intersection, Union};
 use std::alloc::Global;
 use std::fmt::Debug;
 use std::ops::{Range, RangeInclusive};
 use std::test::Fail;
+use tests_rows::{check_both_ends, check_counted_back, check_three, check_tries};
+use tests_support::{FromEnds, InRows, check_text, made_of};
 
-/// A set of numbers.
-type Numbers<Q, R> = Set<Q, u32, R, Global>;
-
-/// Refers to three ranges.
-fn lent<R>(ranges: &[R]) -> Result<(&R, &R, &R), Fail> {
-    let mut rest = ranges.iter();
-    match (rest.next(), rest.next(), rest.next()) {
-        (Some(first), Some(middle), Some(last)) => Ok((first, middle, last)),
-        _ => Err(Fail::new("three ranges come")),
-    }
-}
+/// A set of numbers, in a sorted vector.
+type Numbers<Q, R> = Set<SortedVec<Q, R, (), Global>>;
 
 /// Compares the three ranges of a set that overlap a query.
-fn check_overlapping<Q: SetKind<u32, R>, R: SetRange<Key = u32> + FromEnds<u32> + PartialEq>(
+fn check_overlapping<Q: Kind<R>, R: FromEnds<Key = u32> + Debug>(
     alloc: Global,
     ranges: &str,
     query: &str,
-    found: &str,
+    found: [&str; 3],
 ) -> Result<(), Fail> {
     let set: Numbers<Q, R> = made_of(alloc, ranges)?;
     let query = <Numbers<Q, R> as InRows>::query(alloc, query)?;
-    let found: Vec<R> = ranges_of::<Numbers<Q, R>>(alloc, found)?;
-    check_three(set.overlapping(&query), lent(found.as_slice())?, false)
+    check_three(alloc, set.overlapping(&query), found, false)
 }
 
 /// Compares the three ranges of a set: as it lends them, and as it hands them over.
-fn check_all<
-    Q: OwnSteps<u32, R> + SetKind<u32, R>,
-    R: SetRange<Key = u32> + FromEnds<u32> + PartialEq,
->(alloc: Global, inserted: &str, ranges: &str) -> Result<(), Fail> {
+fn check_all<Q: OwnSteps<R>, R: FromEnds<Key = u32> + Debug>(
+    alloc: Global,
+    inserted: &str,
+    ranges: [&str; 3],
+) -> Result<(), Fail> {
     let set: Numbers<Q, R> = made_of(alloc, inserted)?;
-    let mut ranges: Vec<R> = ranges_of::<Numbers<Q, R>>(alloc, ranges)?;
-    check_three(set.iter(), lent(ranges.as_slice())?, true)?;
-    match (ranges.pop(), ranges.pop(), ranges.pop()) {
-        (Some(last), Some(middle), Some(first)) => {
-            check_counted_back(set.into_iter(), (first, middle, last))
-        }
-        _ => Err(Fail::new("a set has three ranges")),
-    }
+    check_three(alloc, set.iter(), ranges, true)?;
+    check_counted_back(alloc, set.into_iter(), ranges)
 }
 
 /// Compares the one gap of a set in an outer range, and asks on.
-fn check_gap<Q: SetKind<u32, R>, R: SetRange<Key = u32> + FromEnds<u32> + PartialEq>(
+fn check_gap<Q: Kind<R>, R: FromEnds<Key = u32> + Debug>(
     alloc: Global,
     ranges: &str,
     outer_range: &str,
@@ -70,12 +57,12 @@ fn check_gap<Q: SetKind<u32, R>, R: SetRange<Key = u32> + FromEnds<u32> + Partia
         set.gaps(&outer_range),
         set.gaps(&outer_range),
     );
-    check_tries(gaps, thrice::<Q, R>(alloc, gap)?)
+    check_tries(alloc, gaps, |gaps| gaps.try_next(), gap)
 }
 
 /// Compares the text of the two gaps of a set in an outer range, taken by calls in turn, and of what
-/// is answered behind them.
-fn check_two_gaps<Q: SetKind<u32, R>, R: SetRange<Key = u32> + FromEnds<u32> + Debug>(
+/// is answered behind them, after the hint.
+fn check_two_gaps<Q: Kind<R>, R: FromEnds<Key = u32> + Debug>(
     alloc: Global,
     ranges: &str,
     outer_range: &str,
@@ -83,35 +70,32 @@ fn check_two_gaps<Q: SetKind<u32, R>, R: SetRange<Key = u32> + FromEnds<u32> + D
 ) -> Result<(), Fail> {
     let set: Numbers<Q, R> = made_of(alloc, ranges)?;
     let outer_range = <Numbers<Q, R> as InRows>::query(alloc, outer_range)?;
-    check_turns(alloc, set.gaps(&outer_range), text)
-}
-
-/// Compares the text of what four calls in turn answer, behind the hint.
-fn check_turns<Q: SetKind<u32, R>, R: SetRange<Key = u32> + Debug>(
-    alloc: Global,
-    mut gaps: Gaps<'_, Q, u32, R, ()>,
-    text: &str,
-) -> Result<(), Fail> {
+    let mut gaps = set.gaps(&outer_range);
     let hint = gaps.size_hint();
     let first = (gaps.try_next(), gaps.next());
     let second = (gaps.try_next(), gaps.next());
     check_text(alloc, &(hint, first, second), text)
 }
 
-/// Makes a range three times.
-fn thrice<Q: SetKind<u32, R>, R: SetRange<Key = u32> + FromEnds<u32>>(
+/// Three iterators that are alike.
+type Three<I> = (I, I, I);
+
+/// Compares the one item of a union and that of an intersection, and asks on.
+fn check_items<I: PairIter<Range: Debug>>(
     alloc: Global,
-    range: &str,
-) -> Result<(R, R, R), Fail> {
-    Ok((
-        <Numbers<Q, R> as InRows>::query(alloc, range)?,
-        <Numbers<Q, R> as InRows>::query(alloc, range)?,
-        <Numbers<Q, R> as InRows>::query(alloc, range)?,
-    ))
+    unions: Three<Union<I>>,
+    intersections: Three<Intersection<I>>,
+    either: &str,
+    common: &str,
+) -> Result<(), Fail>
+    requires { KeysCloneFaithfully I.Range.Key.is_clone I.Range.Key.cmp }
+{
+    check_tries(alloc, unions, Union::try_next, either)?;
+    check_tries(alloc, intersections, Intersection::try_next, common)
 }
 
-/// Compares the one item of the union of two sets and that of their intersection, and asks on.
-fn check_operations<Q: SetKind<u32, R>, R: SetRange<Key = u32> + FromEnds<u32> + PartialEq>(
+/// The same of two sets.
+fn check_operations<Q: Kind<R>, R: FromEnds<Key = u32> + Debug>(
     alloc: Global,
     (left, right): (&str, &str),
     either: &str,
@@ -119,18 +103,21 @@ fn check_operations<Q: SetKind<u32, R>, R: SetRange<Key = u32> + FromEnds<u32> +
 ) -> Result<(), Fail> {
     let left: Numbers<Q, R> = made_of(alloc, left)?;
     let right: Numbers<Q, R> = made_of(alloc, right)?;
-    let items = (left.union(&right), left.union(&right), left.union(&right));
-    check_tries(items, thrice::<Q, R>(alloc, either)?)?;
-    let items = (
-        left.intersection(&right),
-        left.intersection(&right),
-        left.intersection(&right),
-    );
-    check_tries(items, thrice::<Q, R>(alloc, common)?)
+    check_items(
+        alloc,
+        (left.union(&right), left.union(&right), left.union(&right)),
+        (
+            left.intersection(&right),
+            left.intersection(&right),
+            left.intersection(&right),
+        ),
+        either,
+        common,
+    )
 }
 
 /// Takes the one range of a set from either end of its iterators, and asks on.
-fn check_ended<Q: OwnSteps<u32, R> + SetKind<u32, R>, R: SetRange<Key = u32> + FromEnds<u32>>(
+fn check_ended<Q: OwnSteps<R>, R: FromEnds<Key = u32>>(
     alloc: Global,
     range: &str,
     query: &str,
@@ -149,24 +136,34 @@ fn overlapping_ranges_come_from_both_ends(rt: HostRuntime) -> Result<(), Fail> {
         rt.alloc(),
         "0..2, 3..4, 5..6, 8..9",
         "1..8",
-        "0..2 + 3..4 + 5..6",
+        ["0..2", "3..4", "5..6"],
     )?;
     check_overlapping::<Closed<u32>, RangeInclusive<u32>>(
         rt.alloc(),
         "0..=1, 3..=3, 5..=5, 8..=9",
         "1..=7",
-        "0..=1 + 3..=3 + 5..=5",
+        ["0..=1", "3..=3", "5..=5"],
     )
 }
 
 #[test]
 fn sets_lend_and_hand_their_ranges_over(rt: HostRuntime) -> Result<(), Fail> {
-    check_all::<HalfOpen, Range<u32>>(rt.alloc(), "0..2, 4..6, 8..9", "0..2 + 4..6 + 8..9")?;
+    check_all::<HalfOpen, Range<u32>>(rt.alloc(), "0..2, 4..6, 8..9", ["0..2", "4..6", "8..9"])?;
     check_all::<Closed<u32>, RangeInclusive<u32>>(
         rt.alloc(),
         "0..=1, 4..=5, 8..=8",
-        "0..=1 + 4..=5 + 8..=8",
+        ["0..=1", "4..=5", "8..=8"],
     )
+}
+
+#[test]
+fn a_set_in_a_tree_lends_and_hands_its_ranges_over(rt: HostRuntime) -> Result<(), Fail> {
+    let alloc = rt.alloc();
+    let ranges = ["0..2", "4..6", "8..9"];
+    let set: tree_set::RangeSet<u32> = made_of(alloc, "0..2, 4..6, 8..9")?;
+    check_three(alloc, set.iter(), ranges, true)?;
+    check_three(alloc, set.overlapping(&(1..9)), ranges, false)?;
+    check_counted_back(alloc, set.into_iter(), ranges)
 }
 
 #[test]

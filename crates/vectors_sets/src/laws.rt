@@ -3,16 +3,11 @@ ghost use Rattle.rangemap.specs.Clones.{KeysCloneFaithfully};
 
 use rangemap::container::Combine;
 use rangemap::laws::sets::{Operator, absorbs, associates, commutes, distributes, is_idempotent};
-use rangemap::range_set::Set;
-use rangemap_core::half_open::HalfOpen;
-use rangemap_maps::closed::Closed;
-use rangemap_maps::kinds::OwnSteps;
-use rangemap_operations::set_range::{SetKind, SetRange};
-use rows::{FromEnds, Tested, check_text};
+use rangemap::{RangeInclusiveSet, RangeSet, tree_set};
 use std::alloc::Global;
 use std::fmt::Debug;
-use std::ops::{Range, RangeInclusive};
 use std::test::Fail;
+use tests_support::{InRows, check_text, made_of};
 
 /// Three sets: the second goes on where the first ends, and the third has keys of both.
 #[derive(Drop)]
@@ -29,7 +24,7 @@ fn check_sides<S: Combine + Debug>(
     unions: [&str; 3],
     intersections: [&str; 3],
 ) -> Result<(), Fail>
-    requires { KeysCloneFaithfully S.Key.is_clone S.Key.cmp }
+    requires { KeysCloneFaithfully S.Range.Key.is_clone S.Range.Key.cmp }
 {
     let (first, second, third) = (sets.first, sets.second, sets.third);
     let [commuted, associated, distributed] = unions;
@@ -54,7 +49,7 @@ fn check_first<S: Combine + Debug>(
     sets: &Three<'_, S>,
     first: &str,
 ) -> Result<(), Fail>
-    requires { KeysCloneFaithfully S.Key.is_clone S.Key.cmp }
+    requires { KeysCloneFaithfully S.Range.Key.is_clone S.Range.Key.cmp }
 {
     check_text(alloc, &is_idempotent(&Operator::Union, sets.first)?, first)?;
     check_text(
@@ -74,48 +69,34 @@ fn check_first<S: Combine + Debug>(
     )
 }
 
-/// Runs all laws on three sets.
-fn check_laws<S: Combine + Debug>(
+/// Makes three sets, and runs all laws on them.
+fn check_three<S: InRows<Alloc = Global, Value = ()> + Combine + Debug>(
     alloc: Global,
-    sets: &[S],
+    sets: [&str; 3],
     unions: [&str; 3],
     intersections: [&str; 3],
     text: &str,
 ) -> Result<(), Fail>
-    requires { KeysCloneFaithfully S.Key.is_clone S.Key.cmp }
+    requires { KeysCloneFaithfully S.Range.Key.is_clone S.Range.Key.cmp }
 {
-    let [first, second, third] = sets else {
-        return Err(Fail::new("the laws are of three sets"));
-    };
+    let [first, second, third] = sets;
+    let first: S = made_of(alloc, first)?;
+    let second: S = made_of(alloc, second)?;
+    let third: S = made_of(alloc, third)?;
     let sets = Three {
-        first,
-        second,
-        third,
+        first: &first,
+        second: &second,
+        third: &third,
     };
     check_sides(alloc, &sets, unions, intersections)?;
     check_first(alloc, &sets, text)
 }
 
-/// Makes three sets of a kind of range, and runs all laws on them.
-fn check_three<
-    Q: OwnSteps<u32, R> + SetKind<u32, R>,
-    R: SetRange<Key = u32> + FromEnds<u32> + Debug,
->(
-    alloc: Global,
-    sets: &[&str],
-    unions: [&str; 3],
-    intersections: [&str; 3],
-    text: &str,
-) -> Result<(), Fail> {
-    let sets = Set::<Q, u32, R, Global>::make_all(alloc, sets)?;
-    check_laws(alloc, sets.as_slice(), unions, intersections, text)
-}
-
 #[test]
 fn operators_keep_their_laws(rt: HostRuntime) -> Result<(), Fail> {
-    check_three::<HalfOpen, Range<u32>>(
+    check_three::<RangeSet<u32>>(
         rt.alloc(),
-        &["0..5", "5..10", "3..7"],
+        ["0..5", "5..10", "3..7"],
         [
             "({0..10}, {0..10})",
             "({0..10}, {0..10})",
@@ -128,9 +109,9 @@ fn operators_keep_their_laws(rt: HostRuntime) -> Result<(), Fail> {
 
 #[test]
 fn operators_of_closed_sets_keep_their_laws(rt: HostRuntime) -> Result<(), Fail> {
-    check_three::<Closed<u32>, RangeInclusive<u32>>(
+    check_three::<RangeInclusiveSet<u32>>(
         rt.alloc(),
-        &["0..=4", "5..=9", "3..=6"],
+        ["0..=4", "5..=9", "3..=6"],
         [
             "({0..=9}, {0..=9})",
             "({0..=9}, {0..=9})",

@@ -38,7 +38,7 @@ pub fn run<S: SetStore>(
 
 // The set of the ranges, inserted in their order.
 fn set_of<S: Store>(alloc: Global, ranges: &[Query]) -> Result<S, AllocError> {
-    let mut set = S::empty(alloc);
+    let mut set = S::new_with_step_fns(alloc);
     for range in ranges {
         put(&mut set, alloc, range.start, range.end, 0)?;
     }

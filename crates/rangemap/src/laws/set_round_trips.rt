@@ -1,7 +1,7 @@
 //! What is made again of what a set hands over: of its ranges, and of its JSON form.
 //!
-//! The set that is made has memory of another kind than the one that it is made of, so that it can't
-//! be that one.
+//! The set that is made has another store than the one that it is made of, so that it can't be that
+//! one.
 ghost use Rattle.std.specs.Prelude.{◌≡◌, IfErr, IfOk, IsTrue};
 ghost use Rattle.std.specs.Fn.{FnReturnsAt};
 ghost use Rattle.rangemap.specs.Clones.{KeysCloneFaithfully};
@@ -9,25 +9,25 @@ ghost use Rattle.rangemap.specs.Json.{IsForm, IsReading, KeysReadBack, RefusesTo
 ghost use Rattle.rangemap.specs.Ranges.{same_ranges, unit_eq, with_unit};
 
 use crate::range_set::Set;
+use rangemap_core::key_range::KeyRange;
+use rangemap_core::kind::OwnSteps;
+use rangemap_core::store::{HandsOver, Store};
 use rangemap_formats::json::{Form, WriteError};
-use rangemap_laws::laws::round_trips::for_memory;
-use rangemap_maps::kinds::OwnSteps;
-use rangemap_operations::set_range::{SetKind, SetRange};
+use rangemap_maps::laws::round_trips::for_memory;
 use serde_json::Value;
-use std::alloc::{AllocError, Allocator, Global};
+use std::alloc::{AllocError, Global};
 
 /// `from_iter` of `into_iter` gives an equal set.
 pub fn from_iter_of_into_iter_is_equal<
-    Q: OwnSteps<T, R> + SetKind<T, R>,
-    T: Ord + Clone,
-    R: SetRange<Key = T>,
-    A: Allocator,
-    B: Allocator,
->(alloc: B, set: Set<Q, T, R, A>) -> Result<Set<Q, T, R, B>, AllocError>
-    requires faithful_keys { KeysCloneFaithfully T.is_clone T.cmp }
-    ensures { IfOk result (λ again. IsTrue (same_ranges Q.kind set again)) }
+    S: HandsOver + Store<Value = ()>,
+    T: Store<Range = S::Range, Value = (), Kind = S::Kind> + Drop,
+>(alloc: T::Alloc, set: Set<S>) -> Result<Set<T>, AllocError>
+where
+    S::Kind: OwnSteps<S::Range>,
+    requires faithful_keys { KeysCloneFaithfully S.Range.Key.is_clone S.Range.Key.cmp }
+    ensures { IfOk result (λ again. IsTrue (same_ranges S.Kind.kind set again)) }
 {
-    let _ = set.iter();
+    set.known();
     Set::from_iter(alloc, set)
 }
 
@@ -39,33 +39,32 @@ pub fn from_iter_of_into_iter_is_equal<
 ///
 /// The writer refused a key, or memory was refused. The reader refuses nothing of what was written.
 pub fn reading_what_was_written_is_equal<
-    Q: OwnSteps<T, R> + SetKind<T, R>,
-    T: Ord + Clone,
-    R: SetRange<Key = T>,
-    A: Allocator,
-    B: Allocator,
+    S: Store<Value = ()>,
+    T: Store<Range = S::Range, Value = (), Kind = S::Kind> + Drop,
     E,
     F: Drop,
-    WK: Fn(&T) -> Result<Value, E>,
-    RK: Fn(&Value) -> Result<T, F>,
+    WK: Fn(&<S::Range as KeyRange>::Key) -> Result<Value, E>,
+    RK: Fn(&Value) -> Result<<S::Range as KeyRange>::Key, F>,
 >(
     json: Global,
-    alloc: B,
+    alloc: T::Alloc,
     form: Form,
-    set: &Set<Q, T, R, A>,
+    set: &Set<S>,
     write_key: WK,
     read_key: RK,
-) -> Result<(Value, Set<Q, T, R, B>), WriteError<E>>
+) -> Result<(Value, Set<T>), WriteError<E>>
+where
+    S::Kind: OwnSteps<S::Range>,
     requires writes_keys { WK.IsAlwaysCallable write_key }
     requires reads_keys { RK.IsAlwaysCallable read_key }
-    requires keys_read_back { KeysReadBack Q.kind (FnReturnsAt WK.Fn write_key) (FnReturnsAt RK.Fn read_key) }
-    requires faithful_keys { KeysCloneFaithfully T.is_clone T.cmp }
-    ensures written { IfOk result (λ made. IsForm Q.kind (set_writer (FnReturnsAt WK.Fn write_key)) (with_unit Q.kind set.now) made.0) }
-    ensures read { IfOk result (λ made. IsReading Q.kind (set_reader (FnReturnsAt RK.Fn read_key)) (unit_eq Q.kind) form made.0 (with_unit Q.kind made.1)) }
-    ensures equal { IfOk result (λ made. IsTrue (same_ranges Q.kind set.now made.1)) }
-    ensures refused { IfErr result (RefusesToWrite Q.kind (set_writer (FnReturnsAt WK.Fn write_key)) (with_unit Q.kind set.now)) }
+    requires keys_read_back { KeysReadBack S.Kind.kind (FnReturnsAt WK.Fn write_key) (FnReturnsAt RK.Fn read_key) }
+    requires faithful_keys { KeysCloneFaithfully S.Range.Key.is_clone S.Range.Key.cmp }
+    ensures written { IfOk result (λ made. IsForm S.Kind.kind (set_writer (FnReturnsAt WK.Fn write_key)) (with_unit S.Kind.kind set.now) made.0) }
+    ensures read { IfOk result (λ made. IsReading S.Kind.kind (set_reader (FnReturnsAt RK.Fn read_key)) (unit_eq S.Kind.kind) form made.0 (with_unit S.Kind.kind made.1)) }
+    ensures equal { IfOk result (λ made. IsTrue (same_ranges S.Kind.kind set.now made.1)) }
+    ensures refused { IfErr result (RefusesToWrite S.Kind.kind (set_writer (FnReturnsAt WK.Fn write_key)) (with_unit S.Kind.kind set.now)) }
 {
-    let _ = set.iter();
+    set.known();
     let value = match set.to_value(json, write_key) {
         Ok(value) => value,
         Err(error) => return Err(error),

@@ -6,13 +6,18 @@ ghost use Rattle.rangemap.specs.Ranges.{IsCanonOfPoints, covers, same_ranges};
 ghost use Rattle.rangemap.specs.Sets.{Adds, AreNonEmptyRanges, GivesNonEmptyRanges};
 
 use super::Set;
-use rangemap_maps::kinds::{OwnSteps, Stored};
-use rangemap_operations::into_iter::IntoIter;
-use rangemap_operations::set_range::{SetKind, SetRange};
-use std::alloc::{AllocError, Allocator};
+use rangemap_core::key_range::KeyRange;
+use rangemap_core::kind::{Kind, OwnSteps};
+use rangemap_core::store::{HandsOver, Lends, Store};
+use rangemap_unions::{IntoRanges, Ranges};
+use std::alloc::AllocError;
 use std::iter::IntoIterator;
+use std::marker::PhantomData;
 
-impl<Q: Stored<T, R>, T: Ord + Clone, R: Drop, A: Allocator> Set<Q, T, R, A> {
+impl<S: Store<Value = ()>> Set<S>
+where
+    S::Alloc: Clone,
+{
     /// Returns an equal set, made of clones, in memory of a clone of this one's allocator.
     ///
     /// # Requires
@@ -23,24 +28,22 @@ impl<Q: Stored<T, R>, T: Ord + Clone, R: Drop, A: Allocator> Set<Q, T, R, A> {
     ///
     /// `Err` says that memory or a clone was refused.
     pub fn clone(&self) -> Result<Self, AllocError>
-    where
-        A: Clone,
-        requires faithful_keys { KeysCloneFaithfully T.is_clone T.cmp }
-        ensures same { IfOk result (λ copy. same_ranges Q.kind self.now copy ≡ true) }
-        ensures canon { IfOk result (λ copy. IsCanonOfPoints Q.kind (covers Q.kind self.now) copy) }
+        requires faithful_keys { KeysCloneFaithfully S.Range.Key.is_clone S.Range.Key.cmp }
+        ensures same { IfOk result (λ copy. same_ranges S.Kind.kind self.now copy ≡ true) }
+        ensures canon { IfOk result (λ copy. IsCanonOfPoints S.Kind.kind (covers S.Kind.kind self.now) copy) }
     {
+        let alloc = self.stored.allocator().clone()?;
         Ok(Set {
-            pairs: self.pairs.clone()?,
+            stored: self.stored.copy(alloc)?,
+            lives: PhantomData,
         })
     }
 }
 
-impl<Q: OwnSteps<T, R> + SetKind<T, R>, T: Ord + Clone, R: SetRange<Key = T>, A: Allocator> Set<
-    Q,
-    T,
-    R,
-    A,
-> {
+impl<S: Store<Value = ()>> Set<S>
+where
+    S::Kind: OwnSteps<S::Range>,
+{
     /// Inserts the items of `iter` in the order in which they come.
     ///
     /// # Requires
@@ -52,19 +55,24 @@ impl<Q: OwnSteps<T, R> + SetKind<T, R>, T: Ord + Clone, R: SetRange<Key = T>, A:
     ///
     /// `Err` says that an insert was refused. The items before it stay; it and those behind it are
     /// dropped.
-    pub fn extend<I: IntoIterator<Item = R>>(&mut self, iter: I) -> Result<(), AllocError>
+    pub fn extend<I: IntoIterator<Item = S::Range>>(&mut self, iter: I) -> Result<(), AllocError>
         requires ends { IsFiniteIterable I.into_iter_gives I.IntoIter.can_next I.IntoIter.remaining iter }
-        requires non_empty { (it : I.IntoIter) → I.into_iter_gives iter it → GivesNonEmptyRanges Q.kind I.IntoIter.next_gives it }
-        requires faithful_keys { KeysCloneFaithfully T.is_clone T.cmp }
-        ensures { ExtendsWithItems I.into_iter_gives I.IntoIter.next_gives (Adds Q.kind) iter self.old self.new result }
+        requires non_empty { (it : I.IntoIter) → I.into_iter_gives iter it → GivesNonEmptyRanges S.Kind.kind I.IntoIter.next_gives it }
+        requires faithful_keys { KeysCloneFaithfully S.Range.Key.is_clone S.Range.Key.cmp }
+        ensures { ExtendsWithItems I.into_iter_gives I.IntoIter.next_gives (Adds S.Kind.kind) iter self.old self.new result }
     {
-        let _ = self.iter();
+        self.known();
         for range in iter {
             self.insert(range)?;
         }
         Ok(())
     }
+}
 
+impl<S: Store<Value = ()> + Drop> Set<S>
+where
+    S::Kind: OwnSteps<S::Range>,
+{
     /// Returns the set of the items of `iter`, inserted in the order in which they come, in memory
     /// of `alloc`.
     ///
@@ -75,11 +83,14 @@ impl<Q: OwnSteps<T, R> + SetKind<T, R>, T: Ord + Clone, R: SetRange<Key = T>, A:
     /// # Errors
     ///
     /// `Err` says that an insert was refused.
-    pub fn from_iter<I: IntoIterator<Item = R>>(alloc: A, iter: I) -> Result<Self, AllocError>
+    pub fn from_iter<I: IntoIterator<Item = S::Range>>(
+        alloc: S::Alloc,
+        iter: I,
+    ) -> Result<Self, AllocError>
         requires ends { IsFiniteIterable I.into_iter_gives I.IntoIter.can_next I.IntoIter.remaining iter }
-        requires non_empty { (it : I.IntoIter) → I.into_iter_gives iter it → GivesNonEmptyRanges Q.kind I.IntoIter.next_gives it }
-        requires faithful_keys { KeysCloneFaithfully T.is_clone T.cmp }
-        ensures { IfOk result (λ all. (it : I.IntoIter) × (ranges : List _) × I.into_iter_gives iter it × Drains I.IntoIter.next_gives it ranges × IsCanonOfPoints Q.kind (covers Q.kind ranges) all) }
+        requires non_empty { (it : I.IntoIter) → I.into_iter_gives iter it → GivesNonEmptyRanges S.Kind.kind I.IntoIter.next_gives it }
+        requires faithful_keys { KeysCloneFaithfully S.Range.Key.is_clone S.Range.Key.cmp }
+        ensures { IfOk result (λ all. (it : I.IntoIter) × (ranges : List _) × I.into_iter_gives iter it × Drains I.IntoIter.next_gives it ranges × IsCanonOfPoints S.Kind.kind (covers S.Kind.kind ranges) all) }
     {
         let mut all = Set::new(alloc);
         all.extend(iter)?;
@@ -96,30 +107,54 @@ impl<Q: OwnSteps<T, R> + SetKind<T, R>, T: Ord + Clone, R: SetRange<Key = T>, A:
     ///
     /// `Err` says that an insert was refused, or a clone of `alloc`, or the memory through which
     /// the array is read.
-    pub fn from<const N: usize>(alloc: A, value: [R; N]) -> Result<Self, AllocError>
+    pub fn from<const N: usize>(alloc: S::Alloc, value: [S::Range; N]) -> Result<Self, AllocError>
     where
-        A: Clone,
-        requires non_empty { AreNonEmptyRanges Q.kind value }
-        requires faithful_keys { KeysCloneFaithfully T.is_clone T.cmp }
-        ensures { IfOk result (λ all. IsCanonOfPoints Q.kind (covers Q.kind value) all) }
+        S::Alloc: Clone,
+        requires non_empty { AreNonEmptyRanges S.Kind.kind value }
+        requires faithful_keys { KeysCloneFaithfully S.Range.Key.is_clone S.Range.Key.cmp }
+        ensures { IfOk result (λ all. IsCanonOfPoints S.Kind.kind (covers S.Kind.kind value) all) }
     {
         let ranges = Vec::from_array(alloc.clone()?, value)?;
         Set::from_iter(alloc, ranges)
     }
 }
 
-impl<Q: OwnSteps<T, R>, T: Ord + Clone, R: Drop, A: Allocator> IntoIterator for Set<Q, T, R, A> {
+impl<S: HandsOver + Store<Value = ()>> IntoIterator for Set<S>
+where
+    S::Kind: OwnSteps<S::Range>,
+{
     ghost use Rattle.std.specs.Prelude.{◌≡◌};
     ghost use Rattle.rangemap.specs.Sets.{IsCanonicalSet};
 
-    type Item = R;
+    type Item = S::Range;
 
-    type IntoIter = IntoIter<R, A>;
+    type IntoIter = IntoRanges<S>;
 
-    ghost into_iter_gives = { λ set it. (it ≡ set) × IsCanonicalSet Q.kind set };
+    ghost into_iter_gives = { λ set it. (it ≡ set) × IsCanonicalSet S.Kind.kind set };
 
     /// Returns the stored ranges in order, which can be taken from both ends.
-    fn into_iter(self) -> IntoIter<R, A> {
-        IntoIter::over(self.pairs.into_iter())
+    fn into_iter(self) -> IntoRanges<S> {
+        IntoRanges::over(self.stored.into_pairs())
+    }
+}
+
+impl<'a, S: Lends<'a> + Store<Value = ()>> IntoIterator for &'a Set<S>
+where
+    S::Range: 'a,
+    S::Value: 'a,
+{
+    ghost use Rattle.std.specs.Prelude.{◌≡◌};
+    ghost use Rattle.rangemap.specs.Sets.{IsCanonicalSet};
+
+    type Item = &'a S::Range;
+
+    type IntoIter = Ranges<S::Iter>;
+
+    ghost into_iter_gives = { λ set it. (it ≡ set.now) × IsCanonicalSet S.Kind.kind set.now };
+
+    /// Returns the stored ranges in order, which can be taken from both ends.
+    fn into_iter(self) -> Ranges<S::Iter> {
+        self.stored.known();
+        Ranges::over(self.stored.iter())
     }
 }

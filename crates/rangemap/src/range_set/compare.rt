@@ -1,41 +1,44 @@
 //! Equality and order of sets, and what a set feeds a hasher.
 
 use super::Set;
-use rangemap_maps::kinds::Stored;
-use std::alloc::Allocator;
+use rangemap_core::key_range::KeyRange;
+use rangemap_core::kind::Kind;
+use rangemap_core::store::Store;
+use rangemap_formats::compare::{are_same, compare};
+use rangemap_formats::hash::feed;
 use std::cmp::Ordering;
 use std::hash::{Hash, Hasher};
 
-impl<Q: Stored<T, R>, T: Ord + Clone, R: Drop, A: Allocator> PartialEq for Set<Q, T, R, A> {
+impl<S: Store<Value = ()>> PartialEq for Set<S> {
     ghost use Rattle.std.specs.Cmp.{partial_equiv_from_equiv};
     ghost use Rattle.rangemap.specs.Ranges.{same_ranges};
     ghost use Rattle.rangemap_core.specs.laws.Comparisons.{same_ranges_equiv};
 
-    ghost eq = { λ left right. same_ranges Q.kind left right };
+    ghost eq = { λ left right. same_ranges S.Kind.kind left right };
 
-    ghost laws = { partial_equiv_from_equiv (same_ranges_equiv Q.kind Q.placed.total) };
+    ghost laws = { partial_equiv_from_equiv (same_ranges_equiv S.Kind.kind S.Kind.placed.total) };
 
     /// Returns whether the sets have equal ranges. It compares their numbers first, and stops at
     /// the first two that differ.
     fn eq(&self, other: &Self) -> bool {
-        self.pairs == other.pairs
+        are_same(&self.stored, &other.stored)
     }
 }
 
-impl<Q: Stored<T, R>, T: Ord + Clone, R: Drop, A: Allocator> Eq for Set<Q, T, R, A> {
+impl<S: Store<Value = ()>> Eq for Set<S> {
     ghost use Rattle.rangemap_core.specs.laws.Comparisons.{same_ranges_equiv};
 
-    ghost laws = { same_ranges_equiv Q.kind Q.placed.total };
+    ghost laws = { same_ranges_equiv S.Kind.kind S.Kind.placed.total };
 }
 
-impl<Q: Stored<T, R>, T: Ord + Clone, R: Drop, A: Allocator> PartialOrd for Set<Q, T, R, A> {
+impl<S: Store<Value = ()>> PartialOrd for Set<S> {
     ghost use Rattle.std.specs.Ordering.{as_partial_cmp};
     ghost use Rattle.rangemap.specs.ListOrder.{ranges_cmp};
     ghost use Rattle.rangemap_core.specs.laws.Comparisons.{ranges_cmp_partial};
 
-    ghost partial_cmp = { as_partial_cmp (ranges_cmp Q.kind) };
+    ghost partial_cmp = { as_partial_cmp (ranges_cmp S.Kind.kind) };
 
-    ghost laws = { ranges_cmp_partial Q.kind Q.placed.total };
+    ghost laws = { ranges_cmp_partial S.Kind.kind S.Kind.placed.total };
 
     /// Returns what `cmp` does.
     fn partial_cmp(&self, other: &Self) -> Option<Ordering> {
@@ -43,37 +46,40 @@ impl<Q: Stored<T, R>, T: Ord + Clone, R: Drop, A: Allocator> PartialOrd for Set<
     }
 }
 
-impl<Q: Stored<T, R>, T: Ord + Clone, R: Drop, A: Allocator> Ord for Set<Q, T, R, A> {
+impl<S: Store<Value = ()>> Ord for Set<S> {
     ghost use Rattle.std.specs.Prelude.{refl};
     ghost use Rattle.rangemap.specs.ListOrder.{ranges_cmp};
     ghost use Rattle.rangemap_core.specs.laws.Comparisons.{ranges_cmp_ties, ranges_cmp_total};
 
-    ghost cmp = { ranges_cmp Q.kind };
+    ghost cmp = { ranges_cmp S.Kind.kind };
 
-    ghost total = { ranges_cmp_total Q.kind Q.placed.total };
+    ghost total = { ranges_cmp_total S.Kind.kind S.Kind.placed.total };
 
     ghost matches_partial_cmp = { λ left right. refl };
 
-    ghost matches_eq = { ranges_cmp_ties Q.kind };
+    ghost matches_eq = { ranges_cmp_ties S.Kind.kind };
 
     /// Compares the sets by the first two ranges that differ: by their starts, and where these are
     /// equal by their ends. A set that has only the first ranges of the other is less.
     fn cmp(&self, other: &Self) -> Ordering {
-        self.pairs.cmp(&other.pairs)
+        compare(&self.stored, &other.stored)
     }
 }
 
-impl<Q: Stored<T, R>, T: Ord + Clone + Hash, R: Drop, A: Allocator> Hash for Set<Q, T, R, A> {
+impl<S: Store<Value = ()>> Hash for Set<S>
+where
+    <S::Range as KeyRange>::Key: Hash,
+{
     ghost use Rattle.rangemap.specs.Hashes.{ranges_fed};
     ghost use Rattle.rangemap_core.specs.laws.Comparisons.{alike_by, ranges_fed_alike};
-    ghost use Rattle.rangemap_maps.specs.KeyOrder.{alike_in};
+    ghost use Rattle.rangemap_core.specs.laws.KeyOrder.{alike_in, cmp_is};
 
-    ghost hash_input = { ranges_fed Q.kind T.hash_input };
+    ghost hash_input = { ranges_fed S.Kind.kind S.Range.Key.hash_input };
 
-    ghost respects_eq = { (ranges_fed_alike Q.kind (alike_in Q.order (alike_by T.matches_eq (record { fed = T.respects_eq })))).fed };
+    ghost respects_eq = { (ranges_fed_alike S.Kind.kind (alike_in (cmp_is S.Kind.reads S.Range.order) (alike_by S.Range.Key.matches_eq (record { fed = S.Range.Key.respects_eq })))).fed };
 
     /// Feeds the number of stored ranges, and then the start and the end of each.
     fn hash<H: Hasher>(&self, state: &mut H) {
-        self.pairs.hash(state);
+        feed(&self.stored, state);
     }
 }

@@ -1,58 +1,58 @@
 //! The set as one of the library's containers.
 //!
 //! What a map tells of values and pairs is made of `get`, `contains`, `first` and `last`; the appends
-//! of pairs are those of the map inside; `extend` and `from_iter` take pairs, and insert them one
-//! after another. All other methods are the set's own calls, and `append_gaps` appends what its
-//! `gaps` yields.
+//! hand the pairs and gaps of its store on; pairs are inserted one after another, as `Collect` does.
+//! All other methods are the set's own calls.
 
 use super::Set;
-use rangemap_core::container::{Collect, Container, TryClone, append_gaps, insert_pairs};
-use rangemap_maps::kinds::OwnSteps;
-use rangemap_maps::range_map::Map;
-use rangemap_operations::combine::Combine;
-use rangemap_operations::set_range::{SetKind, SetRange};
+use rangemap_core::container::{Appending, Collect, Combine, Container};
+use rangemap_core::key_range::KeyRange;
+use rangemap_core::kind::{Kind, OwnSteps};
+use rangemap_core::store::Store;
 use std::alloc::{AllocError, Allocator};
 use std::iter::IntoIterator;
 
-impl<Q: SetKind<T, R>, T: Ord + Clone, R: SetRange<Key = T>, A: Allocator> Container
-    for Set<Q, T, R, A> {
+impl<S: Store<Value = ()> + Drop> Container for Set<S>
+where
+    S::Alloc: Clone,
+{
     ghost use Rattle.rangemap.specs.Ranges.{with_unit};
-    ghost use Rattle.rangemap_operations.specs.UnitPairs.{same_with_unit};
+    ghost use Rattle.rangemap_core.specs.laws.UnitPairs.{same_with_unit};
 
-    type Key = T;
-
-    type Range = R;
+    type Range = S::Range;
 
     type Value = ();
 
-    type Alloc = A;
+    type Alloc = S::Alloc;
 
-    type Kind = Q;
+    type Kind = S::Kind;
 
-    ghost pairs = { λ set. with_unit Q.kind set };
+    ghost pairs = { λ set. with_unit S.Kind.kind set };
 
-    ghost equal = { λ left right. same_with_unit Q.kind left right };
+    ghost equal = { λ left right. same_with_unit S.Kind.kind left right };
 
     fn known(&self) {
-        let _ = self.iter();
+        self.known();
     }
 
-    fn empty(alloc: A) -> Self {
-        Set {
-            pairs: Map::empty(alloc),
-        }
+    fn new_with_step_fns(alloc: S::Alloc) -> Self {
+        Set::new_with_step_fns(alloc)
     }
 
-    fn insert(&mut self, range: R, _value: ()) -> Result<(), AllocError> {
+    fn insert(&mut self, range: S::Range, _value: ()) -> Result<(), AllocError> {
         self.insert(range)
     }
 
-    fn remove(&mut self, range: R) -> Result<(), AllocError> {
+    fn remove(&mut self, range: S::Range) -> Result<(), AllocError> {
         self.remove(range)
     }
 
     fn clear(&mut self) {
         self.clear();
+    }
+
+    fn clone(&self) -> Result<Self, AllocError> {
+        self.clone()
     }
 
     fn len(&self) -> usize {
@@ -63,93 +63,81 @@ impl<Q: SetKind<T, R>, T: Ord + Clone, R: SetRange<Key = T>, A: Allocator> Conta
         self.is_empty()
     }
 
-    fn get(&self, key: &T) -> Option<&()> {
+    fn get(&self, key: &<S::Range as KeyRange>::Key) -> Option<&()> {
         match self.get(key) {
             Some(_) => Some(&()),
             None => None,
         }
     }
 
-    fn get_key_value(&self, key: &T) -> Option<(&R, &())> {
+    fn get_key_value(&self, key: &<S::Range as KeyRange>::Key) -> Option<(&S::Range, &())> {
         match self.get(key) {
             Some(range) => Some((range, &())),
             None => None,
         }
     }
 
-    fn contains_key(&self, key: &T) -> bool {
+    fn contains_key(&self, key: &<S::Range as KeyRange>::Key) -> bool {
         self.contains(key)
     }
 
-    fn first_range_value(&self) -> Option<(&R, &())> {
+    fn first_range_value(&self) -> Option<(&S::Range, &())> {
         match self.first() {
             Some(range) => Some((range, &())),
             None => None,
         }
     }
 
-    fn last_range_value(&self) -> Option<(&R, &())> {
+    fn last_range_value(&self) -> Option<(&S::Range, &())> {
         match self.last() {
             Some(range) => Some((range, &())),
             None => None,
         }
     }
 
-    fn overlaps(&self, range: &R) -> bool {
+    fn overlaps(&self, range: &S::Range) -> bool {
         self.overlaps(range)
     }
 
-    fn append_all<B: Allocator>(&self, out: &mut Vec<(R, ()), B>) -> Result<(), AllocError> {
-        self.pairs.append_all(out)
+    fn append_all<B: Allocator>(&self, out: &mut Vec<(S::Range, ()), B>) -> Result<(), AllocError> {
+        self.stored.known();
+        self.stored.read::<Appending<S::Kind, B>>(out)
     }
 
     fn append_overlapping<B: Allocator>(
         &self,
-        range: &R,
-        out: &mut Vec<(R, ()), B>,
+        range: &S::Range,
+        out: &mut Vec<(S::Range, ()), B>,
     ) -> Result<(), AllocError> {
-        self.pairs.append_overlapping(range, out)
+        self.stored.known();
+        self.stored
+            .read_overlapping::<Appending<S::Kind, B>>(range, out)
     }
 
     fn append_gaps<B: Allocator>(
         &self,
-        outer_range: &R,
-        out: &mut Vec<R, B>,
+        outer_range: &S::Range,
+        out: &mut Vec<S::Range, B>,
     ) -> Result<(), AllocError> {
-        append_gaps(self.gaps(outer_range), out)
+        self.stored.append_gaps(outer_range, out)
     }
 }
 
-impl<Q: SetKind<T, R>, T: Ord + Clone, R: SetRange<Key = T>, A: Allocator + Clone> TryClone
-    for Set<Q, T, R, A> {
-    fn clone(&self) -> Result<Self, AllocError> {
-        self.clone()
-    }
-}
-
-impl<Q: OwnSteps<T, R> + SetKind<T, R>, T: Ord + Clone, R: SetRange<Key = T>, A: Allocator> Collect
-    for Set<Q, T, R, A> {
-    fn new(alloc: A) -> Self {
+impl<S: Store<Value = ()> + Drop> Collect for Set<S>
+where
+    S::Alloc: Clone,
+    S::Kind: OwnSteps<S::Range>,
+{
+    fn new(alloc: S::Alloc) -> Self {
         Set::new(alloc)
     }
-
-    fn extend<I: IntoIterator<Item = (R, ())>>(&mut self, iter: I) -> Result<(), AllocError> {
-        insert_pairs(self, iter)
-    }
-
-    fn from_iter<I: IntoIterator<Item = (R, ())>>(alloc: A, iter: I) -> Result<Self, AllocError> {
-        let mut all = Set::new(alloc);
-        insert_pairs(&mut all, iter)?;
-        Ok(all)
-    }
 }
 
-impl<
-    Q: OwnSteps<T, R> + SetKind<T, R>,
-    T: Ord + Clone,
-    R: SetRange<Key = T>,
-    A: Allocator + Clone,
-> Combine for Set<Q, T, R, A> {
+impl<S: Store<Value = ()> + Drop> Combine for Set<S>
+where
+    S::Alloc: Clone,
+    S::Kind: OwnSteps<S::Range>,
+{
     ghost use Rattle.std.specs.Prelude.{refl};
 
     ghost all_equal = { λ v w. refl };
@@ -162,11 +150,17 @@ impl<
         self & other
     }
 
-    fn extend_ranges<I: IntoIterator<Item = R>>(&mut self, iter: I) -> Result<(), AllocError> {
+    fn extend_ranges<I: IntoIterator<Item = S::Range>>(
+        &mut self,
+        iter: I,
+    ) -> Result<(), AllocError> {
         self.extend(iter)
     }
 
-    fn from_ranges<I: IntoIterator<Item = R>>(alloc: A, iter: I) -> Result<Self, AllocError> {
+    fn from_ranges<I: IntoIterator<Item = S::Range>>(
+        alloc: S::Alloc,
+        iter: I,
+    ) -> Result<Self, AllocError> {
         Set::from_iter(alloc, iter)
     }
 }

@@ -6,14 +6,18 @@ ghost use Rattle.rangemap.specs.Json.{IsForm, IsReading, IsRefusedForMemoryAlone
 ghost use Rattle.rangemap.specs.Ranges.{unit_eq, with_unit};
 
 use super::Set;
-use rangemap_formats::json::entries::{SetReader, SetWriter};
-use rangemap_formats::json::{Form, ReadError, WriteError, reading, writing};
-use rangemap_maps::kinds::OwnSteps;
-use rangemap_maps::range_map::Map;
+use rangemap_core::key_range::KeyRange;
+use rangemap_core::kind::OwnSteps;
+use rangemap_core::store::Store;
+use rangemap_formats::json::{Form, ReadError, WriteError, read_set, write_set};
 use serde_json::Value;
-use std::alloc::{Allocator, Global};
+use std::alloc::Global;
+use std::marker::PhantomData;
 
-impl<Q: OwnSteps<T, R>, T: Ord + Clone, R: Drop, A: Allocator> Set<Q, T, R, A> {
+impl<S: Store<Value = ()>> Set<S>
+where
+    S::Kind: OwnSteps<S::Range>,
+{
     /// Returns the JSON form of the set: the list of `[start, end]` of its ranges, in order, each
     /// key as the caller's function writes it, in memory of `alloc`.
     ///
@@ -30,20 +34,23 @@ impl<Q: OwnSteps<T, R>, T: Ord + Clone, R: Drop, A: Allocator> Set<Q, T, R, A> {
     /// let set = RangeSet::from(alloc, [0..100u32, 200..300])?;
     /// set.to_value(alloc, |number| Ok(Value::from(*number)))? // [[0,100],[200,300]]
     /// ```
-    pub fn to_value<E, WK: Fn(&T) -> Result<Value, E>>(
+    pub fn to_value<E, WK: Fn(&<S::Range as KeyRange>::Key) -> Result<Value, E>>(
         &self,
         alloc: Global,
         write_key: WK,
     ) -> Result<Value, WriteError<E>>
         requires keys { WK.IsAlwaysCallable write_key }
-        ensures ok { IfOk result (IsForm Q.kind (set_writer (FnReturnsAt WK.Fn write_key)) (with_unit Q.kind self.now)) }
-        ensures err { IfErr result (RefusesToWrite Q.kind (set_writer (FnReturnsAt WK.Fn write_key)) (with_unit Q.kind self.now)) }
+        ensures ok { IfOk result (IsForm S.Kind.kind (set_writer (FnReturnsAt WK.Fn write_key)) (with_unit S.Kind.kind self.now)) }
+        ensures err { IfErr result (RefusesToWrite S.Kind.kind (set_writer (FnReturnsAt WK.Fn write_key)) (with_unit S.Kind.kind self.now)) }
     {
-        let pairs = self.pairs.iter();
-        let writer = SetWriter { write_key };
-        writing::write::<Q, T, R, (), E, SetWriter<WK>>(alloc, pairs.as_slice(), &writer)
+        write_set(alloc, &self.stored, write_key)
     }
+}
 
+impl<S: Store<Value = ()> + Drop> Set<S>
+where
+    S::Kind: OwnSteps<S::Range>,
+{
     /// Returns the set that a value of the JSON form stands for: the ranges that the caller's
     /// function reads of its entries, inserted in order, in memory of `alloc`.
     ///
@@ -71,22 +78,22 @@ impl<Q: OwnSteps<T, R>, T: Ord + Clone, R: Drop, A: Allocator> Set<Q, T, R, A> {
     /// RangeSet::from_value(alloc, Form::Canonical, &value, read_number)
     /// // Err(ReadError::Uncoalesced { at: 1 })
     /// ```
-    pub fn from_value<E, RK: Fn(&Value) -> Result<T, E>>(
-        alloc: A,
+    pub fn from_value<E, RK: Fn(&Value) -> Result<<S::Range as KeyRange>::Key, E>>(
+        alloc: S::Alloc,
         form: Form,
         value: &Value,
         read_key: RK,
     ) -> Result<Self, ReadError<E>>
         requires keys { RK.IsAlwaysCallable read_key }
-        requires faithful_keys { KeysCloneFaithfully T.is_clone T.cmp }
-        ensures ok { IfOk result (λ all. IsReading Q.kind (set_reader (FnReturnsAt RK.Fn read_key)) (unit_eq Q.kind) form value.now (with_unit Q.kind all)) }
-        ensures err { IfErr result (RefusesToRead Q.kind (set_reader (FnReturnsAt RK.Fn read_key)) (unit_eq Q.kind) form value.now) }
-        ensures exact { IfErr result (IsRefusedForMemoryAlone Q.kind (set_reader (FnReturnsAt RK.Fn read_key)) (unit_eq Q.kind) form value.now) }
+        requires faithful_keys { KeysCloneFaithfully S.Range.Key.is_clone S.Range.Key.cmp }
+        ensures ok { IfOk result (λ all. IsReading S.Kind.kind (set_reader (FnReturnsAt RK.Fn read_key)) (unit_eq S.Kind.kind) form value.now (with_unit S.Kind.kind all)) }
+        ensures err { IfErr result (RefusesToRead S.Kind.kind (set_reader (FnReturnsAt RK.Fn read_key)) (unit_eq S.Kind.kind) form value.now) }
+        ensures exact { IfErr result (IsRefusedForMemoryAlone S.Kind.kind (set_reader (FnReturnsAt RK.Fn read_key)) (unit_eq S.Kind.kind) form value.now) }
     {
-        let reader = SetReader { read_key };
-        let pairs = reading::read::<Map<Q, T, R, (), A>, E, SetReader<RK>>(
-            alloc, form, value, &reader,
-        )?;
-        Ok(Set { pairs })
+        let stored = read_set(alloc, form, value, read_key)?;
+        Ok(Set {
+            stored,
+            lives: PhantomData,
+        })
     }
 }

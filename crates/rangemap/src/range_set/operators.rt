@@ -3,15 +3,20 @@ ghost use Rattle.std.specs.Prelude.{◌++◌};
 ghost use Rattle.rangemap.specs.Sets.{AreCommon, AreHulls, CoverEither};
 
 use super::Set;
-use rangemap_maps::kinds::OwnSteps;
-use rangemap_operations::operations::inserts::insert_items;
-use rangemap_operations::operations::intersection::Intersection;
-use rangemap_operations::operations::union::Union;
-use rangemap_operations::set_range::{SetKind, SetRange};
-use std::alloc::{AllocError, Allocator};
+use rangemap_core::key_range::KeyRange;
+use rangemap_core::kind::{Kind, OwnSteps};
+use rangemap_core::store::{Lends, Store};
+use rangemap_unions::inserts::{Intersecting, Uniting};
+use rangemap_unions::{Intersection, Union};
+use std::alloc::AllocError;
+use std::marker::PhantomData;
 use std::ops::{BitAnd, BitOr};
 
-impl<Q: SetKind<T, R>, T: Ord + Clone, R: SetRange<Key = T>, A: Allocator> Set<Q, T, R, A> {
+impl<'a, S: Lends<'a> + Store<Value = ()>> Set<S>
+where
+    S::Range: 'a,
+    S::Value: 'a,
+{
     /// Returns the ranges of both sets, joined where they overlap. Ranges that only touch stay
     /// apart; `|` makes them one.
     ///
@@ -24,9 +29,9 @@ impl<Q: SetKind<T, R>, T: Ord + Clone, R: SetRange<Key = T>, A: Allocator> Set<Q
     /// {0..5, 9..12}.union(&{3..10}): 0..12
     /// {0..=4}.union(&{5..=9}): 0..=4, 5..=9
     /// ```
-    pub fn union<'a>(&'a self, other: &'a Self) -> Union<'a, R>
-        ensures hulls { AreHulls Q.kind (self.now ++ other.now) result }
-        ensures points { CoverEither Q.kind self.now other.now result }
+    pub fn union(&'a self, other: &'a Self) -> Union<S::Iter>
+        ensures hulls { AreHulls S.Kind.kind (self.now ++ other.now) result }
+        ensures points { CoverEither S.Kind.kind self.now other.now result }
     {
         Union::new(self.iter(), other.iter())
     }
@@ -41,67 +46,75 @@ impl<Q: SetKind<T, R>, T: Ord + Clone, R: SetRange<Key = T>, A: Allocator> Set<Q
     /// {0..10, 20..30}.intersection(&{5..25}): 5..10, 20..25
     /// {0..=9, 20..=29}.intersection(&{5..=24}): 5..=9, 20..=24
     /// ```
-    pub fn intersection<'a>(&'a self, other: &'a Self) -> Intersection<'a, R>
-        ensures { AreCommon Q.kind self.now other.now result }
+    pub fn intersection(&'a self, other: &'a Self) -> Intersection<S::Iter>
+        ensures { AreCommon S.Kind.kind self.now other.now result }
     {
         Intersection::new(self.iter(), other.iter())
     }
 }
 
-impl<
-    'a,
-    Q: OwnSteps<T, R> + SetKind<T, R>,
-    T: Ord + Clone,
-    R: SetRange<Key = T>,
-    A: Allocator + Clone,
-> BitOr<&'a Set<Q, T, R, A>> for &'a Set<Q, T, R, A> {
+impl<'a, S: Store<Value = ()> + Drop> BitOr<&'a Set<S>> for &'a Set<S>
+where
+    S::Alloc: Clone,
+    S::Kind: OwnSteps<S::Range>,
+{
     ghost use Rattle.std.specs.Prelude.{IfOk};
     ghost use Rattle.rangemap.specs.Clones.{KeysCloneFaithfully};
     ghost use Rattle.rangemap.specs.Sets.{AreEither};
 
-    type Output = Result<Set<Q, T, R, A>, AllocError>;
+    type Output = Result<Set<S>, AllocError>;
 
-    ghost can_bitor = { λ _ _. KeysCloneFaithfully T.is_clone T.cmp };
+    ghost can_bitor = { λ _ _. KeysCloneFaithfully S.Range.Key.is_clone S.Range.Key.cmp };
 
-    ghost bitor_gives = { λ left right result. IfOk result (AreEither Q.kind left.now right.now) };
+    ghost bitor_gives = { λ left right result. IfOk result (AreEither S.Kind.kind left.now right.now) };
 
     /// Returns the set of the keys of either set, in memory of a clone of the left one's allocator.
     ///
     /// # Errors
     ///
     /// `Err` says that memory or a clone was refused.
-    fn bitor(self, other: &'a Set<Q, T, R, A>) -> Result<Set<Q, T, R, A>, AllocError> {
-        let mut all = Set::new(self.pairs.allocator().clone()?);
-        insert_items(&mut all.pairs, self.union(other))?;
-        Ok(all)
+    fn bitor(self, other: &'a Set<S>) -> Result<Set<S>, AllocError> {
+        self.stored.known();
+        other.stored.known();
+        let mut stored = S::empty(self.stored.allocator().clone()?);
+        self.stored
+            .read_both::<Uniting<S>>(&other.stored, &mut stored)?;
+        Ok(Set {
+            stored,
+            lives: PhantomData,
+        })
     }
 }
 
-impl<
-    'a,
-    Q: OwnSteps<T, R> + SetKind<T, R>,
-    T: Ord + Clone,
-    R: SetRange<Key = T>,
-    A: Allocator + Clone,
-> BitAnd<&'a Set<Q, T, R, A>> for &'a Set<Q, T, R, A> {
+impl<'a, S: Store<Value = ()> + Drop> BitAnd<&'a Set<S>> for &'a Set<S>
+where
+    S::Alloc: Clone,
+    S::Kind: OwnSteps<S::Range>,
+{
     ghost use Rattle.std.specs.Prelude.{IfOk};
     ghost use Rattle.rangemap.specs.Clones.{KeysCloneFaithfully};
     ghost use Rattle.rangemap.specs.Sets.{AreCommon};
 
-    type Output = Result<Set<Q, T, R, A>, AllocError>;
+    type Output = Result<Set<S>, AllocError>;
 
-    ghost can_bitand = { λ _ _. KeysCloneFaithfully T.is_clone T.cmp };
+    ghost can_bitand = { λ _ _. KeysCloneFaithfully S.Range.Key.is_clone S.Range.Key.cmp };
 
-    ghost bitand_gives = { λ left right result. IfOk result (AreCommon Q.kind left.now right.now) };
+    ghost bitand_gives = { λ left right result. IfOk result (AreCommon S.Kind.kind left.now right.now) };
 
     /// Returns the set of the keys of both sets, in memory of a clone of the left one's allocator.
     ///
     /// # Errors
     ///
     /// `Err` says that memory or a clone was refused.
-    fn bitand(self, other: &'a Set<Q, T, R, A>) -> Result<Set<Q, T, R, A>, AllocError> {
-        let mut all = Set::new(self.pairs.allocator().clone()?);
-        insert_items(&mut all.pairs, self.intersection(other))?;
-        Ok(all)
+    fn bitand(self, other: &'a Set<S>) -> Result<Set<S>, AllocError> {
+        self.stored.known();
+        other.stored.known();
+        let mut stored = S::empty(self.stored.allocator().clone()?);
+        self.stored
+            .read_both::<Intersecting<S>>(&other.stored, &mut stored)?;
+        Ok(Set {
+            stored,
+            lives: PhantomData,
+        })
     }
 }

@@ -4,60 +4,74 @@
 //! was.
 ghost use Rattle.std.specs.Prelude.{◌≡◌, ◌++◌, List, OnErr, OnOk, Ok as OkWord, map};
 ghost use Rattle.std.specs.Iterator.{Drains, IsFinite};
-ghost use Rattle.rangemap_core.specs.Appends.{Appends, AppendsOne};
+ghost use Rattle.rangemap_core.specs.Appends.{AppendsOne};
 ghost use Rattle.rangemap_core.specs.Clones.{KeysCloneFaithfully, ValuesCloneFaithfully};
 ghost use Rattle.rangemap_core.specs.Ranges.{IsStorable};
-ghost use Rattle.rangemap_core.specs.engine.Stretch.{Every};
 
-use crate::entries::clones::clone_pair;
+use crate::key_range::KeyRange;
 use crate::kind::Kind;
+use crate::pair_iter::PairIter;
+use crate::pairs::clone_pair;
+use crate::reader::Reader;
 use std::alloc::{AllocError, Allocator};
 use std::iter::Iterator;
+use std::marker::PhantomData;
 
 /// Appends a clone of a stored pair.
 ///
 /// # Errors
 ///
 /// A clone, or the growth of the vector, was refused: then the vector is as it was.
-pub fn append_clone<Q: Kind<K, R>, K: Ord + Clone, R: Drop, V: Eq + Clone, B: Allocator>(
+pub fn append_clone<Q: Kind<R>, R: KeyRange, V: Eq + Clone, B: Allocator>(
     range: &R,
     value: &V,
     out: &mut Vec<(R, V), B>,
 ) -> Result<(), AllocError>
     requires stored { IsStorable Q.kind range.now }
-    requires faithful_keys { KeysCloneFaithfully K.is_clone K.cmp }
+    requires faithful_keys { KeysCloneFaithfully R.Key.is_clone R.Key.cmp }
     requires faithful_values { ValuesCloneFaithfully V.is_clone V.eq }
     ensures ok { OnOk result (AppendsOne Q.kind V.eq (range.now, value.now) out.old.items out.new.items) }
     ensures err { OnErr result (out.new.items ≡ out.old.items) }
 {
-    let copy = clone_pair::<Q, K, R, V>(range, value)?;
+    let copy = clone_pair::<Q, R, V>(range, value)?;
     out.push(copy)?;
     Ok(())
 }
 
-/// Appends clones of stored pairs.
-///
-/// # Errors
-///
-/// As for `append_clone`.
-pub fn append_pairs<Q: Kind<K, R>, K: Ord + Clone, R: Drop, V: Eq + Clone, B: Allocator>(
-    pairs: &[(R, V)],
-    out: &mut Vec<(R, V), B>,
-) -> Result<(), AllocError>
-    requires stored { Every (λ pair. IsStorable Q.kind pair.0) pairs.now }
-    requires faithful_keys { KeysCloneFaithfully K.is_clone K.cmp }
-    requires faithful_values { ValuesCloneFaithfully V.is_clone V.eq }
-    ensures ok { OnOk result (Appends Q.kind V.eq pairs.now out.old.items out.new.items) }
-    ensures err { OnErr result (out.new.items ≡ out.old.items) }
-{
-    let len = out.len();
-    for pair in pairs {
-        if let Err(error) = append_clone::<Q, K, R, V, B>(&pair.0, &pair.1, out) {
-            out.truncate(len);
-            return Err(error);
+/// Appends clones of the pairs that it reads to a vector. It answers `Err` where a clone, or the
+/// growth of the vector, was refused: then the vector is as it was.
+pub struct Appending<Q, B>(PhantomData<(Q, B)>);
+
+impl<Q: Kind<R>, R: KeyRange, V: Eq + Clone, B: Allocator> Reader<R, V> for Appending<Q, B> {
+    ghost use Rattle.std.specs.Prelude.{◌≡◌, OnErr, OnOk};
+    ghost use Rattle.rangemap_core.specs.Appends.{Appends};
+    ghost use Rattle.rangemap_core.specs.Clones.{KeysCloneFaithfully, ValuesCloneFaithfully};
+    ghost use Rattle.rangemap_core.specs.Ranges.{IsStorable};
+    ghost use Rattle.rangemap_core.specs.engine.Stretch.{Every};
+
+    type State = Vec<(R, V), B>;
+
+    type Answer = Result<(), AllocError>;
+
+    ghost may_read = { λ pairs _. Every (λ pair. IsStorable Q.kind pair.0) pairs × KeysCloneFaithfully R.Key.is_clone R.Key.cmp × ValuesCloneFaithfully V.is_clone V.eq };
+
+    ghost reads = { λ pairs old result new. OnOk result (Appends Q.kind V.eq pairs old.items new.items) × OnErr result (new.items ≡ old.items) };
+
+    fn read<I: PairIter<Range = R, Value = V>>(
+        pairs: I,
+        out: &mut Vec<(R, V), B>,
+    ) -> Result<(), AllocError> {
+        let len = out.len();
+        let mut rest = pairs;
+        'pairs: while let Some(pair) = rest.next() {
+            let (range, value) = (I::range_of(&pair), I::value_of(&pair));
+            if let Err(error) = append_clone::<Q, R, V, B>(range, value, out) {
+                out.truncate(len);
+                return Err(error);
+            }
         }
+        Ok(())
     }
-    Ok(())
 }
 
 /// Appends the gaps that are still to come.

@@ -3,6 +3,7 @@ ghost use Rattle.std.specs.Prelude.{◌≡◌, IfOk, MatchOption, Some as SomeWo
 ghost use Rattle.serde_json.specs.declared.value.Value.{Value as Json};
 ghost use Rattle.rangemap_formats.specs.Json.{list_of, map_entry};
 
+use super::WriteError;
 use super::reading::{ReadsParts, items};
 use super::writing::WritesParts;
 use serde_json::Value;
@@ -10,9 +11,9 @@ use std::alloc::{AllocError, Global};
 
 /// Reads the entries of a map, `[[start, end], value]`.
 #[derive(Drop)]
-pub struct MapReader<RK, RV> {
-    pub read_key: RK,
-    pub read_value: RV,
+pub(crate) struct MapReader<RK, RV> {
+    pub(crate) read_key: RK,
+    pub(crate) read_value: RV,
 }
 
 impl<K, V, E, RK: Fn(&Value) -> Result<K, E>, RV: Fn(&Value) -> Result<V, E>> ReadsParts<K, V, E>
@@ -28,7 +29,9 @@ impl<K, V, E, RK: Fn(&Value) -> Result<K, E>, RV: Fn(&Value) -> Result<V, E>> Re
     ghost unambiguous = { λ it. map_unambiguous (FnReturnsAt RK.Fn it.read_key) (FnReturnsAt RV.Fn it.read_value) };
 
     fn parts<'a>(&self, entry: &'a Value) -> Option<(&'a Value, &'a Value, &'a Value)> {
-        map_parts(entry)
+        let (range, value) = two_of(entry)?;
+        let (start, end) = two_of(range)?;
+        Some((start, end, value))
     }
 
     fn key(&self, part: &Value) -> Result<K, E> {
@@ -42,9 +45,10 @@ impl<K, V, E, RK: Fn(&Value) -> Result<K, E>, RV: Fn(&Value) -> Result<V, E>> Re
 
 /// Writes the entries of a map.
 #[derive(Drop)]
-pub struct MapWriter<WK, WV> {
-    pub write_key: WK,
-    pub write_value: WV,
+pub(crate) struct MapWriter<WK, WV> {
+    pub(crate) alloc: Global,
+    pub(crate) write_key: WK,
+    pub(crate) write_value: WV,
 }
 
 impl<K, V, E, WK: Fn(&K) -> Result<Value, E>, WV: Fn(&V) -> Result<Value, E>> WritesParts<K, V, E>
@@ -60,25 +64,20 @@ impl<K, V, E, WK: Fn(&K) -> Result<Value, E>, WV: Fn(&V) -> Result<Value, E>> Wr
         (self.write_key)(key)
     }
 
-    fn value(&self, value: &V) -> Result<Value, E> {
-        (self.write_value)(value)
-    }
-
-    fn entry(
-        &self,
-        alloc: Global,
-        ends: (Value, Value),
-        value: Value,
-    ) -> Result<Value, AllocError> {
-        let range = list_of_two(alloc, ends.0, ends.1)?;
-        list_of_two(alloc, range, value)
+    fn entry(&self, ends: (Value, Value), value: &V) -> Result<Value, WriteError<E>> {
+        let part = match (self.write_value)(value) {
+            Ok(part) => part,
+            Err(fault) => return Err(WriteError::Caller(fault)),
+        };
+        let range = list_of_two(self.alloc, ends.0, ends.1)?;
+        Ok(list_of_two(self.alloc, range, part)?)
     }
 }
 
 /// Reads the entries of a set, `[start, end]`, as those of a map to the unit.
 #[derive(Drop)]
-pub struct SetReader<RK> {
-    pub read_key: RK,
+pub(crate) struct SetReader<RK> {
+    pub(crate) read_key: RK,
 }
 
 impl<K, E, RK: Fn(&Value) -> Result<K, E>> ReadsParts<K, (), E> for SetReader<RK> {
@@ -108,8 +107,9 @@ impl<K, E, RK: Fn(&Value) -> Result<K, E>> ReadsParts<K, (), E> for SetReader<RK
 
 /// Writes the entries of a set.
 #[derive(Drop)]
-pub struct SetWriter<WK> {
-    pub write_key: WK,
+pub(crate) struct SetWriter<WK> {
+    pub(crate) alloc: Global,
+    pub(crate) write_key: WK,
 }
 
 impl<K, E, WK: Fn(&K) -> Result<Value, E>> WritesParts<K, (), E> for SetWriter<WK> {
@@ -124,22 +124,9 @@ impl<K, E, WK: Fn(&K) -> Result<Value, E>> WritesParts<K, (), E> for SetWriter<W
         (self.write_key)(key)
     }
 
-    fn value(&self, _value: &()) -> Result<Value, E> {
-        Ok(Value::Null)
+    fn entry(&self, ends: (Value, Value), _value: &()) -> Result<Value, WriteError<E>> {
+        Ok(list_of_two(self.alloc, ends.0, ends.1)?)
     }
-
-    fn entry(&self, alloc: Global, ends: (Value, Value), _: Value) -> Result<Value, AllocError> {
-        list_of_two(alloc, ends.0, ends.1)
-    }
-}
-
-// The parts of `[[start, end], value]`.
-fn map_parts<'a>(entry: &'a Value) -> Option<(&'a Value, &'a Value, &'a Value)>
-    ensures { MatchOption result ((start end value : Json) → map_entry entry.now start end value → ⊥) (λ parts. map_entry entry.now parts.0.now parts.1.now parts.2.now) }
-{
-    let (range, value) = two_of(entry)?;
-    let (start, end) = two_of(range)?;
-    Some((start, end, value))
 }
 
 // The items of a list of exactly two.

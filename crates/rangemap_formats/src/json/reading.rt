@@ -1,20 +1,22 @@
-//! Reading a container from the value of its JSON form.
+//! Reading a store from the value of its JSON form.
 ghost use Rattle.std.specs.Prelude.{◌≡◌, IfErr, IfOk, MatchOption, OnOk, option_map};
 ghost use Rattle.serde_json.specs.declared.value.Value.{Value as Json};
 ghost use Rattle.rangemap_core.specs.Clones.{KeysCloneFaithfully, ValuesCloneFaithfully};
 ghost use Rattle.rangemap_formats.specs.Json.{Breaks, EndsWith, Follows, IsEmptyEntry, IsEntryFault, IsRead, IsReading, IsRefusedForMemoryAlone, IsUnambiguous, Reader, RefusesToRead, list_of};
 ghost use Rattle.rangemap_core.specs.Ranges.{IsStorable};
+ghost use Rattle.rangemap_core.specs.engine.Intervals.{IsBetween};
 ghost use Rattle.rangemap_formats.specs.declared.json.Form.TheVariants.{Canonical as CanonicalWord};
 
 use super::{Form, Part, ReadError};
-use rangemap_core::container::Container;
-use rangemap_core::kind::{Interval, Kind};
+use rangemap_core::key_range::KeyRange;
+use rangemap_core::kind::{Kind, known_ends};
 use rangemap_core::std_ext::Touch;
+use rangemap_core::store::Store;
 use serde_json::Value;
 
 /// What reads the parts of an entry, with keys of type `K`, values of type `V` and faults of type
 /// `E`.
-pub trait ReadsParts<K, V, E> {
+pub(crate) trait ReadsParts<K, V, E> {
     /// What it may answer.
     ghost reader: { Self → Reader K V E };
 
@@ -39,26 +41,26 @@ pub trait ReadsParts<K, V, E> {
         ensures { (reader self.now).value part.now result };
 }
 
-/// Reads a container: inserts the pairs of the entries, in order. Every `from_value` is this call.
-pub fn read<M: Container, E, R: ReadsParts<M::Key, M::Value, E>>(
-    alloc: M::Alloc,
+// Reads a store: inserts the pairs of the entries, in order.
+pub(crate) fn read<S: Store + Drop, E, R: ReadsParts<<S::Range as KeyRange>::Key, S::Value, E>>(
+    alloc: S::Alloc,
     form: Form,
     value: &Value,
     reader: &R,
-) -> Result<M, ReadError<E>>
+) -> Result<S, ReadError<E>>
     requires ready { R.is_ready reader.now }
-    requires faithful_keys { KeysCloneFaithfully M.Key.is_clone M.Key.cmp }
-    requires faithful_values { ValuesCloneFaithfully M.Value.is_clone M.Value.eq }
-    ensures ok { IfOk result (λ all. IsReading M.Kind.kind (R.reader reader.now) M.Value.eq form value.now (M.pairs all)) }
-    ensures err { IfErr result (RefusesToRead M.Kind.kind (R.reader reader.now) M.Value.eq form value.now) }
-    ensures exact { IfErr result (IsRefusedForMemoryAlone M.Kind.kind (R.reader reader.now) M.Value.eq form value.now) }
+    requires faithful_keys { KeysCloneFaithfully S.Range.Key.is_clone S.Range.Key.cmp }
+    requires faithful_values { ValuesCloneFaithfully S.Value.is_clone S.Value.eq }
+    ensures ok { IfOk result (λ all. IsReading S.Kind.kind (R.reader reader.now) S.Value.eq form value.now (S.pairs all)) }
+    ensures err { IfErr result (RefusesToRead S.Kind.kind (R.reader reader.now) S.Value.eq form value.now) }
+    ensures exact { IfErr result (IsRefusedForMemoryAlone S.Kind.kind (R.reader reader.now) S.Value.eq form value.now) }
 {
     let Some(entries) = items(value) else {
         return Err(ReadError::NotAList);
     };
-    let mut all = M::empty(alloc);
+    let mut all = S::empty(alloc);
     for (at, entry) in entries.iter().enumerate() {
-        let found = read_entry::<M, E, R>(at, entry, reader)?;
+        let found = read_entry::<S, E, R>(at, entry, reader)?;
         let Some((range, value)) = found else {
             return Err(ReadError::EmptyRange { at });
         };
@@ -69,14 +71,14 @@ pub fn read<M: Container, E, R: ReadsParts<M::Key, M::Value, E>>(
 }
 
 // The pair of the entry at the place, unless its range is empty.
-fn read_entry<M: Container, E, R: ReadsParts<M::Key, M::Value, E>>(
+fn read_entry<S: Store, E, R: ReadsParts<<S::Range as KeyRange>::Key, S::Value, E>>(
     at: usize,
     entry: &Value,
     reader: &R,
-) -> Result<Option<(M::Range, M::Value)>, ReadError<E>>
+) -> Result<Option<(S::Range, S::Value)>, ReadError<E>>
     requires { R.is_ready reader.now }
-    ensures ok { IfOk result (λ found. MatchOption found (IsEmptyEntry M.Kind.kind (R.reader reader.now) entry.now) (λ pair. IsStorable M.Kind.kind pair.0 × IsRead M.Kind.kind (R.reader reader.now) pair entry.now)) }
-    ensures err { IfErr result (IsEntryFault M.Kind.kind (R.reader reader.now) at entry.now) }
+    ensures ok { IfOk result (λ found. MatchOption found (IsEmptyEntry S.Kind.kind (R.reader reader.now) entry.now) (λ pair. IsStorable S.Kind.kind pair.0 × IsRead S.Kind.kind (R.reader reader.now) pair entry.now)) }
+    ensures err { IfErr result (IsEntryFault S.Kind.kind (R.reader reader.now) at entry.now) }
 {
     let Some((start, end, value)) = reader.parts(entry) else {
         return Err(ReadError::BadEntry { at });
@@ -99,30 +101,39 @@ fn read_entry<M: Container, E, R: ReadsParts<M::Key, M::Value, E>>(
         Ok(value) => value,
         Err(fault) => return Err(ReadError::BadValue { at, fault }),
     };
-    match M::Kind::between(start, end) {
+    match between::<S::Kind, S::Range>(start, end) {
         Some(range) => Ok(Some((range, value))),
         None => Ok(None),
     }
 }
 
+// The range from one key to another, where it is not empty.
+fn between<Q: Kind<R>, R: KeyRange>(start: R::Key, end: R::Key) -> Option<R>
+    ensures { IsBetween Q.kind R.has_end start end result }
+{
+    let range = R::between(start, end)?;
+    known_ends::<Q, R>(&range);
+    Some(range)
+}
+
 // Whether the form lets the pair stand behind the last that is stored.
-fn check_form<M: Container, E>(
-    all: &M,
+fn check_form<S: Store, E>(
+    all: &S,
     form: Form,
     at: usize,
-    range: &M::Range,
-    value: &M::Value,
+    range: &S::Range,
+    value: &S::Value,
 ) -> Result<(), ReadError<E>>
-    ensures ok { OnOk result (form ≡ CanonicalWord → (last : _) → EndsWith (M.pairs all.now) last → Follows M.Kind.kind M.Value.eq last (range.now, value.now)) }
-    ensures err { IfErr result (λ error. (form ≡ CanonicalWord) × ((last : _) × EndsWith (M.pairs all.now) last × Breaks M.Kind.kind M.Value.eq at last (range.now, value.now) error)) }
+    ensures ok { OnOk result (form ≡ CanonicalWord → (last : _) → EndsWith (S.pairs all.now) last → Follows S.Kind.kind S.Value.eq last (range.now, value.now)) }
+    ensures err { IfErr result (λ error. (form ≡ CanonicalWord) × ((last : _) × EndsWith (S.pairs all.now) last × Breaks S.Kind.kind S.Value.eq at last (range.now, value.now) error)) }
 {
     let Form::Canonical = form else {
         return Ok(());
     };
-    let Some((last_range, last_value)) = all.last_range_value() else {
+    let Some((last_range, last_value)) = all.last() else {
         return Ok(());
     };
-    match M::Kind::touch_test(last_range, range) {
+    match S::Kind::touch_test(last_range, range) {
         Touch::Apart => Ok(()),
         Touch::Touching if *last_value != *value => Ok(()),
         Touch::Touching => Err(ReadError::Uncoalesced { at }),

@@ -1,15 +1,22 @@
-//! Writing the pairs of a container as the value of its JSON form.
-ghost use Rattle.std.specs.Prelude.{IfErr, IfOk};
+//! Writing the pairs of a store as the value of its JSON form.
+ghost use Rattle.std.specs.Prelude.{Err as ErrWord, IfErr, IfOk, Ok as OkWord};
+ghost use Rattle.serde_json.specs.declared.value.Value.{Value as Json};
 ghost use Rattle.rangemap_formats.specs.Json.{CallerOr, IsForm, IsRefusedIn, IsWritten, RefusesToWrite, Writer};
 
 use super::WriteError;
-use rangemap_core::kind::Interval;
+use rangemap_core::key_range::KeyRange;
+use rangemap_core::kind::Kind;
+use rangemap_core::pair_iter::PairIter;
+use rangemap_core::reader::Reader;
+use rangemap_core::store::Store;
 use serde_json::Value;
-use std::alloc::{AllocError, Global};
+use std::alloc::Global;
+use std::iter::Iterator;
+use std::marker::PhantomData;
 
 /// What writes the parts of an entry, with keys of type `K`, values of type `V` and faults of type
 /// `E`.
-pub trait WritesParts<K, V, E> {
+pub(crate) trait WritesParts<K, V, E>: Drop {
     /// What it may answer.
     ghost writer: { Self → Writer K V E };
 
@@ -21,55 +28,78 @@ pub trait WritesParts<K, V, E> {
         requires { is_ready self.now }
         ensures { (writer self.now).key key.now result };
 
-    /// Writes a value.
-    fn value(&self, value: &V) -> Result<Value, E>
+    /// Writes a value, where there is one to write, and lays it out as an entry behind the ends of
+    /// its range, the first before the last.
+    fn entry(&self, ends: (Value, Value), value: &V) -> Result<Value, WriteError<E>>
         requires { is_ready self.now }
-        ensures { (writer self.now).value value.now result };
-
-    /// Lays the ends of a range, the first before the last, and its value out as an entry.
-    fn entry(&self, alloc: Global, ends: (Value, Value), value: Value) -> Result<Value, AllocError>
-        ensures { IfOk result (λ entry. (writer self.now).shape entry ends.0 ends.1 value) };
+        ensures ok { IfOk result (λ entry. (part : Json) × (writer self.now).value value.now (OkWord part) × (writer self.now).shape entry ends.0 ends.1 part) }
+        ensures err { IfErr result (CallerOr (λ fault. (writer self.now).value value.now (ErrWord fault))) };
 }
 
-/// Writes the list of the entries of the pairs, in order. Every `to_value` is this call.
-pub fn write<Q: Interval<K, R>, K: Ord + Clone, R, V, E, W: WritesParts<K, V, E>>(
+// Writes the list of the entries of the pairs, in order.
+pub(crate) fn write<S: Store, E, W: WritesParts<<S::Range as KeyRange>::Key, S::Value, E>>(
     alloc: Global,
-    pairs: &[(R, V)],
-    writer: &W,
+    stored: &S,
+    writer: W,
 ) -> Result<Value, WriteError<E>>
-    requires { W.is_ready writer.now }
-    ensures ok { IfOk result (IsForm Q.kind (W.writer writer.now) pairs.now) }
-    ensures err { IfErr result (RefusesToWrite Q.kind (W.writer writer.now) pairs.now) }
+    requires { W.is_ready writer }
+    ensures ok { IfOk result (IsForm S.Kind.kind (W.writer writer) (S.pairs stored.now)) }
+    ensures err { IfErr result (RefusesToWrite S.Kind.kind (W.writer writer) (S.pairs stored.now)) }
 {
-    let mut entries = Vec::new(alloc);
-    for pair in pairs {
-        let entry = write_entry::<Q, K, R, V, E, W>(alloc, pair, writer)?;
-        entries.push(entry)?;
+    stored.read::<Entries<S, E, W>>(&mut (alloc, writer))
+}
+
+// Makes the list of the entries of the pairs that it reads.
+struct Entries<S, E, W>(PhantomData<(S, E, W)>);
+
+impl<S: Store, E, W: WritesParts<<S::Range as KeyRange>::Key, S::Value, E>> Reader<
+    S::Range,
+    S::Value,
+> for Entries<S, E, W> {
+    ghost use Rattle.std.specs.Prelude.{IfErr, IfOk};
+    ghost use Rattle.rangemap_formats.specs.Json.{IsForm, RefusesToWrite};
+
+    type State = (Global, W);
+
+    type Answer = Result<Value, WriteError<E>>;
+
+    ghost may_read = { λ _ state. W.is_ready state.1 };
+
+    ghost reads = { λ pairs state result _. IfOk result (IsForm S.Kind.kind (W.writer state.1) pairs) × IfErr result (RefusesToWrite S.Kind.kind (W.writer state.1) pairs) };
+
+    fn read<I: PairIter<Range = S::Range, Value = S::Value>>(
+        pairs: I,
+        state: &mut (Global, W),
+    ) -> Result<Value, WriteError<E>> {
+        let mut entries = Vec::new(state.0);
+        let mut rest = pairs;
+        'pairs: while let Some(pair) = rest.next() {
+            let entry = write_entry::<S::Kind, I, E, W>(&pair, &state.1)?;
+            entries.push(entry)?;
+        }
+        Ok(Value::Array(entries))
     }
-    Ok(Value::Array(entries))
 }
 
 // The entry of the pair.
-fn write_entry<Q: Interval<K, R>, K: Ord + Clone, R, V, E, W: WritesParts<K, V, E>>(
-    alloc: Global,
-    pair: &(R, V),
-    writer: &W,
-) -> Result<Value, WriteError<E>>
+fn write_entry<
+    Q: Kind<I::Range>,
+    I: PairIter,
+    E,
+    W: WritesParts<<I::Range as KeyRange>::Key, I::Value, E>,
+>(pair: &I::Item, writer: &W) -> Result<Value, WriteError<E>>
     requires { W.is_ready writer.now }
-    ensures ok { IfOk result (IsWritten Q.kind (W.writer writer.now) pair.now) }
-    ensures err { IfErr result (CallerOr (IsRefusedIn Q.kind (W.writer writer.now) pair.now)) }
+    ensures ok { IfOk result (IsWritten Q.kind (W.writer writer.now) (I.shows pair.now)) }
+    ensures err { IfErr result (CallerOr (IsRefusedIn Q.kind (W.writer writer.now) (I.shows pair.now))) }
 {
-    let start = match writer.key(Q::start(&pair.0)) {
+    let range = I::range_of(pair);
+    let start = match writer.key(range.start()) {
         Ok(part) => part,
         Err(fault) => return Err(WriteError::Caller(fault)),
     };
-    let end = match writer.key(Q::end(&pair.0)) {
+    let end = match writer.key(range.end()) {
         Ok(part) => part,
         Err(fault) => return Err(WriteError::Caller(fault)),
     };
-    let value = match writer.value(&pair.1) {
-        Ok(part) => part,
-        Err(fault) => return Err(WriteError::Caller(fault)),
-    };
-    Ok(writer.entry(alloc, (start, end), value)?)
+    writer.entry((start, end), I::value_of(pair))
 }

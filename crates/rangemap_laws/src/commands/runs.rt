@@ -7,6 +7,7 @@ ghost use Rattle.rangemap_laws.specs.Runs.{CommandStep, IsAllowed, Ran};
 use super::answers::answer;
 use super::command::{Answer, Command};
 use rangemap_core::container::Container;
+use rangemap_core::key_range::KeyRange;
 use std::alloc::{AllocError, Allocator};
 
 /// What came of a command: its answer, or that it was refused.
@@ -17,8 +18,8 @@ pub type Outcome<R, V, A> = Result<Answer<R, V, A>, AllocError>;
 /// The contract, in `Ran`, says of each command what it answers, up to equality, and what it makes
 /// of the map's pairs, in words of the map's point function. A command that is refused changes
 /// nothing, and those after it are run; `Clear` and `Len` are never refused, nor is a `Remove` that
-/// meets nothing, or a `Get` or `GetKeyValue` of a key that no range has. What two maps answer that are equal, `laws::runs` says: it can't be seen what
-/// they are made of.
+/// meets nothing, or a `Get` or `GetKeyValue` of a key that no range has. What two maps answer that
+/// are equal, `laws::runs` says: it can't be seen what they are made of.
 ///
 /// # Requires
 ///
@@ -39,10 +40,10 @@ pub type Outcome<R, V, A> = Result<Answer<R, V, A>, AllocError>;
 pub fn run<M: Container, A: Allocator + Clone>(
     alloc: A,
     map: &mut M,
-    commands: Vec<Command<M::Key, M::Range, M::Value>, A>,
+    commands: Vec<Command<<M::Range as KeyRange>::Key, M::Range, M::Value>, A>,
 ) -> Result<Vec<Outcome<M::Range, M::Value, A>, A>, AllocError>
     requires allowed { AllByRecursion (IsAllowed M.Kind.kind) commands.items }
-    requires faithful_keys { KeysCloneFaithfully M.Key.is_clone M.Key.cmp }
+    requires faithful_keys { KeysCloneFaithfully M.Range.Key.is_clone M.Range.Key.cmp }
     requires faithful_values { ValuesCloneFaithfully M.Value.is_clone M.Value.eq }
     ensures ok { IfOk result (λ answers. Ran (CommandStep M.Kind.kind M.Value.eq) (M.pairs map.old) commands.items answers.items (M.pairs map.new)) }
     ensures err { OnErr result (M.pairs map.new ≡ M.pairs map.old) }
@@ -56,13 +57,13 @@ pub fn run<M: Container, A: Allocator + Clone>(
 fn run_all<M: Container, A: Allocator + Clone>(
     alloc: &A,
     map: &mut M,
-    commands: Vec<Command<M::Key, M::Range, M::Value>, A>,
+    commands: Vec<Command<<M::Range as KeyRange>::Key, M::Range, M::Value>, A>,
     answers: &mut Vec<Outcome<M::Range, M::Value, A>, A>,
 )
     requires room { vec_len commands ≤ vec_capacity answers.old }
     requires no_answers { answers.old.items ≡ [] }
     requires allowed { AllByRecursion (IsAllowed M.Kind.kind) commands.items }
-    requires faithful_keys { KeysCloneFaithfully M.Key.is_clone M.Key.cmp }
+    requires faithful_keys { KeysCloneFaithfully M.Range.Key.is_clone M.Range.Key.cmp }
     requires faithful_values { ValuesCloneFaithfully M.Value.is_clone M.Value.eq }
     ensures { Ran (CommandStep M.Kind.kind M.Value.eq) (M.pairs map.old) commands.items answers.new.items (M.pairs map.new) }
 {

@@ -5,7 +5,7 @@ ghost use Rattle.rangemap_core.specs.Clones.{KeysCloneFaithfully, ValuesCloneFai
 ghost use Rattle.rangemap_core.specs.Ranges.{IsCanonOf, IsCanonical, IsStorable, erase, override, value_at};
 
 use rangemap_core::container::Container;
-use rangemap_core::kind::{Endpoint, Interval, Kind};
+use rangemap_core::kind::{Endpoint, Kind, known_ends};
 use std::alloc::AllocError;
 
 /// Inserts clones of a range and a value. The map is canonical before, which the laws need of what
@@ -16,7 +16,7 @@ pub fn insert_clone<M: Container>(
     value: &M::Value,
 ) -> Result<(), AllocError>
     requires non_empty { M.Kind.kind.IsNonEmpty range.now }
-    requires faithful_keys { KeysCloneFaithfully M.Key.is_clone M.Key.cmp }
+    requires faithful_keys { KeysCloneFaithfully M.Range.Key.is_clone M.Range.Key.cmp }
     requires faithful_values { ValuesCloneFaithfully M.Value.is_clone M.Value.eq }
     ensures before { IsCanonical M.Kind.kind M.Value.eq (M.pairs map.old) }
     ensures ok { OnOk result (IsCanonOf M.Kind.kind M.Value.eq (override M.Kind.kind (value_at M.Kind.kind (M.pairs map.old)) range.now value.now) (M.pairs map.new)) }
@@ -29,7 +29,7 @@ pub fn insert_clone<M: Container>(
 /// Removes a clone of a range.
 pub fn remove_clone<M: Container>(map: &mut M, range: &M::Range) -> Result<(), AllocError>
     requires non_empty { M.Kind.kind.IsNonEmpty range.now }
-    requires faithful_keys { KeysCloneFaithfully M.Key.is_clone M.Key.cmp }
+    requires faithful_keys { KeysCloneFaithfully M.Range.Key.is_clone M.Range.Key.cmp }
     requires faithful_values { ValuesCloneFaithfully M.Value.is_clone M.Value.eq }
     ensures before { IsCanonical M.Kind.kind M.Value.eq (M.pairs map.old) }
     ensures ok { OnOk result (IsCanonOf M.Kind.kind M.Value.eq (erase M.Kind.kind (value_at M.Kind.kind (M.pairs map.old)) range.now) (M.pairs map.new)) }
@@ -41,11 +41,10 @@ pub fn remove_clone<M: Container>(map: &mut M, range: &M::Range) -> Result<(), A
 // A range with the same ends: the part from its own start up to its own end.
 fn clone_range<M: Container>(range: &M::Range) -> Result<M::Range, AllocError>
     requires non_empty { M.Kind.kind.IsNonEmpty range.now }
-    requires faithful_keys { KeysCloneFaithfully M.Key.is_clone M.Key.cmp }
+    requires faithful_keys { KeysCloneFaithfully M.Range.Key.is_clone M.Range.Key.cmp }
     ensures stored { IsStorable M.Kind.kind range.now }
     ensures same { IfOk result (IsSame M.Kind.kind range.now) }
 {
-    M::Kind::known(M::Kind::start(range));
-    M::Kind::known(M::Kind::end(range));
+    known_ends::<M::Kind, M::Range>(range);
     M::Kind::part(Endpoint::Start(range), Endpoint::End(range))
 }

@@ -8,24 +8,37 @@ ghost use Rattle.rangemap_formats.specs.Json.{IsForm, IsReading, RefusesToRead, 
 ghost use Rattle.rangemap_formats.specs.Texts.{plain_map, plain_set};
 ghost use Rattle.rangemap_formats.specs.declared.json.Form.TheVariants.{Any as AnyWord, Canonical as CanonicalWord};
 ghost use Rattle.rangemap_formats.specs.declared.json.ReadError.TheVariants as read_error;
-ghost use Rattle.rangemap_operations.specs.Sets.{AreCommon, AreHulls};
+ghost use Rattle.rangemap_core.specs.Sets.{AreCommon, AreHulls};
 ghost use Rattle.rangemap_laws.specs.SmallLists.{bytes, digit, inclusive, iterated, one_pair, range, reads, three_pairs, writes};
 ghost use Rattle.serde_json.specs.declared.value.Value.{Value as Json};
 
-/// Which lists are canonical: `three_pairs` is (0..3, 1), (3..6, 2), (6..10, 1). A list is none
-/// whose ranges touch with equal values, overlap, stand in another order or are empty.
-pub fn canonical_rows()
+/// Which lists of half-open ranges are canonical, what overriding and erasing make of (0..10, 1), and
+/// how lists compare. `three_pairs` is (0..3, 1), (3..6, 2), (6..10, 1). A list is none whose ranges
+/// touch with equal values, overlap, stand in another order or are empty. Lists compare by starts,
+/// then ends, then values, and a beginning is less than the whole.
+pub fn list_rows()
     ensures apart { IsCanonical (half_open nat_cmp) nat_eq three_pairs }
     ensures touching { ¬ (IsCanonical (half_open nat_cmp) nat_eq ((range 0 5, 1) ∷ (range 5 7, 1) ∷ [])) }
     ensures overlapping { ¬ (IsCanonical (half_open nat_cmp) nat_eq ((range 0 5, 1) ∷ (range 4 7, 2) ∷ [])) }
     ensures unordered { ¬ (IsCanonical (half_open nat_cmp) nat_eq ((range 5 7, 1) ∷ (range 0 5, 2) ∷ [])) }
     ensures empty { ¬ (IsCanonical (half_open nat_cmp) nat_eq ((range 5 5, 1) ∷ [])) }
     ensures reversed { ¬ (IsCanonical (half_open nat_cmp) nat_eq ((range 7 5, 1) ∷ [])) }
+    ensures overridden { IsCanonOf (half_open nat_cmp) nat_eq (override (half_open nat_cmp) (value_at (half_open nat_cmp) one_pair) (range 3 6) 2) three_pairs }
+    ensures overridden_back { IsCanonOf (half_open nat_cmp) nat_eq (override (half_open nat_cmp) (value_at (half_open nat_cmp) three_pairs) (range 3 6) 1) one_pair }
+    ensures erased { IsCanonOf (half_open nat_cmp) nat_eq (erase (half_open nat_cmp) (value_at (half_open nat_cmp) one_pair) (range 3 6)) ((range 0 3, 1) ∷ (range 6 10, 1) ∷ []) }
+    ensures not_changed { ¬ (IsCanonOf (half_open nat_cmp) nat_eq (override (half_open nat_cmp) (value_at (half_open nat_cmp) one_pair) (range 3 6) 2) one_pair) }
+    ensures starts { pairs_cmp (half_open nat_cmp) nat_cmp ((range 0 9, 9) ∷ []) ((range 1 2, 1) ∷ []) ≡ LessWord }
+    ensures ends { pairs_cmp (half_open nat_cmp) nat_cmp ((range 0 5, 9) ∷ []) ((range 0 6, 1) ∷ []) ≡ LessWord }
+    ensures values { pairs_cmp (half_open nat_cmp) nat_cmp ((range 0 5, 1) ∷ []) ((range 0 5, 2) ∷ []) ≡ LessWord }
+    ensures beginning { pairs_cmp (half_open nat_cmp) nat_cmp [] one_pair ≡ LessWord }
+    ensures same { pairs_cmp (half_open nat_cmp) nat_cmp three_pairs three_pairs ≡ EqualWord }
+    ensures ranges { ranges_cmp (half_open nat_cmp) (range 0 5 ∷ range 7 8 ∷ []) (range 0 6 ∷ []) ≡ LessWord }
 {}
 
-/// Which ranges touch, which keys a range has, which pair covers a key, and which pairs a query
-/// meets: an empty query within a stored range meets it, and one at its end does not.
-pub fn range_rows()
+/// Which half-open ranges touch, which keys a range has, which pair covers a key, which pairs a query
+/// meets, and the gaps that a list leaves: an empty query within a stored range meets it, and one at
+/// its end does not; a reversed range has no gaps.
+pub fn query_rows()
     ensures touch { (half_open nat_cmp).Touches (range 0 3) (range 3 6) }
     ensures gap { ¬ ((half_open nat_cmp).Touches (range 0 3) (range 4 6)) }
     ensures first_point { covering (half_open nat_cmp) three_pairs 3 ≡ SomeWord (range 3 6, 2) }
@@ -35,25 +48,14 @@ pub fn range_rows()
     ensures met_by_empty { overlapped (half_open nat_cmp) one_pair (range 5 5) ≡ one_pair }
     ensures met_by_reversed { overlapped (half_open nat_cmp) one_pair (range 7 3) ≡ one_pair }
     ensures beside { overlapped (half_open nat_cmp) one_pair (range 10 12) ≡ [] }
-{}
-
-/// What overriding and erasing make of (0..10, 1), and the lists of these functions.
-pub fn function_rows()
-    ensures overridden { IsCanonOf (half_open nat_cmp) nat_eq (override (half_open nat_cmp) (value_at (half_open nat_cmp) one_pair) (range 3 6) 2) three_pairs }
-    ensures overridden_back { IsCanonOf (half_open nat_cmp) nat_eq (override (half_open nat_cmp) (value_at (half_open nat_cmp) three_pairs) (range 3 6) 1) one_pair }
-    ensures erased { IsCanonOf (half_open nat_cmp) nat_eq (erase (half_open nat_cmp) (value_at (half_open nat_cmp) one_pair) (range 3 6)) ((range 0 3, 1) ∷ (range 6 10, 1) ∷ []) }
-    ensures not_changed { ¬ (IsCanonOf (half_open nat_cmp) nat_eq (override (half_open nat_cmp) (value_at (half_open nat_cmp) one_pair) (range 3 6) 2) one_pair) }
-{}
-
-/// The gaps in 0..8 beside 1..3 and 5..7, and that there are none in a reversed range.
-pub fn gap_rows()
     ensures gaps { AreGaps (half_open nat_cmp) (range 1 3 ∷ range 5 7 ∷ []) (range 0 8) (range 0 1 ∷ range 3 5 ∷ range 7 8 ∷ []) }
     ensures touching { AreGaps (half_open nat_cmp) (range 0 2 ∷ range 2 4 ∷ []) (range 0 4) [] }
     ensures reversed { AreGaps (half_open nat_cmp) (range 1 3 ∷ range 5 7 ∷ []) (range 8 0) [] }
 {}
 
-/// Which closed ranges touch and are empty, over bytes: two touch where no key lies between, and
-/// one that was iterated to its end is empty. Which lists of them are canonical.
+/// What closed ranges do, over bytes: two touch where no key lies between, and one that was iterated
+/// to its end is empty. Which lists of them are canonical, which pairs a query meets, a reversed one
+/// too, and the gaps that they leave: up to the last key, and of a single key.
 pub fn closed_rows()
     ensures touch { bytes.Touches (inclusive 0 4) (inclusive 5 9) }
     ensures gap { ¬ (bytes.Touches (inclusive 0 4) (inclusive 6 9)) }
@@ -63,11 +65,6 @@ pub fn closed_rows()
     ensures touching { ¬ (IsCanonical bytes nat_eq ((inclusive 0 4, 1) ∷ (inclusive 5 9, 1) ∷ [])) }
     ensures apart { IsCanonical bytes nat_eq ((inclusive 0 4, 1) ∷ (inclusive 6 9, 1) ∷ []) }
     ensures past_the_keys { ¬ (IsCanonical bytes nat_eq ((inclusive 0 256, 1) ∷ [])) }
-{}
-
-/// Which pairs of closed ranges a query meets, a reversed one too, and the gaps that they leave: up
-/// to the last key, and of a single key.
-pub fn closed_query_rows()
     ensures last_point { covering {V = ℕ} bytes ((inclusive 0 9, 1) ∷ []) 9 ≡ SomeWord (inclusive 0 9, 1) }
     ensures met_by_reversed { overlapped {V = ℕ} bytes ((inclusive 3 8, 1) ∷ []) (inclusive 6 4) ≡ (inclusive 3 8, 1) ∷ [] }
     ensures beside { overlapped {V = ℕ} bytes ((inclusive 5 8, 1) ∷ []) (inclusive 6 4) ≡ [] }
@@ -77,38 +74,27 @@ pub fn closed_query_rows()
 {}
 
 /// Which ranges are the hulls of given ones, and which the parts that two lists have in common: hulls
-/// join what overlaps, and ranges that only touch stay apart.
-pub fn set_rows()
+/// join what overlaps, and ranges that only touch stay apart. The texts of small lists: of a map, of
+/// a set, of a set of closed ranges, and of nothing.
+pub fn set_and_text_rows()
     ensures hulls { AreHulls (half_open nat_cmp) (range 0 2 ∷ range 4 6 ∷ range 5 9 ∷ []) (range 0 2 ∷ range 4 9 ∷ []) }
     ensures touching { AreHulls (half_open nat_cmp) (range 0 5 ∷ range 5 10 ∷ []) (range 0 5 ∷ range 5 10 ∷ []) }
     ensures joined { ¬ (AreHulls (half_open nat_cmp) (range 0 5 ∷ range 5 10 ∷ []) (range 0 10 ∷ [])) }
     ensures left_out { ¬ (AreHulls (half_open nat_cmp) (range 0 2 ∷ range 4 6 ∷ []) (range 0 2 ∷ [])) }
     ensures common { AreCommon (half_open nat_cmp) (range 0 2 ∷ range 4 6 ∷ []) (range 5 9 ∷ []) (range 5 6 ∷ []) }
     ensures none_common { AreCommon (half_open nat_cmp) (range 0 5 ∷ []) (range 5 9 ∷ []) [] }
-{}
-
-/// How lists compare: by starts, then ends, then values, and a beginning is less than the whole.
-pub fn order_rows()
-    ensures starts { pairs_cmp (half_open nat_cmp) nat_cmp ((range 0 9, 9) ∷ []) ((range 1 2, 1) ∷ []) ≡ LessWord }
-    ensures ends { pairs_cmp (half_open nat_cmp) nat_cmp ((range 0 5, 9) ∷ []) ((range 0 6, 1) ∷ []) ≡ LessWord }
-    ensures values { pairs_cmp (half_open nat_cmp) nat_cmp ((range 0 5, 1) ∷ []) ((range 0 5, 2) ∷ []) ≡ LessWord }
-    ensures beginning { pairs_cmp (half_open nat_cmp) nat_cmp [] one_pair ≡ LessWord }
-    ensures same { pairs_cmp (half_open nat_cmp) nat_cmp three_pairs three_pairs ≡ EqualWord }
-    ensures ranges { ranges_cmp (half_open nat_cmp) (range 0 5 ∷ range 7 8 ∷ []) (range 0 6 ∷ []) ≡ LessWord }
-{}
-
-/// The texts of small lists: of a map, of a set, of a set of closed ranges, and of nothing.
-pub fn text_rows()
     ensures pairs { plain_map (half_open nat_cmp) (codes "..") digit digit ((range 0 3, 1) ∷ (range 3 9, 2) ∷ []) ≡ codes "{0..3: 1, 3..9: 2}" }
     ensures ranges { plain_set (half_open nat_cmp) (codes "..") digit (range 0 3 ∷ range 4 9 ∷ []) ≡ codes "{0..3, 4..9}" }
     ensures closed_ranges { plain_set bytes (codes "..=") digit (inclusive 0 4 ∷ inclusive 6 9 ∷ []) ≡ codes "{0..=4, 6..=9}" }
     ensures nothing { plain_set (half_open nat_cmp) (codes "..") digit [] ≡ codes "{}" }
 {}
 
-/// The JSON form of small lists, where `of` is the part that stands for a number: of a map the list
-/// of its entries `[[start, end], value]`, of a set that of its entries `[start, end]`, of nothing
-/// the empty list. What an entry lacks is not the form.
-pub fn json_form_rows()
+/// The JSON form of small lists, where `of` is the part that stands for a number, and what is read of
+/// lists of entries. The form of a map is the list of its entries `[[start, end], value]`, of a set
+/// that of its entries `[start, end]`, of nothing the empty list; what an entry lacks is not the form.
+/// In any form entries are inserted in order, and in the canonical form they may neither overlap nor
+/// be joined.
+pub fn json_rows()
     ensures pairs { (of : ℕ → Json) (v one two : Json)
         → list_of v ≡ SomeWord (one ∷ two ∷ [])
         → map_entry one (of 0) (of 3) (of 1)
@@ -121,11 +107,6 @@ pub fn json_form_rows()
         → IsForm bytes (set_writer (writes of)) ((inclusive 0 4, tt) ∷ (inclusive 6 9, tt) ∷ []) v }
     ensures nothing { (of : ℕ → Json) (v : Json) → list_of v ≡ SomeWord [] → IsForm (half_open nat_cmp) (set_writer (writes of)) [] v }
     ensures left_out { (of : ℕ → Json) (v : Json) → list_of v ≡ SomeWord [] → ¬ (IsForm (half_open nat_cmp) (map_writer (writes of) (writes of)) one_pair v) }
-{}
-
-/// What is read of small lists of entries, and which are refused: in any form entries are inserted in
-/// order, and in the canonical form they may neither overlap nor be joined.
-pub fn json_reading_rows()
     ensures inserted { (of : ℕ → Json) (v one two : Json)
         → list_of v ≡ SomeWord (one ∷ two ∷ [])
         → map_entry one (of 0) (of 10) (of 1)

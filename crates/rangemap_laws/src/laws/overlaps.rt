@@ -5,7 +5,7 @@ ghost use Rattle.rangemap_replay.specs.Histories.{IsUndefinedOn};
 ghost use Rattle.rangemap_core.specs.Ranges.{overlapped, value_at};
 
 use rangemap_core::container::Container;
-use rangemap_core::kind::Interval;
+use rangemap_core::kind::known_ends;
 
 /// Of a range that isn't empty, `overlaps` is true exactly where some key of it is covered, and
 /// `overlapping` gives nothing exactly where none is.
@@ -18,6 +18,5 @@ pub fn overlaps_exactly_where_covered<M: Container>(map: &M, range: &M::Range)
     ensures none { (overlapped M.Kind.kind (M.pairs map.now) range.now ≡ []) ↔ IsUndefinedOn M.Kind.kind (value_at M.Kind.kind (M.pairs map.now)) range.now }
 {
     map.known();
-    M::Kind::known(M::Kind::start(range));
-    M::Kind::known(M::Kind::end(range));
+    known_ends::<M::Kind, M::Range>(range);
 }

@@ -3,17 +3,12 @@
 //! Each function is told which operator its law is to be of. It makes the operators that the law
 //! speaks of, and answers the sets that they make, which are equal. A law holds where every operator
 //! in it succeeds; `Err(AllocError)` says that one was refused.
-ghost use Rattle.std.specs.Prelude.{◌≡◌, ◌++◌, IsTrue, IfOk, List};
-ghost use Rattle.std.specs.declared.ops.RangeInclusive.{RangeInclusive as RangeInclusiveOf};
+ghost use Rattle.std.specs.Prelude.{IsTrue, IfOk};
 ghost use Rattle.rangemap_core.specs.Clones.{KeysCloneFaithfully};
-ghost use Rattle.rangemap_core.specs.Ranges.{IsCanonOf, closed, same_pairs, value_at};
+ghost use Rattle.rangemap_core.specs.Ranges.{IsCanonOf, same_pairs, value_at};
 ghost use Rattle.rangemap_replay.specs.Joined.{joined, other_of};
-ghost use Rattle.rangemap_operations.specs.operations.Items.{intersection_items, union_items};
-ghost use Rattle.rangemap_operations.specs.operations.Places.{closed_places};
-ghost use Rattle.rangemap_operations.specs.Sets.{AreCommon, AreHulls, IsCanonicalSet};
 
-use rangemap_core::std_ext::StepFns;
-use rangemap_operations::combine::Combine;
+use rangemap_core::container::Combine;
 pub use rangemap_replay::operator::Operator;
 use std::alloc::AllocError;
 
@@ -22,7 +17,7 @@ pub type Sides<M> = Result<(M, M), AllocError>;
 
 /// `a | b` equals `b | a`, and `a & b` equals `b & a`.
 pub fn commutes<M: Combine>(operator: &Operator, first: &M, second: &M) -> Sides<M>
-    requires faithful_keys { KeysCloneFaithfully M.Key.is_clone M.Key.cmp }
+    requires faithful_keys { KeysCloneFaithfully M.Range.Key.is_clone M.Range.Key.cmp }
     ensures left { IfOk result (λ sets. IsCanonOf M.Kind.kind M.Value.eq (joined operator.now (value_at M.Kind.kind (M.pairs first.now)) (value_at M.Kind.kind (M.pairs second.now))) (M.pairs sets.0)) }
     ensures right { IfOk result (λ sets. IsCanonOf M.Kind.kind M.Value.eq (joined operator.now (value_at M.Kind.kind (M.pairs second.now)) (value_at M.Kind.kind (M.pairs first.now))) (M.pairs sets.1)) }
     ensures equal { IfOk result (λ sets. IsTrue (same_pairs M.Kind.kind M.Value.eq (M.pairs sets.0) (M.pairs sets.1))) }
@@ -34,7 +29,7 @@ pub fn commutes<M: Combine>(operator: &Operator, first: &M, second: &M) -> Sides
 
 /// `(a | b) | c` equals `a | (b | c)`, and `(a & b) & c` equals `a & (b & c)`.
 pub fn associates<M: Combine>(operator: &Operator, first: &M, second: &M, third: &M) -> Sides<M>
-    requires faithful_keys { KeysCloneFaithfully M.Key.is_clone M.Key.cmp }
+    requires faithful_keys { KeysCloneFaithfully M.Range.Key.is_clone M.Range.Key.cmp }
     ensures left { IfOk result (λ sets. IsCanonOf M.Kind.kind M.Value.eq (joined operator.now (joined operator.now (value_at M.Kind.kind (M.pairs first.now)) (value_at M.Kind.kind (M.pairs second.now))) (value_at M.Kind.kind (M.pairs third.now))) (M.pairs sets.0)) }
     ensures right { IfOk result (λ sets. IsCanonOf M.Kind.kind M.Value.eq (joined operator.now (value_at M.Kind.kind (M.pairs first.now)) (joined operator.now (value_at M.Kind.kind (M.pairs second.now)) (value_at M.Kind.kind (M.pairs third.now)))) (M.pairs sets.1)) }
     ensures equal { IfOk result (λ sets. IsTrue (same_pairs M.Kind.kind M.Value.eq (M.pairs sets.0) (M.pairs sets.1))) }
@@ -50,7 +45,7 @@ pub fn associates<M: Combine>(operator: &Operator, first: &M, second: &M, third:
 
 /// `a | a` equals `a`, and so does `a & a`.
 pub fn is_idempotent<M: Combine>(operator: &Operator, first: &M) -> Result<M, AllocError>
-    requires faithful_keys { KeysCloneFaithfully M.Key.is_clone M.Key.cmp }
+    requires faithful_keys { KeysCloneFaithfully M.Range.Key.is_clone M.Range.Key.cmp }
     ensures made { IfOk result (λ set. IsCanonOf M.Kind.kind M.Value.eq (joined operator.now (value_at M.Kind.kind (M.pairs first.now)) (value_at M.Kind.kind (M.pairs first.now))) (M.pairs set)) }
     ensures equal { IfOk result (λ set. IsTrue (same_pairs M.Kind.kind M.Value.eq (M.pairs set) (M.pairs first.now))) }
 {
@@ -61,7 +56,7 @@ pub fn is_idempotent<M: Combine>(operator: &Operator, first: &M) -> Result<M, Al
 
 /// `a | (a & b)` equals `a`, and so does `a & (a | b)`. The operator is the outer one.
 pub fn absorbs<M: Combine>(operator: &Operator, first: &M, second: &M) -> Result<M, AllocError>
-    requires faithful_keys { KeysCloneFaithfully M.Key.is_clone M.Key.cmp }
+    requires faithful_keys { KeysCloneFaithfully M.Range.Key.is_clone M.Range.Key.cmp }
     ensures made { IfOk result (λ set. IsCanonOf M.Kind.kind M.Value.eq (joined operator.now (value_at M.Kind.kind (M.pairs first.now)) (joined (other_of operator.now) (value_at M.Kind.kind (M.pairs first.now)) (value_at M.Kind.kind (M.pairs second.now)))) (M.pairs set)) }
     ensures equal { IfOk result (λ set. IsTrue (same_pairs M.Kind.kind M.Value.eq (M.pairs set) (M.pairs first.now))) }
 {
@@ -74,7 +69,7 @@ pub fn absorbs<M: Combine>(operator: &Operator, first: &M, second: &M) -> Result
 /// `a | (b & c)` equals `(a | b) & (a | c)`, and `a & (b | c)` equals `(a & b) | (a & c)`. The operator
 /// is the outer one of the left side.
 pub fn distributes<M: Combine>(operator: &Operator, first: &M, second: &M, third: &M) -> Sides<M>
-    requires faithful_keys { KeysCloneFaithfully M.Key.is_clone M.Key.cmp }
+    requires faithful_keys { KeysCloneFaithfully M.Range.Key.is_clone M.Range.Key.cmp }
     ensures left { IfOk result (λ sets. IsCanonOf M.Kind.kind M.Value.eq (joined operator.now (value_at M.Kind.kind (M.pairs first.now)) (joined (other_of operator.now) (value_at M.Kind.kind (M.pairs second.now)) (value_at M.Kind.kind (M.pairs third.now)))) (M.pairs sets.0)) }
     ensures right { IfOk result (λ sets. IsCanonOf M.Kind.kind M.Value.eq (joined (other_of operator.now) (joined operator.now (value_at M.Kind.kind (M.pairs first.now)) (value_at M.Kind.kind (M.pairs second.now))) (joined operator.now (value_at M.Kind.kind (M.pairs first.now)) (value_at M.Kind.kind (M.pairs third.now)))) (M.pairs sets.1)) }
     ensures equal { IfOk result (λ sets. IsTrue (same_pairs M.Kind.kind M.Value.eq (M.pairs sets.0) (M.pairs sets.1))) }
@@ -88,17 +83,3 @@ pub fn distributes<M: Combine>(operator: &Operator, first: &M, second: &M, third
     let right = other.join(&near, &far)?;
     Ok((left, right))
 }
-
-/// Of closed ranges, whichever steps say what a key is: the items of a union of two canonical lists
-/// are the hulls of both, and those of an intersection are the canonical list of the common points.
-/// `Union::new` and `Intersection::new` say which items these are.
-pub fn closed_operations<T: Ord, StepFnsT: StepFns<T>>()
-    ensures hulls { (left right : List (RangeInclusiveOf T))
-        → IsCanonicalSet (closed StepFnsT.is_key T.cmp) left
-        → IsCanonicalSet (closed StepFnsT.is_key T.cmp) right
-        → AreHulls (closed StepFnsT.is_key T.cmp) (left ++ right) (union_items (closed_places T.cmp) left right) }
-    ensures common { (left right : List (RangeInclusiveOf T))
-        → IsCanonicalSet (closed StepFnsT.is_key T.cmp) left
-        → IsCanonicalSet (closed StepFnsT.is_key T.cmp) right
-        → AreCommon (closed StepFnsT.is_key T.cmp) left right (intersection_items (closed_places T.cmp) left right) }
-{}

@@ -4,11 +4,12 @@ ghost use Rattle.rangemap_core.specs.Clones.{KeysCloneFaithfully, ValuesCloneFai
 ghost use Rattle.rangemap_core.specs.Ranges.{IsCanonOf, erase, overlapped, override, value_at};
 
 use super::Map;
-use crate::kinds::Stored;
-use rangemap_core::entries::changes;
-use std::alloc::{AllocError, Allocator};
+use rangemap_core::key_range::KeyRange;
+use rangemap_core::kind::Kind;
+use rangemap_core::store::Store;
+use std::alloc::AllocError;
 
-impl<Q: Stored<K, R>, K: Ord + Clone, R: Drop, V: Eq + Clone, A: Allocator> Map<Q, K, R, V, A> {
+impl<S: Store> Map<S> {
     /// Gives every key of `range` the `value`, whatever it had before.
     ///
     /// What stays of stored ranges to the left and right of it keeps its value. Stored ranges that
@@ -33,17 +34,17 @@ impl<Q: Stored<K, R>, K: Ord + Clone, R: Drop, V: Eq + Clone, A: Allocator> Map<
     /// map.insert(3..6, 'b')?; // (0..3, 'a'), (3..6, 'b'), (6..10, 'a')
     /// map.insert(3..6, 'a')?; // (0..10, 'a')
     /// ```
-    pub fn insert(&mut self, range: R, value: V) -> Result<(), AllocError>
-        requires non_empty { Q.has_key range }
-        requires not_exhausted { Q.is_fresh range }
-        requires faithful_keys { KeysCloneFaithfully K.is_clone K.cmp }
-        requires faithful_values { ValuesCloneFaithfully V.is_clone V.eq }
-        ensures ok { OnOk result (IsCanonOf Q.kind V.eq (override Q.kind (value_at Q.kind self.old) range value) self.new) }
+    pub fn insert(&mut self, range: S::Range, value: S::Value) -> Result<(), AllocError>
+        requires non_empty { S.Range.has_key range }
+        requires not_exhausted { S.Range.is_fresh range }
+        requires faithful_keys { KeysCloneFaithfully S.Range.Key.is_clone S.Range.Key.cmp }
+        requires faithful_values { ValuesCloneFaithfully S.Value.is_clone S.Value.eq }
+        ensures ok { OnOk result (IsCanonOf S.Kind.kind S.Value.eq (override S.Kind.kind (value_at S.Kind.kind self.old) range value) self.new) }
         ensures err { OnErr result (self.new ≡ self.old) }
         ensures growth { OnOk result (length self.new ≤ length self.old + 2) }
-        ensures growth_where_all_are_equal { OnOk result (((v w : V) → V.eq v w ≡ true) → length self.new ≤ length self.old + 1) }
+        ensures growth_where_all_are_equal { OnOk result (((v w : S.Value) → S.Value.eq v w ≡ true) → length self.new ≤ length self.old + 1) }
     {
-        changes::insert::<Q, K, R, V, A>(&mut self.pairs, range, value)
+        self.stored.insert(range, value)
     }
 
     /// Takes every key of `range` out.
@@ -66,23 +67,23 @@ impl<Q: Stored<K, R>, K: Ord + Clone, R: Drop, V: Eq + Clone, A: Allocator> Map<
     /// map.insert(0..10, 'a')?;
     /// map.remove(3..6)?; // (0..3, 'a'), (6..10, 'a')
     /// ```
-    pub fn remove(&mut self, range: R) -> Result<(), AllocError>
-        requires non_empty { Q.has_key range }
-        requires not_exhausted { Q.is_fresh range }
-        requires faithful_keys { KeysCloneFaithfully K.is_clone K.cmp }
-        requires faithful_values { ValuesCloneFaithfully V.is_clone V.eq }
-        ensures ok { OnOk result (IsCanonOf Q.kind V.eq (erase Q.kind (value_at Q.kind self.old) range) self.new) }
+    pub fn remove(&mut self, range: S::Range) -> Result<(), AllocError>
+        requires non_empty { S.Range.has_key range }
+        requires not_exhausted { S.Range.is_fresh range }
+        requires faithful_keys { KeysCloneFaithfully S.Range.Key.is_clone S.Range.Key.cmp }
+        requires faithful_values { ValuesCloneFaithfully S.Value.is_clone S.Value.eq }
+        ensures ok { OnOk result (IsCanonOf S.Kind.kind S.Value.eq (erase S.Kind.kind (value_at S.Kind.kind self.old) range) self.new) }
         ensures err { OnErr result (self.new ≡ self.old) }
         ensures growth { OnOk result (length self.new ≤ length self.old + 1) }
-        ensures meets_nothing { overlapped Q.kind self.old range ≡ [] → IsOk result × (self.new ≡ self.old) }
+        ensures meets_nothing { overlapped S.Kind.kind self.old range ≡ [] → IsOk result × (self.new ≡ self.old) }
     {
-        changes::remove::<Q, K, R, V, A>(&mut self.pairs, range)
+        self.stored.remove(range)
     }
 
     /// Takes every key out. The memory is kept for later inserts.
     pub fn clear(&mut self)
         ensures { self.new ≡ [] }
     {
-        self.pairs.clear();
+        self.stored.clear();
     }
 }

@@ -6,14 +6,17 @@ ghost use Rattle.rangemap_core.specs.NonEmptyPairs.{GivesNonEmpty};
 ghost use Rattle.rangemap_core.specs.Ranges.{AreNonEmpty, IsCanonOf, Overrides, nothing, override_all, same_pairs, value_at};
 
 use super::Map;
-use crate::kinds::{OwnSteps, Stored};
-use rangemap_core::entries::clones::clone_pair;
-use rangemap_core::into_iter::IntoIter;
-use std::alloc::{AllocError, Allocator};
+use rangemap_core::key_range::KeyRange;
+use rangemap_core::kind::{Kind, OwnSteps};
+use rangemap_core::store::{HandsOver, Lends, Store};
+use std::alloc::AllocError;
 use std::iter::IntoIterator;
 use std::marker::PhantomData;
 
-impl<Q: Stored<K, R>, K: Ord + Clone, R: Drop, V: Eq + Clone, A: Allocator> Map<Q, K, R, V, A> {
+impl<S: Store> Map<S>
+where
+    S::Alloc: Clone,
+{
     /// Returns an equal map, made of clones, in memory of a clone of this one's allocator.
     ///
     /// For each stored range it clones two keys and a value.
@@ -26,26 +29,23 @@ impl<Q: Stored<K, R>, K: Ord + Clone, R: Drop, V: Eq + Clone, A: Allocator> Map<
     ///
     /// The memory of the list, or a clone of the allocator, of a key or of a value, was refused.
     pub fn clone(&self) -> Result<Self, AllocError>
-    where
-        A: Clone,
-        requires faithful_keys { KeysCloneFaithfully K.is_clone K.cmp }
-        requires faithful_values { ValuesCloneFaithfully V.is_clone V.eq }
-        ensures same { IfOk result (λ copy. same_pairs Q.kind V.eq self.now copy ≡ true) }
-        ensures canon { IfOk result (λ copy. IsCanonOf Q.kind V.eq (value_at Q.kind self.now) copy) }
+        requires faithful_keys { KeysCloneFaithfully S.Range.Key.is_clone S.Range.Key.cmp }
+        requires faithful_values { ValuesCloneFaithfully S.Value.is_clone S.Value.eq }
+        ensures same { IfOk result (λ copy. same_pairs S.Kind.kind S.Value.eq self.now copy ≡ true) }
+        ensures canon { IfOk result (λ copy. IsCanonOf S.Kind.kind S.Value.eq (value_at S.Kind.kind self.now) copy) }
     {
-        let alloc = self.pairs.allocator().clone()?;
-        let mut pairs = Vec::with_capacity(alloc, self.pairs.len())?;
-        for pair in &self.pairs {
-            pairs.push_reserved(clone_pair::<Q, K, R, V>(&pair.0, &pair.1)?);
-        }
+        let alloc = self.stored.allocator().clone()?;
         Ok(Map {
-            pairs,
-            kind: PhantomData,
+            stored: self.stored.copy(alloc)?,
+            lives: PhantomData,
         })
     }
 }
 
-impl<Q: OwnSteps<K, R>, K: Ord + Clone, R: Drop, V: Eq + Clone, A: Allocator> Map<Q, K, R, V, A> {
+impl<S: Store> Map<S>
+where
+    S::Kind: OwnSteps<S::Range>,
+{
     /// Inserts the items of `iter`, in the order in which they come, each as `insert` does.
     ///
     /// Items that come in order, behind all that is stored, move nothing. Where many come in
@@ -74,20 +74,28 @@ impl<Q: OwnSteps<K, R>, K: Ord + Clone, R: Drop, V: Eq + Clone, A: Allocator> Ma
     ///
     /// An insert was refused, as there. The items before that one are inserted and stay; it and
     /// those after it are dropped.
-    pub fn extend<I: IntoIterator<Item = (R, V)>>(&mut self, iter: I) -> Result<(), AllocError>
+    pub fn extend<I: IntoIterator<Item = (S::Range, S::Value)>>(
+        &mut self,
+        iter: I,
+    ) -> Result<(), AllocError>
         requires ends { IsFiniteIterable I.into_iter_gives I.IntoIter.can_next I.IntoIter.remaining iter }
-        requires non_empty { (it : I.IntoIter) → I.into_iter_gives iter it → GivesNonEmpty Q.kind I.IntoIter.next_gives it }
-        requires faithful_keys { KeysCloneFaithfully K.is_clone K.cmp }
-        requires faithful_values { ValuesCloneFaithfully V.is_clone V.eq }
-        ensures { ExtendsWithItems I.into_iter_gives I.IntoIter.next_gives (Overrides Q.kind V.eq) iter self.old self.new result }
+        requires non_empty { (it : I.IntoIter) → I.into_iter_gives iter it → GivesNonEmpty S.Kind.kind I.IntoIter.next_gives it }
+        requires faithful_keys { KeysCloneFaithfully S.Range.Key.is_clone S.Range.Key.cmp }
+        requires faithful_values { ValuesCloneFaithfully S.Value.is_clone S.Value.eq }
+        ensures { ExtendsWithItems I.into_iter_gives I.IntoIter.next_gives (Overrides S.Kind.kind S.Value.eq) iter self.old self.new result }
     {
-        let _ = self.iter();
+        self.known();
         for (range, value) in iter {
             self.insert(range, value)?;
         }
         Ok(())
     }
+}
 
+impl<S: Store + Drop> Map<S>
+where
+    S::Kind: OwnSteps<S::Range>,
+{
     /// Returns the map of the items of `iter`, inserted in the order in which they come, in memory
     /// of `alloc`.
     ///
@@ -98,14 +106,17 @@ impl<Q: OwnSteps<K, R>, K: Ord + Clone, R: Drop, V: Eq + Clone, A: Allocator> Ma
     /// # Errors
     ///
     /// An insert was refused; nothing is made then.
-    pub fn from_iter<I: IntoIterator<Item = (R, V)>>(alloc: A, iter: I) -> Result<Self, AllocError>
+    pub fn from_iter<I: IntoIterator<Item = (S::Range, S::Value)>>(
+        alloc: S::Alloc,
+        iter: I,
+    ) -> Result<Self, AllocError>
         requires ends { IsFiniteIterable I.into_iter_gives I.IntoIter.can_next I.IntoIter.remaining iter }
-        requires non_empty { (it : I.IntoIter) → I.into_iter_gives iter it → GivesNonEmpty Q.kind I.IntoIter.next_gives it }
-        requires faithful_keys { KeysCloneFaithfully K.is_clone K.cmp }
-        requires faithful_values { ValuesCloneFaithfully V.is_clone V.eq }
-        ensures { IfOk result (λ all. (it : I.IntoIter) × (pairs : List _) × I.into_iter_gives iter it × Drains I.IntoIter.next_gives it pairs × IsCanonOf Q.kind V.eq (override_all Q.kind nothing pairs) all) }
+        requires non_empty { (it : I.IntoIter) → I.into_iter_gives iter it → GivesNonEmpty S.Kind.kind I.IntoIter.next_gives it }
+        requires faithful_keys { KeysCloneFaithfully S.Range.Key.is_clone S.Range.Key.cmp }
+        requires faithful_values { ValuesCloneFaithfully S.Value.is_clone S.Value.eq }
+        ensures { IfOk result (λ all. (it : I.IntoIter) × (pairs : List _) × I.into_iter_gives iter it × Drains I.IntoIter.next_gives it pairs × IsCanonOf S.Kind.kind S.Value.eq (override_all S.Kind.kind nothing pairs) all) }
     {
-        let mut all = Map::empty(alloc);
+        let mut all = Map::new(alloc);
         all.extend(iter)?;
         Ok(all)
     }
@@ -127,34 +138,59 @@ impl<Q: OwnSteps<K, R>, K: Ord + Clone, R: Drop, V: Eq + Clone, A: Allocator> Ma
     /// let map = RangeMap::from(alloc, [(0..10, 'a'), (3..6, 'b')])?;
     /// // (0..3, 'a'), (3..6, 'b'), (6..10, 'a')
     /// ```
-    pub fn from<const N: usize>(alloc: A, value: [(R, V); N]) -> Result<Self, AllocError>
+    pub fn from<const N: usize>(
+        alloc: S::Alloc,
+        value: [(S::Range, S::Value); N],
+    ) -> Result<Self, AllocError>
     where
-        A: Clone,
-        requires non_empty { AreNonEmpty Q.kind value }
-        requires faithful_keys { KeysCloneFaithfully K.is_clone K.cmp }
-        requires faithful_values { ValuesCloneFaithfully V.is_clone V.eq }
-        ensures { IfOk result (λ all. IsCanonOf Q.kind V.eq (override_all Q.kind nothing value) all) }
+        S::Alloc: Clone,
+        requires non_empty { AreNonEmpty S.Kind.kind value }
+        requires faithful_keys { KeysCloneFaithfully S.Range.Key.is_clone S.Range.Key.cmp }
+        requires faithful_values { ValuesCloneFaithfully S.Value.is_clone S.Value.eq }
+        ensures { IfOk result (λ all. IsCanonOf S.Kind.kind S.Value.eq (override_all S.Kind.kind nothing value) all) }
     {
         let pairs = Vec::from_array(alloc.clone()?, value)?;
         Map::from_iter(alloc, pairs)
     }
 }
 
-impl<Q: OwnSteps<K, R>, K: Ord + Clone, R: Drop, V: Eq + Clone, A: Allocator> IntoIterator
-    for Map<Q, K, R, V, A> {
+impl<S: HandsOver> IntoIterator for Map<S>
+where
+    S::Kind: OwnSteps<S::Range>,
+{
     ghost use Rattle.std.specs.Prelude.{◌≡◌};
     ghost use Rattle.rangemap_core.specs.Ranges.{IsCanonical};
 
-    type Item = (R, V);
+    type Item = (S::Range, S::Value);
 
-    type IntoIter = IntoIter<R, V, A>;
+    type IntoIter = S::IntoIter;
 
-    ghost into_iter_gives = { λ map it. (it ≡ map) × IsCanonical Q.kind V.eq map };
+    ghost into_iter_gives = { λ map it. (S.owned it ≡ map) × IsCanonical S.Kind.kind S.Value.eq map };
 
     /// Returns the stored pairs, in order, from both ends. Those that are not taken are dropped
     /// with it.
-    fn into_iter(self) -> IntoIter<R, V, A> {
-        let Map { pairs, kind: _ } = self;
-        IntoIter::over(pairs)
+    fn into_iter(self) -> S::IntoIter {
+        self.stored.into_pairs()
+    }
+}
+
+impl<'a, S: Lends<'a>> IntoIterator for &'a Map<S>
+where
+    S::Range: 'a,
+    S::Value: 'a,
+{
+    ghost use Rattle.std.specs.Prelude.{◌≡◌};
+    ghost use Rattle.rangemap_core.specs.Ranges.{IsCanonical};
+
+    type Item = (&'a S::Range, &'a S::Value);
+
+    type IntoIter = S::Iter;
+
+    ghost into_iter_gives = { λ map it. (S.Iter.left it ≡ map.now) × IsCanonical S.Kind.kind S.Value.eq map.now };
+
+    /// Returns the stored pairs, in order, from both ends.
+    fn into_iter(self) -> S::Iter {
+        self.stored.known();
+        self.stored.iter()
     }
 }

@@ -1,49 +1,55 @@
 //! The map as one of the library's containers: each method but `known` and the appends is the map's
-//! own call.
+//! own call. The appends hand its store's pairs and gaps on.
+ghost use Rattle.std.specs.Prelude.{◌≡◌};
 
 use super::Map;
-use crate::kinds::{OwnSteps, Stored};
-use rangemap_core::container::{Collect, Container, TryClone, append_gaps, append_pairs};
-use rangemap_core::overlapping::overlapped;
+use rangemap_core::container::{Appending, Collect, Container};
+use rangemap_core::key_range::KeyRange;
+use rangemap_core::kind::OwnSteps;
+use rangemap_core::store::Store;
 use std::alloc::{AllocError, Allocator};
 use std::iter::IntoIterator;
 
-impl<Q: Stored<K, R>, K: Ord + Clone, R: Drop, V: Eq + Clone, A: Allocator> Container
-    for Map<Q, K, R, V, A> {
+impl<S: Store + Drop> Container for Map<S>
+where
+    S::Alloc: Clone,
+{
     ghost use Rattle.std.specs.Prelude.{refl};
 
-    type Key = K;
+    type Range = S::Range;
 
-    type Range = R;
+    type Value = S::Value;
 
-    type Value = V;
+    type Alloc = S::Alloc;
 
-    type Alloc = A;
-
-    type Kind = Q;
+    type Kind = S::Kind;
 
     ghost pairs = { λ map. map };
 
     ghost equal = { λ left right. refl };
 
     fn known(&self) {
-        let _ = self.iter();
+        self.known();
     }
 
-    fn empty(alloc: A) -> Self {
-        Map::empty(alloc)
+    fn new_with_step_fns(alloc: S::Alloc) -> Self {
+        Map::new_with_step_fns(alloc)
     }
 
-    fn insert(&mut self, range: R, value: V) -> Result<(), AllocError> {
+    fn insert(&mut self, range: S::Range, value: S::Value) -> Result<(), AllocError> {
         self.insert(range, value)
     }
 
-    fn remove(&mut self, range: R) -> Result<(), AllocError> {
+    fn remove(&mut self, range: S::Range) -> Result<(), AllocError> {
         self.remove(range)
     }
 
     fn clear(&mut self) {
         self.clear();
+    }
+
+    fn clone(&self) -> Result<Self, AllocError> {
+        self.clone()
     }
 
     fn len(&self) -> usize {
@@ -54,69 +60,77 @@ impl<Q: Stored<K, R>, K: Ord + Clone, R: Drop, V: Eq + Clone, A: Allocator> Cont
         self.is_empty()
     }
 
-    fn get(&self, key: &K) -> Option<&V> {
+    fn get(&self, key: &<S::Range as KeyRange>::Key) -> Option<&S::Value> {
         self.get(key)
     }
 
-    fn get_key_value(&self, key: &K) -> Option<(&R, &V)> {
+    fn get_key_value(&self, key: &<S::Range as KeyRange>::Key) -> Option<(&S::Range, &S::Value)> {
         self.get_key_value(key)
     }
 
-    fn contains_key(&self, key: &K) -> bool {
+    fn contains_key(&self, key: &<S::Range as KeyRange>::Key) -> bool {
         self.contains_key(key)
     }
 
-    fn first_range_value(&self) -> Option<(&R, &V)> {
+    fn first_range_value(&self) -> Option<(&S::Range, &S::Value)> {
         self.first_range_value()
     }
 
-    fn last_range_value(&self) -> Option<(&R, &V)> {
+    fn last_range_value(&self) -> Option<(&S::Range, &S::Value)> {
         self.last_range_value()
     }
 
-    fn overlaps(&self, range: &R) -> bool {
+    fn overlaps(&self, range: &S::Range) -> bool {
         self.overlaps(range)
     }
 
-    fn append_all<B: Allocator>(&self, out: &mut Vec<(R, V), B>) -> Result<(), AllocError> {
-        append_pairs::<Q, K, R, V, B>(self.pairs.as_slice(), out)
+    fn append_all<B: Allocator>(
+        &self,
+        out: &mut Vec<(S::Range, S::Value), B>,
+    ) -> Result<(), AllocError> {
+        self.known();
+        self.stored.read::<Appending<S::Kind, B>>(out)
     }
 
     fn append_overlapping<B: Allocator>(
         &self,
-        range: &R,
-        out: &mut Vec<(R, V), B>,
+        range: &S::Range,
+        out: &mut Vec<(S::Range, S::Value), B>,
     ) -> Result<(), AllocError> {
-        append_pairs::<Q, K, R, V, B>(overlapped::<Q, K, R, V>(self.pairs.as_slice(), range), out)
+        self.known();
+        self.stored
+            .read_overlapping::<Appending<S::Kind, B>>(range, out)
     }
 
     fn append_gaps<B: Allocator>(
         &self,
-        outer_range: &R,
-        out: &mut Vec<R, B>,
+        outer_range: &S::Range,
+        out: &mut Vec<S::Range, B>,
     ) -> Result<(), AllocError> {
-        append_gaps(self.gaps(outer_range), out)
+        self.stored.append_gaps(outer_range, out)
     }
 }
 
-impl<Q: Stored<K, R>, K: Ord + Clone, R: Drop, V: Eq + Clone, A: Allocator + Clone> TryClone
-    for Map<Q, K, R, V, A> {
-    fn clone(&self) -> Result<Self, AllocError> {
-        self.clone()
-    }
-}
-
-impl<Q: OwnSteps<K, R>, K: Ord + Clone, R: Drop, V: Eq + Clone, A: Allocator> Collect
-    for Map<Q, K, R, V, A> {
-    fn new(alloc: A) -> Self {
+impl<S: Store + Drop> Collect for Map<S>
+where
+    S::Alloc: Clone,
+    S::Kind: OwnSteps<S::Range>,
+{
+    fn new(alloc: S::Alloc) -> Self {
         Map::new(alloc)
     }
 
-    fn extend<I: IntoIterator<Item = (R, V)>>(&mut self, iter: I) -> Result<(), AllocError> {
+    fn extend<I: IntoIterator<Item = (S::Range, S::Value)>>(
+        &mut self,
+        iter: I,
+    ) -> Result<(), AllocError> {
         self.extend(iter)
     }
 
-    fn from_iter<I: IntoIterator<Item = (R, V)>>(alloc: A, iter: I) -> Result<Self, AllocError> {
+    fn from_iter<I: IntoIterator<Item = (S::Range, S::Value)>>(
+        alloc: S::Alloc,
+        iter: I,
+    ) -> Result<Self, AllocError> {
         Map::from_iter(alloc, iter)
     }
 }

@@ -5,13 +5,18 @@ ghost use Rattle.rangemap_core.specs.Clones.{KeysCloneFaithfully, ValuesCloneFai
 ghost use Rattle.rangemap_formats.specs.Json.{IsForm, IsReading, IsRefusedForMemoryAlone, RefusesToRead, RefusesToWrite, map_reader, map_writer};
 
 use super::Map;
-use crate::kinds::OwnSteps;
-use rangemap_formats::json::entries::{MapReader, MapWriter};
-use rangemap_formats::json::{Form, ReadError, WriteError, reading, writing};
+use rangemap_core::key_range::KeyRange;
+use rangemap_core::kind::OwnSteps;
+use rangemap_core::store::Store;
+use rangemap_formats::json::{Form, ReadError, WriteError, read_map, write_map};
 use serde_json::Value;
-use std::alloc::{Allocator, Global};
+use std::alloc::Global;
+use std::marker::PhantomData;
 
-impl<Q: OwnSteps<K, R>, K: Ord + Clone, R: Drop, V: Eq + Clone, A: Allocator> Map<Q, K, R, V, A> {
+impl<S: Store> Map<S>
+where
+    S::Kind: OwnSteps<S::Range>,
+{
     /// Returns the JSON form of the map: the list of `[[start, end], value]` of its pairs, in
     /// order, each part as the caller's functions write it, in memory of `alloc`.
     ///
@@ -29,24 +34,24 @@ impl<Q: OwnSteps<K, R>, K: Ord + Clone, R: Drop, V: Eq + Clone, A: Allocator> Ma
     /// let write = |number: &u32| Ok(Value::from(*number));
     /// let value = map.to_value(alloc, write, write)?; // [[[0,100],7],[[200,300],8]]
     /// ```
-    pub fn to_value<E, WK: Fn(&K) -> Result<Value, E>, WV: Fn(&V) -> Result<Value, E>>(
-        &self,
-        alloc: Global,
-        write_key: WK,
-        write_value: WV,
-    ) -> Result<Value, WriteError<E>>
+    pub fn to_value<
+        E,
+        WK: Fn(&<S::Range as KeyRange>::Key) -> Result<Value, E>,
+        WV: Fn(&S::Value) -> Result<Value, E>,
+    >(&self, alloc: Global, write_key: WK, write_value: WV) -> Result<Value, WriteError<E>>
         requires keys { WK.IsAlwaysCallable write_key }
         requires values { WV.IsAlwaysCallable write_value }
-        ensures ok { IfOk result (IsForm Q.kind (map_writer (FnReturnsAt WK.Fn write_key) (FnReturnsAt WV.Fn write_value)) self.now) }
-        ensures err { IfErr result (RefusesToWrite Q.kind (map_writer (FnReturnsAt WK.Fn write_key) (FnReturnsAt WV.Fn write_value)) self.now) }
+        ensures ok { IfOk result (IsForm S.Kind.kind (map_writer (FnReturnsAt WK.Fn write_key) (FnReturnsAt WV.Fn write_value)) self.now) }
+        ensures err { IfErr result (RefusesToWrite S.Kind.kind (map_writer (FnReturnsAt WK.Fn write_key) (FnReturnsAt WV.Fn write_value)) self.now) }
     {
-        let writer = MapWriter {
-            write_key,
-            write_value,
-        };
-        writing::write::<Q, K, R, V, E, MapWriter<WK, WV>>(alloc, &self.pairs, &writer)
+        write_map(alloc, &self.stored, write_key, write_value)
     }
+}
 
+impl<S: Store + Drop> Map<S>
+where
+    S::Kind: OwnSteps<S::Range>,
+{
     /// Returns the map that a value of the JSON form stands for: the pairs that the caller's
     /// functions read of its entries, inserted in order, in memory of `alloc`.
     ///
@@ -73,8 +78,12 @@ impl<Q: OwnSteps<K, R>, K: Ord + Clone, R: Drop, V: Eq + Clone, A: Allocator> Ma
     /// RangeMap::from_value(alloc, Form::Canonical, &value, read_number, read_text)
     /// // Err(ReadError::OutOfOrder { at: 1 })
     /// ```
-    pub fn from_value<E, RK: Fn(&Value) -> Result<K, E>, RV: Fn(&Value) -> Result<V, E>>(
-        alloc: A,
+    pub fn from_value<
+        E,
+        RK: Fn(&Value) -> Result<<S::Range as KeyRange>::Key, E>,
+        RV: Fn(&Value) -> Result<S::Value, E>,
+    >(
+        alloc: S::Alloc,
         form: Form,
         value: &Value,
         read_key: RK,
@@ -82,16 +91,16 @@ impl<Q: OwnSteps<K, R>, K: Ord + Clone, R: Drop, V: Eq + Clone, A: Allocator> Ma
     ) -> Result<Self, ReadError<E>>
         requires keys { RK.IsAlwaysCallable read_key }
         requires values { RV.IsAlwaysCallable read_value }
-        requires faithful_keys { KeysCloneFaithfully K.is_clone K.cmp }
-        requires faithful_values { ValuesCloneFaithfully V.is_clone V.eq }
-        ensures ok { IfOk result (IsReading Q.kind (map_reader (FnReturnsAt RK.Fn read_key) (FnReturnsAt RV.Fn read_value)) V.eq form value.now) }
-        ensures err { IfErr result (RefusesToRead Q.kind (map_reader (FnReturnsAt RK.Fn read_key) (FnReturnsAt RV.Fn read_value)) V.eq form value.now) }
-        ensures exact { IfErr result (IsRefusedForMemoryAlone Q.kind (map_reader (FnReturnsAt RK.Fn read_key) (FnReturnsAt RV.Fn read_value)) V.eq form value.now) }
+        requires faithful_keys { KeysCloneFaithfully S.Range.Key.is_clone S.Range.Key.cmp }
+        requires faithful_values { ValuesCloneFaithfully S.Value.is_clone S.Value.eq }
+        ensures ok { IfOk result (IsReading S.Kind.kind (map_reader (FnReturnsAt RK.Fn read_key) (FnReturnsAt RV.Fn read_value)) S.Value.eq form value.now) }
+        ensures err { IfErr result (RefusesToRead S.Kind.kind (map_reader (FnReturnsAt RK.Fn read_key) (FnReturnsAt RV.Fn read_value)) S.Value.eq form value.now) }
+        ensures exact { IfErr result (IsRefusedForMemoryAlone S.Kind.kind (map_reader (FnReturnsAt RK.Fn read_key) (FnReturnsAt RV.Fn read_value)) S.Value.eq form value.now) }
     {
-        let reader = MapReader {
-            read_key,
-            read_value,
-        };
-        reading::read(alloc, form, value, &reader)
+        let stored = read_map(alloc, form, value, read_key, read_value)?;
+        Ok(Map {
+            stored,
+            lives: PhantomData,
+        })
     }
 }

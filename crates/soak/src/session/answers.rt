@@ -4,13 +4,13 @@ use crate::difference::Stop;
 use crate::model::{Ends, Lookup, Model};
 use crate::points::Piece;
 use crate::soaked::{Mark, PointRange, Soaked};
-use rangemap_core::kind::Interval;
+use rangemap_core::key_range::KeyRange;
 use std::alloc::{AllocError, Global};
 
 /// `get`, `get_key_value` and `contains_key`, at the start of the range of one point
 pub fn get<'a, S: Soaked<'a>>(subject: &S, model: &Model<'a>, point: u8) -> Result<bool, Stop> {
-    let range = S::Range::between(model.chance.heap, point, point)?;
-    let key = S::Kind::start(&range);
+    let range = S::Range::from_points(model.chance.heap, point, point)?;
+    let key = range.start();
     let lookup = Lookup {
         piece: piece_of(subject.get_key_value(key)),
         mark: mark_of(subject.get(key)),
@@ -36,7 +36,7 @@ pub fn overlapping<'a, S: Soaked<'a>>(
     first: u8,
     last: u8,
 ) -> Result<bool, Stop> {
-    let query = S::Range::between(model.chance.heap, first, last)?;
+    let query = S::Range::from_points(model.chance.heap, first, last)?;
     let mut pairs = Vec::new(model.alloc);
     subject.append_overlapping(&query, &mut pairs)?;
     let list = pieces(model.alloc, &pairs)?;
@@ -50,7 +50,7 @@ pub fn gaps<'a, S: Soaked<'a>>(
     first: u8,
     last: u8,
 ) -> Result<bool, Stop> {
-    let outer = S::Range::between(model.chance.heap, first, last)?;
+    let outer = S::Range::from_points(model.chance.heap, first, last)?;
     let free = model.free(first, last)?;
     subject.ask_for_gaps(&outer, &free, &mut model.chance)
 }

@@ -45,7 +45,7 @@ pub fn change<'a, S: Soaked<'a>>(
 pub fn copy<'a, S: Soaked<'a>>(subject: &mut S, model: &mut Model<'a>) -> Result<bool, Stop> {
     let held = model.chance.heap.held();
     model.chance.refuse_one();
-    let made = subject.copied();
+    let made = subject.clone();
     let is_refused = check_made(subject, model, &made, &model.points, held)?;
     if let Ok(copy) = made {
         *subject = copy;

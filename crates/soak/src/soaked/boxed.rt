@@ -3,7 +3,7 @@ ghost use Rattle.std.specs.Prelude.{◌≡◌, IfOk};
 
 use super::{Heap, PointRange};
 use crate::points::Piece;
-use std::alloc::AllocError;
+use std::alloc::{AllocError, Allocator};
 use std::ops::Range;
 
 /// A number in a block of its own.
@@ -11,21 +11,21 @@ use std::ops::Range;
 /// It is a type of its own, since what a set knows of a key that is a box is far dearer to check.
 #[derive(Drop)]
 #[derive_where(PartialEq, Eq, PartialOrd, Ord)]
-pub struct Boxed<'a> {
-    number: Box<u16, &'a Heap>,
+pub struct Boxed<A: Allocator> {
+    number: Box<u16, A>,
 }
 
-impl<'a> Boxed<'a> {
+impl<A: Allocator> Boxed<A> {
     /// Returns the number in a block of its own.
-    fn new(heap: &'a Heap, number: u16) -> Result<Boxed<'a>, AllocError>
+    fn new(alloc: A, number: u16) -> Result<Boxed<A>, AllocError>
         ensures { IfOk result (λ key. key.number.value ≡ number) }
     {
-        let number = Box::new(heap, number)?;
+        let number = Box::new(alloc, number)?;
         Ok(Boxed { number })
     }
 }
 
-impl<'a> Clone for Boxed<'a> {
+impl<A: Allocator + Clone> Clone for Boxed<A> {
     ghost is_clone = { λ key copy. copy.number.value ≡ key.number.value };
 
     fn clone(&self) -> Result<Self, AllocError> {
@@ -34,12 +34,22 @@ impl<'a> Clone for Boxed<'a> {
     }
 }
 
-impl<'a> PointRange<'a> for Range<Boxed<'a>> {
+impl<'a> PointRange<'a> for Range<Boxed<&'a Heap>> {
+    ghost use Rattle.std.proofs.Common.{rules};
+    ghost use Rattle.std.specs.Cmp.Rules.{comparing};
     ghost use Rattle.std.specs.Prelude.{◌<◌};
 
     ghost IsNonEmpty = { λ range. range.start.number.value < range.end.number.value };
 
-    fn between(heap: &'a Heap, first: u8, last: u8) -> Result<Range<Boxed<'a>>, AllocError> {
+    ghost takes = { λ range non_empty. Prim.search (comparing, rules) };
+
+    ghost faithful = { Prim.search (comparing, rules) };
+
+    fn from_points(
+        heap: &'a Heap,
+        first: u8,
+        last: u8,
+    ) -> Result<Range<Boxed<&'a Heap>>, AllocError> {
         let start = Boxed::new(heap, u16::from(first))?;
         let end = Boxed::new(heap, u16::from(last) + 1)?;
         Ok(start..end)

@@ -1,71 +1,33 @@
 //! The maps.
 
 use super::boxed::Boxed;
-use super::costly::Costly;
 use super::gaps::ask_for_gaps;
-use super::{Heap, Soaked};
+use super::{Heap, Mark, PointRange, Soaked};
 use crate::chance::Chance;
 use crate::difference::Stop;
 use crate::points::Piece;
 use rangemap::{RangeInclusiveMap, RangeMap, tree_map};
+use rangemap_core::kind::OwnSteps;
+use rangemap_sorted::SortedVec;
 use std::alloc::AllocError;
-use std::ops::{Range, RangeInclusive};
+use std::ops::Range;
+use tests_support::Costly;
 
 /// A map over numbers, each of whose values holds a block of memory.
 pub type Map<'a> = RangeMap<u16, Box<u8, &'a Heap>, &'a Heap>;
 
-impl<'a> Soaked<'a> for Map<'a> {
-    ghost use Rattle.std.proofs.Common.{rules};
-    ghost use Rattle.std.specs.Cmp.Rules.{comparing};
-
-    ghost takes = { λ range non_empty. Prim.search (comparing, rules) };
-
-    ghost faithful_keys = { Prim.search (comparing, rules) };
-
-    ghost faithful_values = { Prim.search (comparing, rules) };
-
-    fn copied(&self) -> Result<Self, AllocError> {
-        self.clone()
-    }
-
-    fn combined(&self, _other: &Self, _is_union: bool) -> Option<Result<Self, AllocError>> {
-        None
-    }
-
-    fn ask_for_gaps(
-        &self,
-        outer: &Range<u16>,
-        pieces: &[Piece],
-        chance: &mut Chance<'_>,
-    ) -> Result<bool, Stop> {
-        ask_for_gaps(self.gaps(outer), pieces, chance)
-    }
-}
-
 /// A map over keys whose clones take memory.
 pub type InclusiveMap<'a> = RangeInclusiveMap<Costly<'a>, u8, Costly<'a>, &'a Heap>;
 
-impl<'a> Soaked<'a> for InclusiveMap<'a> {
-    ghost use Rattle.std.proofs.Common.{rules};
-    ghost use Rattle.std.specs.Cmp.Rules.{comparing};
-
-    ghost takes = { λ range non_empty. Prim.search (comparing, rules) };
-
-    ghost faithful_keys = { Prim.search (comparing, rules) };
-
-    ghost faithful_values = { Prim.search (comparing, rules) };
-
-    fn copied(&self) -> Result<Self, AllocError> {
-        self.clone()
-    }
-
+impl<'a, Q: OwnSteps<R>, R: PointRange<'a>, V: Mark<'a>> Soaked<'a>
+    for rangemap::map::Map<SortedVec<Q, R, V, &'a Heap>> {
     fn combined(&self, _other: &Self, _is_union: bool) -> Option<Result<Self, AllocError>> {
         None
     }
 
     fn ask_for_gaps(
         &self,
-        outer: &RangeInclusive<Costly<'a>>,
+        outer: &R,
         pieces: &[Piece],
         chance: &mut Chance<'_>,
     ) -> Result<bool, Stop> {
@@ -75,29 +37,16 @@ impl<'a> Soaked<'a> for InclusiveMap<'a> {
 
 /// A map in a tree, over keys each of which holds a block of memory, and so does each value. The
 /// tree has a clone of each start.
-pub type TreeMap<'a> = tree_map::RangeMap<Boxed<'a>, Box<u8, &'a Heap>, &'a Heap>;
+pub type TreeMap<'a> = tree_map::RangeMap<Boxed<&'a Heap>, Box<u8, &'a Heap>, &'a Heap>;
 
 impl<'a> Soaked<'a> for TreeMap<'a> {
-    ghost use Rattle.std.proofs.Common.{rules};
-    ghost use Rattle.std.specs.Cmp.Rules.{comparing};
-
-    ghost takes = { λ range non_empty. Prim.search (comparing, rules) };
-
-    ghost faithful_keys = { Prim.search (comparing, rules) };
-
-    ghost faithful_values = { Prim.search (comparing, rules) };
-
-    fn copied(&self) -> Result<Self, AllocError> {
-        self.clone()
-    }
-
     fn combined(&self, _other: &Self, _is_union: bool) -> Option<Result<Self, AllocError>> {
         None
     }
 
     fn ask_for_gaps(
         &self,
-        outer: &Range<Boxed<'a>>,
+        outer: &Range<Boxed<&'a Heap>>,
         pieces: &[Piece],
         chance: &mut Chance<'_>,
     ) -> Result<bool, Stop> {

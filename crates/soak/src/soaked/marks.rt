@@ -4,6 +4,11 @@ use super::{Heap, Mark};
 use std::alloc::AllocError;
 
 impl<'a> Mark<'a> for u8 {
+    ghost use Rattle.std.proofs.Common.{rules};
+    ghost use Rattle.std.specs.Cmp.Rules.{comparing};
+
+    ghost faithful = { Prim.search (comparing, rules) };
+
     fn of(_heap: &'a Heap, mark: u8) -> Result<u8, AllocError> {
         Ok(mark)
     }
@@ -14,6 +19,11 @@ impl<'a> Mark<'a> for u8 {
 }
 
 impl<'a> Mark<'a> for Box<u8, &'a Heap> {
+    ghost use Rattle.std.proofs.Common.{rules};
+    ghost use Rattle.std.specs.Cmp.Rules.{comparing};
+
+    ghost faithful = { Prim.search (comparing, rules) };
+
     fn of(heap: &'a Heap, mark: u8) -> Result<Box<u8, &'a Heap>, AllocError> {
         Ok(Box::new(heap, mark)?)
     }
@@ -25,6 +35,11 @@ impl<'a> Mark<'a> for Box<u8, &'a Heap> {
 
 /// It stands for the mark 1.
 impl<'a> Mark<'a> for () {
+    ghost use Rattle.std.proofs.Common.{rules};
+    ghost use Rattle.std.specs.Cmp.Rules.{comparing};
+
+    ghost faithful = { Prim.search (comparing, rules) };
+
     fn of(_heap: &'a Heap, _mark: u8) -> Result<(), AllocError> {
         Ok(())
     }

@@ -6,11 +6,17 @@ use std::alloc::AllocError;
 use std::ops::Range;
 
 impl<'a> PointRange<'a> for Range<u16> {
+    ghost use Rattle.std.proofs.Common.{rules};
+    ghost use Rattle.std.specs.Cmp.Rules.{comparing};
     ghost use Rattle.std.specs.Prelude.{◌<◌};
 
     ghost IsNonEmpty = { λ range. range.start < range.end };
 
-    fn between(_heap: &'a Heap, first: u8, last: u8) -> Result<Range<u16>, AllocError> {
+    ghost takes = { λ range non_empty. Prim.search (comparing, rules) };
+
+    ghost faithful = { Prim.search (comparing, rules) };
+
+    fn from_points(_heap: &'a Heap, first: u8, last: u8) -> Result<Range<u16>, AllocError> {
         Ok(u16::from(first)..u16::from(last) + 1)
     }
 

@@ -1,45 +1,35 @@
 //! The sets.
+ghost use Rattle.rangemap.specs.Clones.{KeysCloneFaithfully};
 
 use super::boxed::Boxed;
-use super::costly::Costly;
 use super::gaps::ask_for_gaps;
-use super::{Heap, Soaked};
+use super::{Heap, PointRange, Soaked};
 use crate::chance::Chance;
 use crate::difference::Stop;
 use crate::points::Piece;
 use rangemap::container::Combine;
-use rangemap::{RangeInclusiveSet, RangeSet};
+use rangemap::{RangeInclusiveSet, RangeSet, tree_set};
+use rangemap_core::kind::OwnSteps;
+use rangemap_sorted::SortedVec;
 use std::alloc::AllocError;
-use std::ops::{Range, RangeInclusive};
+use std::ops::Range;
+use tests_support::Costly;
 
 /// A set of keys each of which holds a block of memory.
-pub type Set<'a> = RangeSet<Boxed<'a>, &'a Heap>;
+pub type Set<'a> = RangeSet<Boxed<&'a Heap>, &'a Heap>;
 
-impl<'a> Soaked<'a> for Set<'a> {
-    ghost use Rattle.std.proofs.Common.{rules};
-    ghost use Rattle.std.specs.Cmp.Rules.{comparing};
+/// A set of keys whose clones take memory.
+pub type InclusiveSet<'a> = RangeInclusiveSet<Costly<'a>, Costly<'a>, &'a Heap>;
 
-    ghost takes = { λ range non_empty. Prim.search (comparing, rules) };
-
-    ghost faithful_keys = { Prim.search (comparing, rules) };
-
-    ghost faithful_values = { Prim.search (comparing, rules) };
-
-    fn copied(&self) -> Result<Self, AllocError> {
-        self.clone()
-    }
-
+impl<'a, Q: OwnSteps<R>, R: PointRange<'a>> Soaked<'a>
+    for rangemap::range_set::Set<SortedVec<Q, R, (), &'a Heap>> {
     fn combined(&self, other: &Self, is_union: bool) -> Option<Result<Self, AllocError>> {
-        Some(if is_union {
-            self.union_set(other)
-        } else {
-            self.intersection_set(other)
-        })
+        Some(combined(self, other, is_union))
     }
 
     fn ask_for_gaps(
         &self,
-        outer: &Range<Boxed<'a>>,
+        outer: &R,
         pieces: &[Piece],
         chance: &mut Chance<'_>,
     ) -> Result<bool, Stop> {
@@ -47,37 +37,32 @@ impl<'a> Soaked<'a> for Set<'a> {
     }
 }
 
-/// A set of keys whose clones take memory.
-pub type InclusiveSet<'a> = RangeInclusiveSet<Costly<'a>, Costly<'a>, &'a Heap>;
+/// A set in a tree, of keys each of which holds a block of memory. The tree has a clone of each
+/// start.
+pub type TreeSet<'a> = tree_set::RangeSet<Boxed<&'a Heap>, &'a Heap>;
 
-impl<'a> Soaked<'a> for InclusiveSet<'a> {
-    ghost use Rattle.std.proofs.Common.{rules};
-    ghost use Rattle.std.specs.Cmp.Rules.{comparing};
-
-    ghost takes = { λ range non_empty. Prim.search (comparing, rules) };
-
-    ghost faithful_keys = { Prim.search (comparing, rules) };
-
-    ghost faithful_values = { Prim.search (comparing, rules) };
-
-    fn copied(&self) -> Result<Self, AllocError> {
-        self.clone()
-    }
-
+impl<'a> Soaked<'a> for TreeSet<'a> {
     fn combined(&self, other: &Self, is_union: bool) -> Option<Result<Self, AllocError>> {
-        Some(if is_union {
-            self.union_set(other)
-        } else {
-            self.intersection_set(other)
-        })
+        Some(combined(self, other, is_union))
     }
 
     fn ask_for_gaps(
         &self,
-        outer: &RangeInclusive<Costly<'a>>,
+        outer: &Range<Boxed<&'a Heap>>,
         pieces: &[Piece],
         chance: &mut Chance<'_>,
     ) -> Result<bool, Stop> {
         ask_for_gaps(self.gaps(outer), pieces, chance)
+    }
+}
+
+/// Makes `one | other` or `one & other`.
+fn combined<S: Combine>(one: &S, other: &S, is_union: bool) -> Result<S, AllocError>
+    requires { KeysCloneFaithfully S.Range.Key.is_clone S.Range.Key.cmp }
+{
+    if is_union {
+        one.union_set(other)
+    } else {
+        one.intersection_set(other)
     }
 }

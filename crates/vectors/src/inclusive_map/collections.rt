@@ -1,12 +1,11 @@
 //! Rows about maps that are made of pairs.
 
 use rangemap::RangeInclusiveMap;
-use rows::check_text;
-use std::alloc::Global;
 use std::test::Fail;
+use tests_support::check_text;
 
 /// A map over numbers.
-type Map = RangeInclusiveMap<u32, char, u32, Global>;
+type Map = RangeInclusiveMap<u32, char>;
 
 #[test]
 fn pairs_are_inserted_in_order(rt: HostRuntime) -> Result<(), Fail> {

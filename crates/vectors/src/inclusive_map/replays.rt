@@ -1,8 +1,8 @@
 //! Rows over closed ranges made by both replays, where every call is accepted.
 
 use crate::tables::{check_changes, check_closed_replay};
-use rows::SignedSteps;
 use std::test::Fail;
+use tests_support::SignedSteps;
 
 #[test]
 fn ends_are_reached_and_removed(rt: HostRuntime) -> Result<(), Fail> {

@@ -6,13 +6,15 @@ ghost use Rattle.std.specs.Ordering.{nat_cmp};
 ghost use Rattle.rangemap.specs.Ranges.{half_open};
 ghost use Rattle.rangemap.specs.Runs.{IsAllowed};
 
-use crate::map::{Map, TreeMap};
-use rangemap::tree_map::{Answer, Command, Container, Outcome, run};
+use rangemap::container::Container;
+use rangemap::tree_map::{Answer, Command, Outcome, run};
+use rangemap::{RangeMap, tree_map};
 use rangemap_core::half_open::HalfOpen;
 use std::alloc::{AllocError, Global};
 use std::fmt::Write;
 use std::ops::Range;
 use std::test::Fail;
+use tests_support::check_same;
 
 /// Commands over numbers.
 type Commands = Vec<Command<u32, Range<u32>, char>, Global>;
@@ -59,23 +61,19 @@ fn write_answer(
 /// Runs the commands on a map, and compares what they answer.
 fn check_run<M>(alloc: Global) -> Result<(), Fail>
 where
-    M: Container<Alloc = Global, Kind = HalfOpen, Key = u32, Range = Range<u32>, Value = char>,
+    M: Container<Alloc = Global, Kind = HalfOpen, Range = Range<u32>, Value = char>,
 {
-    let mut map = M::empty(alloc);
+    let mut map = M::new_with_step_fns(alloc);
     let answers = run(alloc, &mut map, commands(alloc)?)?;
     let mut text = String::new(alloc);
     for answer in &answers {
         write_answer(&mut text, answer)?;
     }
-    if text.as_str() == ANSWERS {
-        Ok(())
-    } else {
-        Err(Fail::new(format_args!("commands answer {text}")))
-    }
+    check_same(text.as_str(), ANSWERS)
 }
 
 #[test]
 fn commands_are_answered_by_a_vector_and_a_tree(rt: HostRuntime) -> Result<(), Fail> {
-    check_run::<Map>(rt.alloc())?;
-    check_run::<TreeMap>(rt.alloc())
+    check_run::<RangeMap<u32, char>>(rt.alloc())?;
+    check_run::<tree_map::RangeMap<u32, char>>(rt.alloc())
 }

@@ -10,9 +10,10 @@ use std::alloc::{AllocError, Global};
 use std::cmp::Ordering;
 use std::hash::Hasher;
 use std::test::Fail;
+use tests_support::check_that;
 
 /// A map to values that count.
-type Map<'a> = RangeMap<u32, Tallied<'a>, Global>;
+type Map<'a> = RangeMap<u32, Tallied<'a>>;
 
 /// Where the values of two maps count.
 type Tallies<'a> = (&'a Tally, &'a Tally);
@@ -30,13 +31,13 @@ fn are_counted((ours, theirs): Tallies<'_>, counts: Counts) -> bool {
 }
 
 /// Whether a map lies so to another by the law, for which it was compared by `==` and by `cmp`.
-fn lies(one: &Map<'_>, other: &Map<'_>, tallies: Tallies<'_>, order: Ordering) -> bool {
+fn lies<'a>(one: &Map<'a>, other: &Map<'a>, tallies: Tallies<'a>, order: Ordering) -> bool {
     equality_agrees_with_order(one, other) == (order.is_eq(), order)
         && are_counted(tallies, (1, 1, 0))
 }
 
 /// Whether two maps hash alike by the law, if they are equal, for which each was fed once.
-fn are_alike(one: &Map<'_>, same: &Map<'_>, tallies: Tallies<'_>) -> bool {
+fn are_alike<'a>(one: &Map<'a>, same: &Map<'a>, tallies: Tallies<'a>) -> bool {
     let hash = hash_of(one);
     if one != same {
         return false;
@@ -47,19 +48,22 @@ fn are_alike(one: &Map<'_>, same: &Map<'_>, tallies: Tallies<'_>) -> bool {
     (left.finish(), right.finish()) == (hash, hash) && are_counted(tallies, (0, 0, 1))
 }
 
+/// Whether the laws make their calls, and no others, on maps that count for one of the two.
+fn make_their_calls<'a>(alloc: Global, tallies: Tallies<'a>) -> Result<bool, AllocError> {
+    let one = map_to(alloc, 'a', tallies.0)?;
+    let same = map_to(alloc, 'a', tallies.1)?;
+    let greater = map_to(alloc, 'b', tallies.1)?;
+    Ok(
+        lies(&one, &same, tallies, Ordering::Equal)
+            && lies(&one, &greater, tallies, Ordering::Less)
+            && are_alike(&one, &same, tallies),
+    )
+}
+
 #[test]
 fn the_laws_of_comparisons_make_their_calls(rt: HostRuntime) -> Result<(), Fail> {
-    let (ours, theirs) = (Tally::new(), Tally::new());
-    let one = map_to(rt.alloc(), 'a', &ours)?;
-    let same = map_to(rt.alloc(), 'a', &theirs)?;
-    let greater = map_to(rt.alloc(), 'b', &theirs)?;
-    let tallies = (&ours, &theirs);
-    let are_kept = lies(&one, &same, tallies, Ordering::Equal)
-        && lies(&one, &greater, tallies, Ordering::Less)
-        && are_alike(&one, &same, tallies);
-    if are_kept {
-        Ok(())
-    } else {
-        Err(Fail::new("the laws of comparisons answer otherwise"))
-    }
+    let ours = Tally::new();
+    let theirs = Tally::new();
+    let are_made = make_their_calls(rt.alloc(), (&ours, &theirs))?;
+    check_that(are_made, "the laws of comparisons answer otherwise")
 }

@@ -1,16 +1,21 @@
 //! Rows of maps. The first pair that differs decides, by its start, its end and then its value, and a
 //! difference weighs more than the lengths.
 
-use super::{check_maps, check_trees};
-use rangemap_core::half_open::HalfOpen;
-use rangemap_maps::closed::Closed;
-use rows::SignedSteps;
-use std::ops::{Range, RangeInclusive};
+use super::check_rows;
+use rangemap::{RangeInclusiveMap, RangeMap, tree_map};
+use std::alloc::Global;
 use std::test::Fail;
+use tests_support::SignedSteps;
+
+/// Compares a table for maps of half-open ranges, in a sorted vector and in a tree.
+fn check_half_open(alloc: Global, table: &str) -> Result<(), Fail> {
+    check_rows::<RangeMap<u32, char>>(alloc, table)?;
+    check_rows::<tree_map::RangeMap<u32, char>>(alloc, table)
+}
 
 #[test]
 fn each_part_of_a_pair_counts(rt: HostRuntime) -> Result<(), Fail> {
-    check_maps::<HalfOpen, u32, Range<u32>, char>(
+    check_half_open(
         rt.alloc(),
         "
         ascending | ; 0..5 a; 0..5 a, 7..8 a; 0..5 b; 0..6 a; 1..2 a
@@ -21,7 +26,7 @@ fn each_part_of_a_pair_counts(rt: HostRuntime) -> Result<(), Fail> {
 
 #[test]
 fn each_part_of_a_pair_in_a_tree_counts(rt: HostRuntime) -> Result<(), Fail> {
-    check_trees(
+    check_half_open(
         rt.alloc(),
         "
         ascending | ; 0..2 a, 4..6 b; 0..2 a, 4..6 b, 8..9 c; 0..2 a, 4..6 c; 0..3 a
@@ -32,7 +37,7 @@ fn each_part_of_a_pair_in_a_tree_counts(rt: HostRuntime) -> Result<(), Fail> {
 
 #[test]
 fn each_part_of_a_closed_pair_counts(rt: HostRuntime) -> Result<(), Fail> {
-    check_maps::<Closed<u32>, u32, RangeInclusive<u32>, char>(
+    check_rows::<RangeInclusiveMap<u32, char>>(
         rt.alloc(),
         "
         ascending | ; 0..=5 a; 0..=5 a, 7..=8 a; 0..=5 b; 0..=6 a; 1..=2 a
@@ -43,7 +48,7 @@ fn each_part_of_a_closed_pair_counts(rt: HostRuntime) -> Result<(), Fail> {
 
 #[test]
 fn maps_over_any_steps_are_compared(rt: HostRuntime) -> Result<(), Fail> {
-    check_maps::<Closed<SignedSteps>, i8, RangeInclusive<i8>, bool>(
+    check_rows::<RangeInclusiveMap<i8, bool, SignedSteps>>(
         rt.alloc(),
         "
         ascending | -128..=-1 false; -128..=5 false

@@ -1,14 +1,19 @@
 //! Rows of sets. The first range that differs decides, by its start and then its end.
 
-use super::check_sets;
-use rangemap_core::half_open::HalfOpen;
-use rangemap_maps::closed::Closed;
-use std::ops::{Range, RangeInclusive};
+use super::check_rows;
+use rangemap::{RangeInclusiveSet, RangeSet, tree_set};
+use std::alloc::Global;
 use std::test::Fail;
+
+/// Compares a table for sets of half-open ranges, in a sorted vector and in a tree.
+fn check_half_open(alloc: Global, table: &str) -> Result<(), Fail> {
+    check_rows::<RangeSet<u32>>(alloc, table)?;
+    check_rows::<tree_set::RangeSet<u32>>(alloc, table)
+}
 
 #[test]
 fn each_end_of_a_range_counts(rt: HostRuntime) -> Result<(), Fail> {
-    check_sets::<HalfOpen, Range<u32>>(
+    check_half_open(
         rt.alloc(),
         "
         ascending | ; 0..5; 0..5, 7..8; 0..6; 1..2
@@ -19,7 +24,7 @@ fn each_end_of_a_range_counts(rt: HostRuntime) -> Result<(), Fail> {
 
 #[test]
 fn each_end_of_a_closed_range_counts(rt: HostRuntime) -> Result<(), Fail> {
-    check_sets::<Closed<u32>, RangeInclusive<u32>>(
+    check_rows::<RangeInclusiveSet<u32>>(
         rt.alloc(),
         "
         ascending | ; 0..=5; 0..=5, 7..=8; 0..=6

@@ -6,6 +6,7 @@ use serde_json::Value;
 use std::alloc::{AllocError, Global};
 use std::fmt::Write;
 use std::test::Fail;
+use tests_support::check_same;
 
 /// So many entries in order, each with a key between it and the next.
 fn spread(alloc: Global, count: u32) -> Result<Value, Fail> {
@@ -30,9 +31,7 @@ fn len_or_error(alloc: Global, form: Form, value: &Value) -> Result<String, Fail
 fn check_read(alloc: Global, value: &Value, answer: &str) -> Result<(), Fail> {
     for form in [Form::Any, Form::Canonical] {
         let found = len_or_error(alloc, form, value)?;
-        if found.as_str() != answer {
-            return Err(Fail::new(format_args!("{found} is not {answer}")));
-        }
+        check_same(found.as_str(), answer)?;
     }
     Ok(())
 }

@@ -1,27 +1,21 @@
 //! Rows about maps over both kinds of range.
 
 use super::{Fault, InJson, check_rows, read_number, read_text, write_number, write_text};
-use rangemap::{Form, ReadError, WriteError};
-use rangemap_core::half_open::HalfOpen;
-use rangemap_maps::closed::Closed;
-use rangemap_maps::kinds::OwnSteps;
-use rangemap_maps::range_map::Map;
+use rangemap::map::Map;
+use rangemap::{Form, RangeInclusiveMap, RangeMap, ReadError, WriteError, tree_map};
+use rangemap_core::key_range::KeyRange;
+use rangemap_core::kind::OwnSteps;
+use rangemap_core::store::Store;
 use serde_json::Value;
 use std::alloc::Global;
 use std::fmt::Debug;
-use std::ops::{Range, RangeInclusive};
 use std::test::Fail;
 
-impl<Q: OwnSteps<u32, R>, R: Debug + Drop> InJson for Map<Q, u32, R, String, Global> {
-    fn empty(alloc: Global) -> Self {
-        Map::empty(alloc)
-    }
-
-    fn put(&mut self, (start, end): (u32, u32), text: String) -> Result<(), Fail> {
-        let range = Q::between(start, end).ok_or("a range of a row is empty")?;
-        Ok(self.insert(range, text)?)
-    }
-
+impl<S: Store<Value = String, Alloc = Global, Range: KeyRange<Key = u32> + Debug> + Drop> InJson
+    for Map<S>
+where
+    S::Kind: OwnSteps<S::Range>,
+{
     fn write(&self, alloc: Global) -> Result<Value, WriteError<Fault>> {
         self.to_value(alloc, write_number, write_text)
     }
@@ -31,17 +25,15 @@ impl<Q: OwnSteps<u32, R>, R: Debug + Drop> InJson for Map<Q, u32, R, String, Glo
     }
 }
 
-/// Compares a table for maps of numbers to texts.
-fn check_maps<Q: OwnSteps<u32, R>, R: Debug + Drop>(
-    alloc: Global,
-    table: &str,
-) -> Result<(), Fail> {
-    check_rows::<Map<Q, u32, R, String, Global>>(alloc, table)
+/// Compares a table for maps of numbers to texts, in a sorted vector and in a tree.
+fn check_half_open(alloc: Global, table: &str) -> Result<(), Fail> {
+    check_rows::<RangeMap<u32, String>>(alloc, table)?;
+    check_rows::<tree_map::RangeMap<u32, String>>(alloc, table)
 }
 
 #[test]
 fn maps_are_written_and_read(rt: HostRuntime) -> Result<(), Fail> {
-    check_maps::<HalfOpen, Range<u32>>(
+    check_half_open(
         rt.alloc(),
         r#"
         written | []
@@ -64,7 +56,7 @@ fn maps_are_written_and_read(rt: HostRuntime) -> Result<(), Fail> {
 // The first fault is the answer.
 #[test]
 fn damaged_values_are_refused(rt: HostRuntime) -> Result<(), Fail> {
-    check_maps::<HalfOpen, Range<u32>>(
+    check_half_open(
         rt.alloc(),
         r#"
         any null | NotAList
@@ -95,7 +87,7 @@ fn damaged_values_are_refused(rt: HostRuntime) -> Result<(), Fail> {
 
 #[test]
 fn closed_maps_are_written_and_read(rt: HostRuntime) -> Result<(), Fail> {
-    check_maps::<Closed<u32>, RangeInclusive<u32>>(
+    check_rows::<RangeInclusiveMap<u32, String>>(
         rt.alloc(),
         r#"
         written | []

@@ -2,17 +2,16 @@
 
 use super::Fault;
 use rangemap::{Form, Part, ReadError, WriteError};
-use rows::check_text;
 use std::alloc::Global;
 use std::fmt::Debug;
 use std::test::Fail;
+use tests_support::{check_text, check_that};
 
 /// Compares the debug texts of answers, each of which is equal to itself and not to the next.
 fn check_told<T: Debug + Eq>(alloc: Global, all: &[T], texts: &str) -> Result<(), Fail> {
     for (one, next) in all.iter().zip(all.iter().skip(1)) {
-        if *one != *one || *one == *next {
-            return Err(Fail::new("an answer equals another, or not itself"));
-        }
+        let is_told = *one == *one && *one != *next;
+        check_that(is_told, "an answer equals another, or not itself")?;
     }
     check_text(alloc, &all, texts)
 }

@@ -3,24 +3,30 @@
 use super::{read_number, write_number};
 use rangemap::Form;
 use rangemap::laws::{round_trips, set_round_trips};
+use rangemap::map::Map;
 use rangemap::range_set::Set;
+use rangemap_core::closed::Closed;
 use rangemap_core::half_open::HalfOpen;
-use rangemap_maps::closed::Closed;
-use rangemap_maps::kinds::OwnSteps;
-use rangemap_maps::range_map::Map;
-use rangemap_operations::set_range::{SetKind, SetRange};
-use rows::{FromEnds, InRows, check_row, made_of};
+use rangemap_core::kind::OwnSteps;
+use rangemap_sorted::SortedVec;
 use std::alloc::Global;
 use std::ops::{Range, RangeInclusive};
 use std::test::Fail;
+use tests_support::{FromEnds, InRows, check_row, check_that, made_of};
+
+/// A map of numbers in a sorted vector.
+type Numbers<Q, R> = Map<SortedVec<Q, R, u32, Global>>;
+
+/// A set of numbers in a sorted vector.
+type Ranges<Q, R> = Set<SortedVec<Q, R, (), Global>>;
 
 /// Reads a map again in either form, and makes one again of its pairs.
-fn check_map<Q: OwnSteps<u32, R>, R: FromEnds<u32>>(
+fn check_map<Q: OwnSteps<R>, R: FromEnds<Key = u32>>(
     alloc: Global,
     inserted: &str,
     pairs: &str,
 ) -> Result<(), Fail> {
-    let map: Map<Q, u32, R, u32, Global> = made_of(alloc, inserted)?;
+    let map: Numbers<Q, R> = made_of(alloc, inserted)?;
     for form in [Form::Any, Form::Canonical] {
         let answer = round_trips::reading_what_was_written_is_equal(
             alloc,
@@ -33,18 +39,18 @@ fn check_map<Q: OwnSteps<u32, R>, R: FromEnds<u32>>(
         let Ok((_, again)) = answer else {
             return Err(Fail::new("a map was not read again"));
         };
-        check_again(&map, &again, pairs)?;
+        check_again::<Numbers<Q, R>>(&map, &again, pairs)?;
     }
-    let again = round_trips::from_iter_of_into_iter_is_equal(alloc, map)?;
+    let again: Numbers<Q, R> = round_trips::from_iter_of_into_iter_is_equal(alloc, map)?;
     check_row(&again, pairs)
 }
 
 /// The same of a set.
-fn check_set<Q: OwnSteps<u32, R> + SetKind<u32, R>, R: SetRange<Key = u32> + FromEnds<u32>>(
+fn check_set<Q: OwnSteps<R>, R: FromEnds<Key = u32>>(
     alloc: Global,
     ranges: &str,
 ) -> Result<(), Fail> {
-    let set: Set<Q, u32, R, Global> = made_of(alloc, ranges)?;
+    let set: Ranges<Q, R> = made_of(alloc, ranges)?;
     for form in [Form::Any, Form::Canonical] {
         let answer = set_round_trips::reading_what_was_written_is_equal(
             alloc,
@@ -57,17 +63,15 @@ fn check_set<Q: OwnSteps<u32, R> + SetKind<u32, R>, R: SetRange<Key = u32> + Fro
         let Ok((_, again)) = answer else {
             return Err(Fail::new("a set was not read again"));
         };
-        check_again(&set, &again, ranges)?;
+        check_again::<Ranges<Q, R>>(&set, &again, ranges)?;
     }
-    let again = set_round_trips::from_iter_of_into_iter_is_equal(alloc, set)?;
+    let again: Ranges<Q, R> = set_round_trips::from_iter_of_into_iter_is_equal(alloc, set)?;
     check_row(&again, ranges)
 }
 
 /// Compares a container that was made again with the one that it was made of, and with its pairs.
 fn check_again<M: InRows>(made: &M, again: &M, pairs: &str) -> Result<(), Fail> {
-    if again != made {
-        return Err(Fail::new("what was made again differs"));
-    }
+    check_that(again == made, "what was made again differs")?;
     check_row(again, pairs)
 }
 

@@ -2,28 +2,20 @@
 
 use super::{Fault, InJson, check_rows, read_number, write_number};
 use rangemap::range_set::Set;
-use rangemap::{Form, ReadError, WriteError};
-use rangemap_core::half_open::HalfOpen;
-use rangemap_maps::closed::Closed;
-use rangemap_maps::kinds::OwnSteps;
-use rangemap_operations::set_range::{SetKind, SetRange};
+use rangemap::{Form, RangeInclusiveSet, RangeSet, ReadError, WriteError, tree_set};
+use rangemap_core::key_range::KeyRange;
+use rangemap_core::kind::OwnSteps;
+use rangemap_core::store::Store;
 use serde_json::Value;
 use std::alloc::Global;
 use std::fmt::Debug;
-use std::ops::{Range, RangeInclusive};
 use std::test::Fail;
 
-impl<Q: OwnSteps<u32, R> + SetKind<u32, R>, R: SetRange<Key = u32> + Debug> InJson
-    for Set<Q, u32, R, Global> {
-    fn empty(alloc: Global) -> Self {
-        Set::new(alloc)
-    }
-
-    fn put(&mut self, (start, end): (u32, u32), _text: String) -> Result<(), Fail> {
-        let range = Q::between(start, end).ok_or("a range of a row is empty")?;
-        Ok(self.insert(range)?)
-    }
-
+impl<S: Store<Value = (), Alloc = Global, Range: KeyRange<Key = u32> + Debug> + Drop> InJson
+    for Set<S>
+where
+    S::Kind: OwnSteps<S::Range>,
+{
     fn write(&self, alloc: Global) -> Result<Value, WriteError<Fault>> {
         self.to_value(alloc, write_number)
     }
@@ -33,17 +25,15 @@ impl<Q: OwnSteps<u32, R> + SetKind<u32, R>, R: SetRange<Key = u32> + Debug> InJs
     }
 }
 
-/// Compares a table for sets of numbers.
-fn check_sets<Q: OwnSteps<u32, R> + SetKind<u32, R>, R: SetRange<Key = u32> + Debug>(
-    alloc: Global,
-    table: &str,
-) -> Result<(), Fail> {
-    check_rows::<Set<Q, u32, R, Global>>(alloc, table)
+/// Compares a table for sets of numbers, in a sorted vector and in a tree.
+fn check_half_open(alloc: Global, table: &str) -> Result<(), Fail> {
+    check_rows::<RangeSet<u32>>(alloc, table)?;
+    check_rows::<tree_set::RangeSet<u32>>(alloc, table)
 }
 
 #[test]
 fn sets_are_written_and_read(rt: HostRuntime) -> Result<(), Fail> {
-    check_sets::<HalfOpen, Range<u32>>(
+    check_half_open(
         rt.alloc(),
         "
         written | []
@@ -76,7 +66,7 @@ fn sets_are_written_and_read(rt: HostRuntime) -> Result<(), Fail> {
 
 #[test]
 fn closed_sets_are_written_and_read(rt: HostRuntime) -> Result<(), Fail> {
-    check_sets::<Closed<u32>, RangeInclusive<u32>>(
+    check_rows::<RangeInclusiveSet<u32>>(
         rt.alloc(),
         "
         written | []

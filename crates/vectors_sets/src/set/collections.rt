@@ -1,12 +1,11 @@
 //! Rows about sets that are made of ranges and of other sets.
 
 use rangemap::{RangeSet, range_set};
-use rows::check_text;
-use std::alloc::Global;
 use std::test::Fail;
+use tests_support::check_text;
 
 /// A set of numbers.
-type Set = RangeSet<u32, Global>;
+type Set = RangeSet<u32>;
 
 #[test]
 fn ranges_are_inserted_in_order(rt: HostRuntime) -> Result<(), Fail> {

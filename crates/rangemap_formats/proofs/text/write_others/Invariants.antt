@@ -8,8 +8,8 @@ use Rattle.rangemap_formats.proofs.text.write_others.Given as goal
 abbrev pub invariant-pairs : goal.invariant-pairs
 invariant-pairs g l =
     let took = g.W.Write.write_str_gives in
-    let text = g.T.PairText.text l.dots in
-    (h : _) → IsPlainFormatter l.fn.f → (IsPlainFormatter l.f → Shows took l.f (others_text text l.rest) h) → Shows took l.fn.f (others_text text l.pairs) h
+    let text = g.T.PairText.text in
+    (h : _) → IsPlainFormatter l.fn.f → (IsPlainFormatter l.f → Shows took l.f (others_text text (g.I.PairIter.left l.rest)) h) → Shows took l.fn.f (others_text text (g.I.PairIter.left l.fn.pairs)) h
 
 abbrev pub decreases-pairs : goal.decreases-pairs
-decreases-pairs g l = length l.rest
+decreases-pairs g l = length (g.I.PairIter.left l.rest)

@@ -9,7 +9,7 @@ pub returns-clause-alike : goal.returns-clause-alike
 returns-clause-alike g c =
     let p = g.met.M.Kind.Kind.placed in
     let e = g.met.M.Value.Eq.laws in
-    let k = g.M.Kind.Interval.kind in
+    let k = g.M.Kind.Kind.kind in
     let eq = g.M.Value.PartialEq.eq in
     let left = g.M.Container.pairs c.args.left.now in
     let right = g.M.Container.pairs c.args.right.now in

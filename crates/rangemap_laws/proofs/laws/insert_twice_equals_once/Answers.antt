@@ -6,7 +6,7 @@ use Rattle.rangemap_laws.proofs.laws.insert_twice_equals_once.Goals as goal
 
 pub returns-clause-equal : goal.returns-clause-equal
 returns-clause-equal g c =
-    let k = g.M.Kind.Interval.kind in
+    let k = g.M.Kind.Kind.kind in
     let e = g.met.M.Value.Eq.laws in
     let r = c.args.range.now in
     let v = c.args.value.now in

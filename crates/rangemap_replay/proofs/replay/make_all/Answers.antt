@@ -9,7 +9,7 @@ pub loop-call-preserved : goal.loop-call-preserved
 loop-call-preserved g c =
     let before = c.loop-call.invariant in
     record {
-      made = rw c.push_reserved.ensures.items (Run-last (Makes g.M.Kind.Interval.kind g.M.Value.PartialEq.eq g.M.Container.pairs g.C.CallOn.step) c.args.maps.now.items c.loop-call.maps.items c.make-accepted.new.maps.items c.loop-call.yielded c.loop-call.answers.items c.in-Some.call c.make-accepted.result before.made c.make-accepted.ensures.made);
+      made = rw c.push_reserved.ensures.items (Run-last (Makes g.M.Kind.Kind.kind g.M.Value.PartialEq.eq g.M.Container.pairs g.C.CallOn.step) c.args.maps.now.items c.loop-call.maps.items c.make-accepted.new.maps.items c.loop-call.yielded c.loop-call.answers.items c.in-Some.call c.make-accepted.result before.made c.make-accepted.ensures.made);
       spare = grind (arith, common_steps);
       room = grind (arith, common_steps);
       answered = grind (arith, common_steps);
@@ -18,6 +18,6 @@ loop-call-preserved g c =
 
 pub returns : goal.returns
 returns g c =
-    subst (λ calls. Run (Makes g.M.Kind.Interval.kind g.M.Value.PartialEq.eq g.M.Container.pairs g.C.CallOn.step) c.args.maps.now.items calls c.loop-call.answers.items c.loop-call.maps.items)
+    subst (λ calls. Run (Makes g.M.Kind.Kind.kind g.M.Value.PartialEq.eq g.M.Container.pairs g.C.CallOn.step) c.args.maps.now.items calls c.loop-call.answers.items c.loop-call.maps.items)
     (All-taken c.into_iter-call-iterator.result c.loop-call.yielded (c.next.new.self, (c.loop-call.call-iterator, c.loop-call.yielded_by, c.in-None.ensures.steps)) ∙ c.into_iter-call-iterator.ensures.into_iter_gives.0)
     c.loop-call.invariant.made

@@ -4,7 +4,7 @@ use Rattle.rangemap_replay.proofs.replay.make_all.Given as goal
 
 abbrev pub invariant-loop-call : goal.invariant-loop-call
 invariant-loop-call g l = record {
-  made : Run (Makes g.M.Kind.Interval.kind g.M.Value.PartialEq.eq g.M.Container.pairs g.C.CallOn.step) l.fn.maps.items l.yielded l.answers.items l.maps.items;
+  made : Run (Makes g.M.Kind.Kind.kind g.M.Value.PartialEq.eq g.M.Container.pairs g.C.CallOn.step) l.fn.maps.items l.yielded l.answers.items l.maps.items;
   spare : vec_len l.allocators + length l.yielded ≡ vec_len l.fn.calls;
   room : vec_len l.maps + vec_len l.fn.calls ≤ vec_capacity l.maps + length l.yielded;
   answered : vec_len l.answers ≡ length l.yielded;

@@ -7,15 +7,15 @@ use Rattle.rangemap.proofs.laws.set_round_trips.reading_what_was_written_is_equa
 
 pub returns-in-Ok-from_value-clause-equal : goal.returns-in-Ok-from_value-clause-equal
 returns-in-Ok-from_value-clause-equal g c =
-    let k = g.Q.Interval.kind in
+    let k = g.S.Kind.Kind.kind in
     let list = c.args.set.now in
     let again = c.in-Ok-from_value.again in
     sym (as_pairs k list again)
-    ∙ set_round_trip k g.met.Q.Kind.placed (unit_equiv k) (FnReturnsAt g.WK.Fn c.args.write_key) (FnReturnsAt g.RK.Fn c.args.read_key) c.requires.keys_read_back
-    (with_unit k list) c.in-Ok.value c.args.form c.iter.ensures.canonical c.in-Ok.ensures.ok (with_unit k again) c.in-Ok-from_value.ensures.ok
+    ∙ set_round_trip k g.met.S.Kind.Kind.placed (unit_equiv k) (FnReturnsAt g.WK.Fn c.args.write_key) (FnReturnsAt g.RK.Fn c.args.read_key) c.requires.keys_read_back
+    (with_unit k list) c.in-Ok.value c.args.form c.known.ensures c.in-Ok.ensures.ok (with_unit k again) c.in-Ok-from_value.ensures.ok
 
 pub for_memory-requires : goal.for_memory-requires
 for_memory-requires g c =
-    let k = g.Q.Interval.kind in
-    set_refused k g.met.Q.Kind.placed (unit_equiv k) (FnReturnsAt g.WK.Fn c.args.write_key) (FnReturnsAt g.RK.Fn c.args.read_key) c.requires.keys_read_back
-    (with_unit k c.args.set.now) c.in-Ok.value c.args.form c.iter.ensures.canonical c.in-Ok.ensures.ok c.in-Err-from_value.error c.in-Err-from_value.ensures.err
+    let k = g.S.Kind.Kind.kind in
+    set_refused k g.met.S.Kind.Kind.placed (unit_equiv k) (FnReturnsAt g.WK.Fn c.args.write_key) (FnReturnsAt g.RK.Fn c.args.read_key) c.requires.keys_read_back
+    (with_unit k c.args.set.now) c.in-Ok.value c.args.form c.known.ensures c.in-Ok.ensures.ok c.in-Err-from_value.error c.in-Err-from_value.ensures.err

@@ -1,20 +1,20 @@
-use Rattle.rangemap_operations.proofs.IncomingLemmas.{at_turn}
-use Rattle.rangemap_operations.proofs.UnitValueLemmas.{adds_last, adds_none}
+use Rattle.rangemap_unions.proofs.IncomingLemmas.{at_turn}
+use Rattle.rangemap_unions.proofs.UnitValueLemmas.{adds_last, adds_none}
 use Rattle.rangemap.proofs.range_set.Set.extend.Goals as goal
 
 pub loop-range-init : goal.loop-range-init
-loop-range-init g c = adds_none g.Q.Interval.kind c.args.self.now c.iter.ensures.canonical
+loop-range-init g c = adds_none g.S.Kind.Kind.kind c.args.self.now c.known.ensures
 
 pub insert-requires-clause-non_empty : goal.insert-requires-clause-non_empty
 insert-requires-clause-non_empty g c =
     let it = c.into_iter-range-iterator in
-    g.met.Q.Stored.has_key_of c.in-Some.range (at_turn g.Q.Interval.kind it.result c.loop-range.yielded c.loop-range.range-iterator c.in-Some.range c.next.new.self (c.requires.non_empty it.result it.ensures.into_iter_gives) c.loop-range.yielded_by c.in-Some.ensures.steps)
+    g.met.S.Kind.Kind.has_key_of c.in-Some.range (at_turn g.S.Kind.Kind.kind it.result c.loop-range.yielded c.loop-range.range-iterator c.in-Some.range c.next.new.self (c.requires.non_empty it.result it.ensures.into_iter_gives) c.loop-range.yielded_by c.in-Some.ensures.steps)
 
 pub insert-requires-clause-not_exhausted : goal.insert-requires-clause-not_exhausted
 insert-requires-clause-not_exhausted g c =
     let it = c.into_iter-range-iterator in
-    g.met.Q.Stored.is_fresh_of c.in-Some.range (at_turn g.Q.Interval.kind it.result c.loop-range.yielded c.loop-range.range-iterator c.in-Some.range c.next.new.self (c.requires.non_empty it.result it.ensures.into_iter_gives) c.loop-range.yielded_by c.in-Some.ensures.steps)
+    g.met.S.Kind.Kind.is_fresh_of c.in-Some.range (at_turn g.S.Kind.Kind.kind it.result c.loop-range.yielded c.loop-range.range-iterator c.in-Some.range c.next.new.self (c.requires.non_empty it.result it.ensures.into_iter_gives) c.loop-range.yielded_by c.in-Some.ensures.steps)
 
 pub loop-range-preserved : goal.loop-range-preserved
 loop-range-preserved g c =
-    adds_last g.Q.Interval.kind c.args.self.now c.loop-range.self c.insert.new.self c.loop-range.yielded c.in-Some.range c.loop-range.invariant c.in_ok-insert.ensures.ok
+    adds_last g.S.Kind.Kind.kind c.args.self.now c.loop-range.self c.insert.new.self c.loop-range.yielded c.in-Some.range c.loop-range.invariant c.in_ok-insert.ensures.ok

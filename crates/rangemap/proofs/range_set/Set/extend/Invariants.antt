@@ -3,4 +3,4 @@ use Rattle.rangemap.proofs.range_set.Set.extend.Given as goal
 
 -- what came so far was added
 abbrev pub invariant-loop-range : goal.invariant-loop-range
-invariant-loop-range g l = Adds g.Q.Interval.kind l.fn.self l.yielded l.self
+invariant-loop-range g l = Adds g.S.Kind.Kind.kind l.fn.self l.yielded l.self

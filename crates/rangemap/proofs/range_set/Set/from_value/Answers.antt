@@ -3,15 +3,15 @@ use Rattle.std.proofs.lemmas.Result.{err_from_is_err_and}
 use Rattle.std.specs.Fn.{FnReturnsAt}
 use Rattle.rangemap_formats.specs.Json.{IsReading, set_reader}
 use Rattle.rangemap_core.specs.Ranges.{unit_eq}
-use Rattle.rangemap_operations.proofs.UnitValueLemmas.{with_ranges}
+use Rattle.rangemap_unions.proofs.UnitValueLemmas.{with_ranges}
 use Rattle.rangemap.proofs.range_set.Set.from_value.Goals as goal
 
 pub returns-clause-ok : goal.returns-clause-ok
 returns-clause-ok g c =
-    let k = g.Q.Interval.kind in
-    subst (IsReading k (set_reader (FnReturnsAt g.RK.Fn c.args.read_key)) (unit_eq k) c.args.form c.args.value.now) (sym (with_ranges k c.in_ok-pairs.pairs)) c.in_ok-pairs.ensures.ok
+    let k = g.S.Kind.Kind.kind in
+    subst (IsReading k (set_reader (FnReturnsAt g.RK.Fn c.args.read_key)) (unit_eq k) c.args.form c.args.value.now) (sym (with_ranges k (g.S.Store.pairs c.in_ok-stored.stored))) c.in_ok-stored.ensures.ok
 
-pub returns-in_err-pairs-clause-exact : goal.returns-in_err-pairs-clause-exact
-returns-in_err-pairs-clause-exact g c =
+pub returns-in_err-stored-clause-exact : goal.returns-in_err-stored-clause-exact
+returns-in_err-stored-clause-exact g c =
     let left = err_from_is_err_and c.from_residual.result c.from_residual.ensures.1 in
-    rw (left.1, left.2) c.in_err-pairs.ensures.exact
+    rw (left.1, left.2) c.in_err-stored.ensures.exact

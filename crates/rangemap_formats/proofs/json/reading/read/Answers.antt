@@ -8,8 +8,8 @@ use Rattle.rangemap_formats.proofs.json.reading.read.Goals as goal
 
 pub loop-at-init : goal.loop-at-init
 loop-at-init g c =
-    Inserted-none g.M.Kind.Interval.kind g.met.M.Kind.Kind.placed g.M.Value.PartialEq.eq g.met.M.Value.Eq.laws (g.R.ReadsParts.reader c.args.reader.now)
-    c.args.form (g.M.Container.pairs c.empty-all.result) c.empty-all.ensures
+    Inserted-none g.S.Kind.Kind.kind g.met.S.Kind.Kind.placed g.S.Value.PartialEq.eq g.met.S.Value.Eq.laws (g.R.ReadsParts.reader c.args.reader.now)
+    c.args.form (g.S.Store.pairs c.empty-all.result) c.empty-all.ensures
 
 pub returns-in_err-found-clause-err : goal.returns-in_err-found-clause-err
 returns-in_err-found-clause-err g c =
@@ -18,17 +18,17 @@ returns-in_err-found-clause-err g c =
     let here : c.loop-at.at < length xs = omega arith in
     let left = err_from_is_err_and c.from_residual.result c.from_residual.ensures.1 in
     rw (left.1, left.2)
-    (refused_entry g.M.Kind.Interval.kind g.met.M.Kind.Kind.placed g.M.Value.PartialEq.eq g.met.M.Value.Eq.laws (g.R.ReadsParts.reader c.args.reader.now)
-    c.args.form c.args.value.now xs (sym c.in-Some.ensures) c.loop-at.at (g.M.Container.pairs c.loop-at.all) c.loop-at.invariant
+    (refused_entry g.S.Kind.Kind.kind g.met.S.Kind.Kind.placed g.S.Value.PartialEq.eq g.met.S.Value.Eq.laws (g.R.ReadsParts.reader c.args.reader.now)
+    c.args.form c.args.value.now xs (sym c.in-Some.ensures) c.loop-at.at (g.S.Store.pairs c.loop-at.all) c.loop-at.invariant
     entry (at_place xs c.loop-at.at entry here c.index-entries-at.is) c.in_err-found.field-0.0 c.in_err-found.ensures.err)
 
 pub returns-in_err-found-clause-exact : goal.returns-in_err-found-clause-exact
 returns-in_err-found-clause-exact g c =
-    let k = g.M.Kind.Interval.kind in
-    let eq = g.M.Value.PartialEq.eq in
+    let k = g.S.Kind.Kind.kind in
+    let eq = g.S.Value.PartialEq.eq in
     let r = g.R.ReadsParts.reader c.args.reader.now in
     IfErr-weaker c.from_residual.result (RefusesToRead k r eq c.args.form c.args.value.now) (IsRefusedForMemoryAlone k r eq c.args.form c.args.value.now)
-    (refused_for_memory k g.met.M.Kind.Kind.placed eq g.met.M.Value.Eq.laws r (g.R.ReadsParts.unambiguous c.args.reader.now) c.args.value.now c.args.form)
+    (refused_for_memory k g.met.S.Kind.Kind.placed eq g.met.S.Value.Eq.laws r (g.R.ReadsParts.unambiguous c.args.reader.now) c.args.value.now c.args.form)
     (returns-in_err-found-clause-err g c)
 
 pub returns-in_default-found-clause-err : goal.returns-in_default-found-clause-err
@@ -36,13 +36,13 @@ returns-in_default-found-clause-err g c =
     let xs = c.in-Some.entries.now in
     let entry = c.index-entries-at.result in
     let here : c.loop-at.at < length xs = omega arith in
-    refused_range g.M.Kind.Interval.kind g.met.M.Kind.Kind.placed g.M.Value.PartialEq.eq g.met.M.Value.Eq.laws (g.R.ReadsParts.reader c.args.reader.now)
-    c.args.form c.args.value.now xs (sym c.in-Some.ensures) c.loop-at.at (g.M.Container.pairs c.loop-at.all) c.loop-at.invariant
+    refused_range g.S.Kind.Kind.kind g.met.S.Kind.Kind.placed g.S.Value.PartialEq.eq g.met.S.Value.Eq.laws (g.R.ReadsParts.reader c.args.reader.now)
+    c.args.form c.args.value.now xs (sym c.in-Some.ensures) c.loop-at.at (g.S.Store.pairs c.loop-at.all) c.loop-at.invariant
     entry (at_place xs c.loop-at.at entry here c.index-entries-at.is) (rw c.in_default-found.is at c.in_ok-found.ensures.ok)
 
 pub returns-in_default-found-clause-exact : goal.returns-in_default-found-clause-exact
 returns-in_default-found-clause-exact g c =
-    refused_for_memory g.M.Kind.Interval.kind g.met.M.Kind.Kind.placed g.M.Value.PartialEq.eq g.met.M.Value.Eq.laws (g.R.ReadsParts.reader c.args.reader.now) (g.R.ReadsParts.unambiguous c.args.reader.now)
+    refused_for_memory g.S.Kind.Kind.kind g.met.S.Kind.Kind.placed g.S.Value.PartialEq.eq g.met.S.Value.Eq.laws (g.R.ReadsParts.reader c.args.reader.now) (g.R.ReadsParts.unambiguous c.args.reader.now)
     c.args.value.now c.args.form _ (returns-in_default-found-clause-err g c)
 
 pub returns-in_err-check_form-clause-err : goal.returns-in_err-check_form-clause-err
@@ -54,19 +54,19 @@ returns-in_err-check_form-clause-err g c =
     let left = err_from_is_err_and c.from_residual-in_err-check_form.result c.from_residual-in_err-check_form.ensures.1 in
     let why = c.in_err-check_form.ensures.err in
     rw (left.1, left.2)
-    (refused_order g.M.Kind.Interval.kind g.met.M.Kind.Kind.placed g.M.Value.PartialEq.eq g.met.M.Value.Eq.laws (g.R.ReadsParts.reader c.args.reader.now)
-    c.args.form c.args.value.now xs (sym c.in-Some.ensures) c.loop-at.at (g.M.Container.pairs c.loop-at.all) c.loop-at.invariant
+    (refused_order g.S.Kind.Kind.kind g.met.S.Kind.Kind.placed g.S.Value.PartialEq.eq g.met.S.Value.Eq.laws (g.R.ReadsParts.reader c.args.reader.now)
+    c.args.form c.args.value.now xs (sym c.in-Some.ensures) c.loop-at.at (g.S.Store.pairs c.loop-at.all) c.loop-at.invariant
     entry (at_place xs c.loop-at.at entry here c.index-entries-at.is)
     (c.in-Some-found.range, c.in-Some-found.value) pair.1 pair.0
     why.0 why.1.0 why.1.1 c.in_err-check_form.field-0.0 why.1.2)
 
 pub returns-in_err-check_form-clause-exact : goal.returns-in_err-check_form-clause-exact
 returns-in_err-check_form-clause-exact g c =
-    let k = g.M.Kind.Interval.kind in
-    let eq = g.M.Value.PartialEq.eq in
+    let k = g.S.Kind.Kind.kind in
+    let eq = g.S.Value.PartialEq.eq in
     let r = g.R.ReadsParts.reader c.args.reader.now in
     IfErr-weaker c.from_residual-in_err-check_form.result (RefusesToRead k r eq c.args.form c.args.value.now) (IsRefusedForMemoryAlone k r eq c.args.form c.args.value.now)
-    (refused_for_memory k g.met.M.Kind.Kind.placed eq g.met.M.Value.Eq.laws r (g.R.ReadsParts.unambiguous c.args.reader.now) c.args.value.now c.args.form)
+    (refused_for_memory k g.met.S.Kind.Kind.placed eq g.met.S.Value.Eq.laws r (g.R.ReadsParts.unambiguous c.args.reader.now) c.args.value.now c.args.form)
     (returns-in_err-check_form-clause-err g c)
 
 pub returns-in_err-insert-clause-err : goal.returns-in_err-insert-clause-err
@@ -77,8 +77,8 @@ returns-in_err-insert-clause-err g c =
     let pair = rw c.in-Some-found.is at c.in_ok-found.ensures.ok in
     let left = err_from_is_err_and c.from_residual-in_err-insert.result c.from_residual-in_err-insert.ensures.1 in
     rw (left.1, left.2)
-    (refused_insert g.M.Kind.Interval.kind g.met.M.Kind.Kind.placed g.M.Value.PartialEq.eq g.met.M.Value.Eq.laws (g.R.ReadsParts.reader c.args.reader.now)
-    c.args.form c.args.value.now xs (sym c.in-Some.ensures) c.loop-at.at (g.M.Container.pairs c.loop-at.all) c.loop-at.invariant
+    (refused_insert g.S.Kind.Kind.kind g.met.S.Kind.Kind.placed g.S.Value.PartialEq.eq g.met.S.Value.Eq.laws (g.R.ReadsParts.reader c.args.reader.now)
+    c.args.form c.args.value.now xs (sym c.in-Some.ensures) c.loop-at.at (g.S.Store.pairs c.loop-at.all) c.loop-at.invariant
     entry (at_place xs c.loop-at.at entry here c.index-entries-at.is)
     (c.in-Some-found.range, c.in-Some-found.value) pair.1 pair.0 c.in_ok-check_form.ensures.ok)
 
@@ -89,10 +89,10 @@ loop-at-preserved g c =
     let here : c.loop-at.at < length xs = omega arith in
     let pair = rw c.in-Some-found.is at c.in_ok-found.ensures.ok in
     rw (take_more xs c.loop-at.at entry here, ← c.index-entries-at.is)
-    (Inserted-more g.M.Kind.Interval.kind g.met.M.Kind.Kind.placed g.M.Value.PartialEq.eq g.met.M.Value.Eq.laws (g.R.ReadsParts.reader c.args.reader.now)
-    c.args.form (take c.loop-at.at xs) (g.M.Container.pairs c.loop-at.all) c.loop-at.invariant
+    (Inserted-more g.S.Kind.Kind.kind g.met.S.Kind.Kind.placed g.S.Value.PartialEq.eq g.met.S.Value.Eq.laws (g.R.ReadsParts.reader c.args.reader.now)
+    c.args.form (take c.loop-at.at xs) (g.S.Store.pairs c.loop-at.all) c.loop-at.invariant
     entry (c.in-Some-found.range, c.in-Some-found.value) pair.1 pair.0
-    (g.M.Container.pairs c.insert.new.self) c.in_ok-check_form.ensures.ok c.in_ok-insert.ensures.ok)
+    (g.S.Store.pairs c.insert.new.self) c.in_ok-check_form.ensures.ok c.in_ok-insert.ensures.ok)
 
 pub returns-clause-ok : goal.returns-clause-ok
 returns-clause-ok g c =
@@ -103,6 +103,6 @@ returns-clause-ok g c =
       entries = xs;
       is_list = sym c.in-Some.ensures;
       inserted = inserted;
-      same = Inserted-same g.M.Kind.Interval.kind g.met.M.Kind.Kind.placed g.M.Value.PartialEq.eq g.met.M.Value.Eq.laws (g.R.ReadsParts.reader c.args.reader.now)
-          c.args.form xs (g.M.Container.pairs c.loop-at.all) inserted;
+      same = Inserted-same g.S.Kind.Kind.kind g.met.S.Kind.Kind.placed g.S.Value.PartialEq.eq g.met.S.Value.Eq.laws (g.R.ReadsParts.reader c.args.reader.now)
+          c.args.form xs (g.S.Store.pairs c.loop-at.all) inserted;
     }

@@ -6,6 +6,6 @@ pub returns : goal.returns
 returns g c = (
   c.append_all.new.out,
   refl,
-  appended_alone g.M.Kind.Interval.kind g.M.Value.PartialEq.eq (g.M.Container.pairs c.args.map.now) c.new-pairs.result.items c.append_all.new.out.items c.new-pairs.ensures.items c.in_ok-append_all.ensures.ok,
+  appended_alone g.M.Kind.Kind.kind g.M.Value.PartialEq.eq (g.M.Container.pairs c.args.map.now) c.new-pairs.result.items c.append_all.new.out.items c.new-pairs.ensures.items c.in_ok-append_all.ensures.ok,
   refl,
 )

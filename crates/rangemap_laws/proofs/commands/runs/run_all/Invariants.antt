@@ -4,7 +4,7 @@ use Rattle.rangemap_laws.proofs.commands.runs.run_all.Given as goal
 
 abbrev pub invariant-loop-command : goal.invariant-loop-command
 invariant-loop-command g l = record {
-  ran : Ran (CommandStep g.M.Kind.Interval.kind g.M.Value.PartialEq.eq) (g.M.Container.pairs l.fn.map) l.yielded l.answers.items (g.M.Container.pairs l.map);
+  ran : Ran (CommandStep g.M.Kind.Kind.kind g.M.Value.PartialEq.eq) (g.M.Container.pairs l.fn.map) l.yielded l.answers.items (g.M.Container.pairs l.map);
   answered : vec_len l.answers ≡ length l.yielded;
   room : vec_len l.fn.commands ≤ vec_capacity l.answers;
 }

@@ -1,16 +1,15 @@
-use Rattle.std.proofs.Common.{subst}
 use Rattle.rangemap_core.specs.Ranges.{IsStorable}
-use Rattle.rangemap_laws.proofs.CallerLemmas.{defined_by_overlaps, none_meets_where_undefined, overlaps_some, undefined_where_none_meets}
+use Rattle.rangemap_laws.proofs.StoredKeyLemmas.{defined_by_overlaps, none_meets_where_undefined, overlaps_some, undefined_where_none_meets}
 use Rattle.rangemap_laws.proofs.laws.overlaps.overlaps_exactly_where_covered.Goals as goal
 
 pub returns : goal.returns
 returns g c =
-    let k = g.M.Kind.Interval.kind in
+    let k = g.M.Kind.Kind.kind in
     let p = g.met.M.Kind.Kind.placed in
     let eq = g.M.Value.PartialEq.eq in
     let q = c.args.range.now in
     let list = g.M.Container.pairs c.args.map.now in
-    let stored : IsStorable k q = record { start_is_key = subst k.is_key c.start.ensures c.known-2.ensures; end_is_key = subst k.is_key c.end.ensures c.known-3.ensures; non_empty = c.requires } in
+    let stored : IsStorable k q = record { start_is_key = c.known_ends.ensures.start_is_key; end_is_key = c.known_ends.ensures.end_is_key; non_empty = c.requires } in
     record {
       some = (defined_by_overlaps p eq q stored list c.known.ensures, overlaps_some p eq q stored list c.known.ensures);
       none = (undefined_where_none_meets p eq q stored list c.known.ensures, none_meets_where_undefined p eq q stored list c.known.ensures);

@@ -1,25 +1,25 @@
 use Rattle.rangemap_core.specs.Ranges.{value_at}
 use Rattle.rangemap_replay.specs.Joined.{joined, other_of}
-use Rattle.rangemap_operations.proofs.OperatorLemmas.{own, same_of}
+use Rattle.rangemap_core.proofs.OperatorLemmas.{own, same_of}
 use Rattle.rangemap_replay.proofs.JoinedLemmas.{joined_distributes, joined_of}
 use Rattle.rangemap_laws.proofs.laws.sets.distributes.Goals as goal
 
 pub returns-clause-left : goal.returns-clause-left
 returns-clause-left g c =
-    let k = g.M.Kind.Interval.kind in
+    let k = g.M.Kind.Kind.kind in
     let e = g.met.M.Value.Eq.laws in
-    joined_of c.args.operator.now k e (value_at g.M.Kind.Interval.kind (g.M.Container.pairs c.args.first.now)) (joined (other_of c.args.operator.now) (value_at g.M.Kind.Interval.kind (g.M.Container.pairs c.args.second.now)) (value_at g.M.Kind.Interval.kind (g.M.Container.pairs c.args.third.now))) _ _ _ (own k e (g.M.Container.pairs c.args.first.now) c.known.ensures) (rw c.other-other.ensures at c.in_ok-inner.ensures) c.in_ok-left.ensures
+    joined_of c.args.operator.now k e (value_at g.M.Kind.Kind.kind (g.M.Container.pairs c.args.first.now)) (joined (other_of c.args.operator.now) (value_at g.M.Kind.Kind.kind (g.M.Container.pairs c.args.second.now)) (value_at g.M.Kind.Kind.kind (g.M.Container.pairs c.args.third.now))) _ _ _ (own k e (g.M.Container.pairs c.args.first.now) c.known.ensures) (rw c.other-other.ensures at c.in_ok-inner.ensures) c.in_ok-left.ensures
 
 pub returns-clause-right : goal.returns-clause-right
 returns-clause-right g c =
-    let k = g.M.Kind.Interval.kind in
+    let k = g.M.Kind.Kind.kind in
     let e = g.met.M.Value.Eq.laws in
-    joined_of (other_of c.args.operator.now) k e (joined c.args.operator.now (value_at g.M.Kind.Interval.kind (g.M.Container.pairs c.args.first.now)) (value_at g.M.Kind.Interval.kind (g.M.Container.pairs c.args.second.now))) (joined c.args.operator.now (value_at g.M.Kind.Interval.kind (g.M.Container.pairs c.args.first.now)) (value_at g.M.Kind.Interval.kind (g.M.Container.pairs c.args.third.now))) _ _ _ c.in_ok-near.ensures c.in_ok-far.ensures (rw c.other-other.ensures at c.in_ok-right.ensures)
+    joined_of (other_of c.args.operator.now) k e (joined c.args.operator.now (value_at g.M.Kind.Kind.kind (g.M.Container.pairs c.args.first.now)) (value_at g.M.Kind.Kind.kind (g.M.Container.pairs c.args.second.now))) (joined c.args.operator.now (value_at g.M.Kind.Kind.kind (g.M.Container.pairs c.args.first.now)) (value_at g.M.Kind.Kind.kind (g.M.Container.pairs c.args.third.now))) _ _ _ c.in_ok-near.ensures c.in_ok-far.ensures (rw c.other-other.ensures at c.in_ok-right.ensures)
 
 pub returns-clause-equal : goal.returns-clause-equal
 returns-clause-equal g c =
-    let k = g.M.Kind.Interval.kind in
+    let k = g.M.Kind.Kind.kind in
     let e = g.met.M.Value.Eq.laws in
     let p = g.met.M.Kind.Kind.placed in
     let u = g.met.M.Combine.all_equal in
-    same_of k e p u _ _ _ _ (returns-clause-left g c) (returns-clause-right g c) (λ x. joined_distributes c.args.operator.now (value_at g.M.Kind.Interval.kind (g.M.Container.pairs c.args.first.now)) (value_at g.M.Kind.Interval.kind (g.M.Container.pairs c.args.second.now)) (value_at g.M.Kind.Interval.kind (g.M.Container.pairs c.args.third.now)) x)
+    same_of k e p u _ _ _ _ (returns-clause-left g c) (returns-clause-right g c) (λ x. joined_distributes c.args.operator.now (value_at g.M.Kind.Kind.kind (g.M.Container.pairs c.args.first.now)) (value_at g.M.Kind.Kind.kind (g.M.Container.pairs c.args.second.now)) (value_at g.M.Kind.Kind.kind (g.M.Container.pairs c.args.third.now)) x)

@@ -2,4 +2,4 @@ use Rattle.rangemap_core.specs.Ranges.{Overrides}
 use Rattle.rangemap_maps.proofs.range_map.Map.extend.Given as goal
 
 abbrev pub invariant-loop-range : goal.invariant-loop-range
-invariant-loop-range g l = Overrides g.Q.Interval.kind g.V.PartialEq.eq l.fn.self l.yielded l.self
+invariant-loop-range g l = Overrides g.S.Kind.Kind.kind g.S.Value.PartialEq.eq l.fn.self l.yielded l.self

@@ -1,5 +1,5 @@
-use Rattle.rangemap_core.proofs.StoredLemmas.{non_empty_at}
+use Rattle.rangemap_maps.proofs.FoundLemmas.{found_non_empty}
 use Rattle.rangemap_maps.proofs.range_map.Map.first_range_value.Goals as goal
 
-pub returns-in-Some-clause-non_empty : goal.returns-in-Some-clause-non_empty
-returns-in-Some-clause-non_empty g c = non_empty_at g.Q.Interval.kind g.V.PartialEq.eq _ _ c.self.invariant c.deref.ensures.value 0 _ c.in-Some.ensures.value
+pub returns-clause-non_empty : goal.returns-clause-non_empty
+returns-clause-non_empty g c = found_non_empty g.S.Kind.Kind.kind g.S.Value.PartialEq.eq (g.S.Store.pairs c.self.inside.stored) c.known.ensures 0 c.first.result c.first.ensures

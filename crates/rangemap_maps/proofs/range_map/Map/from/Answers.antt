@@ -8,8 +8,8 @@ use Rattle.rangemap_maps.proofs.range_map.Map.from.Goals as goal
 
 pub from_iter-requires-clause-non_empty : goal.from_iter-requires-clause-non_empty
 from_iter-requires-clause-non_empty g c it h =
-    listed g.Q.Interval.kind into_iter_items h.3 it _ (h.0 ∙ c.in_ok-pairs.ensures.items) c.requires.non_empty
+    listed g.S.Kind.Kind.kind into_iter_items h.3 it _ (h.0 ∙ c.in_ok-pairs.ensures.items) c.requires.non_empty
 
 pub returns : goal.returns
 returns g c =
-    IfOk-weaker c.from_iter.result _ _ (λ all h. subst (λ (ps : List (g.row.R.Denot × g.row.V.Denot)). IsCanonOf g.Q.Interval.kind g.V.PartialEq.eq (override_all g.Q.Interval.kind nothing ps) all) (All-taken h.0 h.1 h.3 ∙ (h.2.0 ∙ c.in_ok-pairs.ensures.items)) h.4) c.from_iter.ensures
+    IfOk-weaker c.from_iter.result _ _ (λ all h. subst (λ (ps : List (g.row.S-Range.Denot × g.row.S-Value.Denot)). IsCanonOf g.S.Kind.Kind.kind g.S.Value.PartialEq.eq (override_all g.S.Kind.Kind.kind nothing ps) all) (All-taken h.0 h.1 h.3 ∙ (h.2.0 ∙ c.in_ok-pairs.ensures.items)) h.4) c.from_iter.ensures

@@ -3,4 +3,4 @@ use Rattle.rangemap.proofs.MapLemmas.{fed}
 use Rattle.rangemap.proofs.range_set.compare.SetHash.hash.Goals as goal
 
 pub returns : goal.returns
-returns g c = c.hash.ensures ∙ ap (fold g.H.Hasher.write c.args.state.now) (fed g.Q.Interval.kind _ _ c.self.view_is g.T.Hash.hash_input)
+returns g c = c.feed.ensures ∙ ap (fold g.H.Hasher.write c.args.state.now) (fed g.S.Kind.Kind.kind _ _ c.self.view_is g.S.Range.Key.Hash.hash_input)

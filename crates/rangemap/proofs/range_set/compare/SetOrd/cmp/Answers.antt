@@ -3,4 +3,4 @@ use Rattle.rangemap.proofs.MapLemmas.{compared}
 use Rattle.rangemap.proofs.range_set.compare.SetOrd.cmp.Goals as goal
 
 pub returns : goal.returns
-returns g c = c.cmp.ensures ∙ compared g.Q.Interval.kind _ _ c.self.view_is _ _ c.other.view_is
+returns g c = c.compare.ensures ∙ compared g.S.Kind.Kind.kind _ _ c.self.view_is _ _ c.other.view_is

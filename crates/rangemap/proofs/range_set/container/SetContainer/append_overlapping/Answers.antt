@@ -1,6 +1,16 @@
 use Rattle.std.proofs.lemmas.Result.{on_ok_weaker}
 use Rattle.rangemap.proofs.MapLemmas.{overlapped_with_unit}
+use Rattle.rangemap_core.proofs.StoredLemmas.{all_storable}
+use Rattle.rangemap_core.proofs.AppendLemmas.{met_storable}
+use Rattle.std.proofs.Common.{true}
 use Rattle.rangemap.proofs.range_set.container.SetContainer.append_overlapping.Goals as goal
 
+pub read_overlapping-requires : goal.read_overlapping-requires
+read_overlapping-requires g c = (
+  met_storable g.S.Kind.Kind.kind (λ _ _. true) c.args.range.now _ (all_storable g.S.Kind.Kind.kind _ _ c.known.ensures),
+  c.requires.faithful_keys,
+  c.requires.faithful_values,
+)
+
 pub returns-clause-ok : goal.returns-clause-ok
-returns-clause-ok g c = on_ok_weaker c.append_overlapping.result (overlapped_with_unit g.Q.Interval.kind _ _ c.self.view_is c.args.range.now _ _) c.append_overlapping.ensures.ok
+returns-clause-ok g c = on_ok_weaker c.read_overlapping.result (overlapped_with_unit g.S.Kind.Kind.kind _ _ c.self.view_is c.args.range.now _ _) c.read_overlapping.ensures.0

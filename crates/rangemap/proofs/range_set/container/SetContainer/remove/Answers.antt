@@ -1,13 +1,13 @@
 use Rattle.std.proofs.Common.{ap}
 use Rattle.std.proofs.lemmas.Result.{on_ok_weaker}
 use Rattle.rangemap_core.specs.Ranges.{with_unit}
-use Rattle.rangemap_operations.proofs.SetLemmas.{met_none, removed}
+use Rattle.rangemap_unions.proofs.SetLemmas.{met_none, removed}
 use Rattle.rangemap.proofs.range_set.container.SetContainer.remove.Goals as goal
 
 pub returns-clause-ok : goal.returns-clause-ok
-returns-clause-ok g c = on_ok_weaker c.remove.result (removed g.Q.Interval.kind c.args.self.now c.remove.new.self c.args.range) c.remove.ensures.ok
+returns-clause-ok g c = on_ok_weaker c.remove.result (removed g.S.Kind.Kind.kind c.args.self.now c.remove.new.self c.args.range) c.remove.ensures.ok
 
 pub returns-clause-meets_nothing : goal.returns-clause-meets_nothing
 returns-clause-meets_nothing g c none =
-    let kept = c.remove.ensures.meets_nothing (met_none g.Q.Interval.kind c.args.self.now c.args.range none) in
-    (kept.0, ap (with_unit g.Q.Interval.kind) kept.1)
+    let kept = c.remove.ensures.meets_nothing (met_none g.S.Kind.Kind.kind c.args.self.now c.args.range none) in
+    (kept.0, ap (with_unit g.S.Kind.Kind.kind) kept.1)

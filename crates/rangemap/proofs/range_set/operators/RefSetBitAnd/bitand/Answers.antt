@@ -1,6 +1,16 @@
-use Rattle.std.proofs.Common.{◌∙◌}
-use Rattle.rangemap_operations.proofs.InsertLemmas.{added_to_none}
+use Rattle.std.proofs.Common.{ap}
+use Rattle.rangemap_core.specs.Sets.{ranges}
+use Rattle.rangemap_unions.proofs.UnitValueLemmas.{canonical_ranges}
+use Rattle.rangemap.proofs.MapLemmas.{intersected}
 use Rattle.rangemap.proofs.range_set.operators.RefSetBitAnd.bitand.Goals as goal
 
+pub read_both-requires : goal.read_both-requires
+read_both-requires g c = (
+  c.requires,
+  canonical_ranges g.S.Kind.Kind.kind _ c.known.ensures,
+  canonical_ranges g.S.Kind.Kind.kind _ c.known-2.ensures,
+  ap ranges c.empty-stored.ensures,
+)
+
 pub returns : goal.returns
-returns g c = added_to_none g.met.Q.SetKind.has_places _ _ _ _ (c.all.view_is ∙ c.new-all.ensures) c.intersection.ensures.points c.in_ok-insert_items.ensures
+returns g c = intersected g.S.Kind.Kind.kind _ _ c.self.view_is _ _ _ c.other.view_is c.in_ok-read_both.ensures

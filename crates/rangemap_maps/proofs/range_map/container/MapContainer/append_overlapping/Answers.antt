@@ -1,8 +1,13 @@
+use Rattle.std.proofs.Common.{sym, subst}
+use Rattle.rangemap_core.specs.engine.Stretch.{Every}
+use Rattle.rangemap_core.specs.Ranges.{IsStorable}
 use Rattle.rangemap_core.proofs.AppendLemmas.{met_storable}
 use Rattle.rangemap_core.proofs.StoredLemmas.{all_storable}
 use Rattle.rangemap_maps.proofs.range_map.container.MapContainer.append_overlapping.Goals as goal
 
-pub append_pairs-requires-clause-stored : goal.append_pairs-requires-clause-stored
-append_pairs-requires-clause-stored g c =
-    rw (c.overlapped.ensures)
-    (met_storable g.Q.Interval.kind g.V.PartialEq.eq c.args.range.now c.as_slice.result.now (all_storable g.Q.Interval.kind g.V.PartialEq.eq c.as_slice.result.now (rw (c.as_slice.ensures.value) c.self.invariant)))
+pub read_overlapping-requires : goal.read_overlapping-requires
+read_overlapping-requires g c = (
+  met_storable g.S.Kind.Kind.kind g.S.Value.PartialEq.eq c.args.range.now _ (subst (Every (λ pair. IsStorable g.S.Kind.Kind.kind pair.0)) (sym c.self.view_is) (all_storable g.S.Kind.Kind.kind g.S.Value.PartialEq.eq _ c.known.ensures)),
+  c.requires.faithful_keys,
+  c.requires.faithful_values,
+)

@@ -1,0 +1,5 @@
+mod CidrLemmas
+mod ExtentLemmas
+mod MemoryLemmas
+mod RingLemmas
+mod WordLemmas

@@ -1,0 +1,7 @@
+use Rattle.std.proofs.Common.{◌≤◌, ℕ, All}
+use Rattle.std.specs.Map.Iter.{deref}
+use Rattle.std.specs.declared.ops.Range.{Range}
+use Rattle.examples.proofs.calling.is_below.Given as goal
+
+abbrev pub invariant-loop-range : goal.invariant-loop-range
+invariant-loop-range l = All (λ item. (deref {X = Range ℕ} item).end ≤ l.limit) l.yielded

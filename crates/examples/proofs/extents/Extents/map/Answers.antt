@@ -1,0 +1,15 @@
+use Rattle.std.proofs.Common.{arith, ◌+◌, ◌-◌, ◌%◌, ◌^◌}
+use Rattle.examples.proofs.ExtentLemmas.{after_either, one_to_one_mapped}
+use Rattle.examples.proofs.RingLemmas.{lies_within}
+use Rattle.examples.specs.Places.{IsOneToOne}
+use Rattle.examples.proofs.extents.Extents.map.Goals as goal
+
+pub invariant_of-self : goal.invariant_of-self
+invariant_of-self c =
+    let more = c.args.count - 1 in
+    record {
+      one_to_one = after_either IsOneToOne c.args.self.now.shifts c.insert.new.self c.insert.result
+          (one_to_one_mapped c.args.self.now.shifts c.insert.new.self c.new.result ((c.args.physical + (2 ^ 32 - c.args.logical)) % 2 ^ 32) c.args.physical (c.args.physical + more) c.args.self.now.one_to_one (c.is_used.ensures.free c.if-is_used.false)
+          (λ block from to. lies_within c.args.logical c.args.physical more block c.ranges.logical.fits (omega (arith, c.requires.physical_fits, c.requires.some)) (omega (arith, c.new.ensures.start)) (omega (arith, c.new.ensures.end))))
+          c.args.self.now.one_to_one c.insert.ensures.ok c.insert.ensures.err;
+    }

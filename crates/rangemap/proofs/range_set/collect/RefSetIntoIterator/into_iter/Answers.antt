@@ -1,0 +1,10 @@
+use Rattle.std.proofs.Common.{ap, sym, ◌∙◌}
+use Rattle.rangemap_core.specs.Sets.{ranges}
+use Rattle.rangemap.proofs.MapLemmas.{canonical}
+use Rattle.rangemap.proofs.range_set.collect.RefSetIntoIterator.into_iter.Goals as goal
+
+pub over-requires : goal.over-requires
+over-requires g c = g.met.S.Kind.Kind.canonical_unstepped _ (canonical g.S.Kind.Kind.kind _ _ (ap ranges (sym c.iter.ensures)) c.known.ensures)
+
+pub returns : goal.returns
+returns g c = record { into_iter_gives = (c.over.ensures ∙ ap ranges c.iter.ensures ∙ c.self.view_is, canonical g.S.Kind.Kind.kind _ _ c.self.view_is c.known.ensures) }

@@ -1,0 +1,155 @@
+//! Closed ranges as a kind.
+//!
+//! A step is asked of a key only where a greater or smaller key was seen, which is a condition of
+//! the step: so nothing here steps past the last key of a type. Whether two ranges touch is told by
+//! `touch_test_inclusive` of `std_ext`, which stands beside the test of `a..b`.
+ghost use Rattle.std.specs.Prelude.{◌≡◌, IfOk};
+ghost use Rattle.std.specs.declared.cmp.Ordering.TheVariants.{Equal as EqualWord};
+ghost use Rattle.rangemap_core.specs.Clones.{KeysCloneFaithfully};
+ghost use Rattle.rangemap_core.specs.engine.Endpoints.{AtEnd, AtStart, IsAsked, IsAskedAt, endpoint_of, is_before};
+ghost use Rattle.rangemap_core.specs.engine.ClosedEndpoints.{closed_first, closed_last};
+ghost use Rattle.rangemap_core.specs.engine.ClosedPlaces.{closed_end_place};
+ghost use Rattle.rangemap_core.specs.Ranges.{closed};
+ghost use Rattle.rangemap_core.specs.engine.Steppable.{HasFirst, HasLast};
+
+use crate::kind::{Endpoint, Kind, OwnSteps};
+use crate::std_ext::{StepFns, StepLite, Touch, touch_test_inclusive};
+use std::alloc::AllocError;
+use std::marker::PhantomData;
+use std::ops::RangeInclusive;
+
+/// The ranges `a..=b`, over keys whose steps are `StepFnsT`.
+pub struct Closed<StepFnsT>(PhantomData<StepFnsT>);
+
+impl<K: Ord + Clone, StepFnsT: StepFns<K>> Kind<RangeInclusive<K>> for Closed<StepFnsT> {
+    ghost use Rattle.rangemap_core.specs.engine.IntervalKinds.{closed_interval};
+    ghost use Rattle.rangemap_core.specs.Ranges.{closed};
+    ghost use Rattle.rangemap_core.specs.Clones.{KeysCloneFaithfully};
+    ghost use Rattle.rangemap_core.specs.engine.Endpoints.{endpoint_of, is_before};
+    ghost use Rattle.rangemap_core.specs.engine.ClosedEndpoints.{closed_part, closed_placed};
+    ghost use Rattle.rangemap_core.specs.engine.Unstepped.{canonical_unstepped};
+    ghost use Rattle.rangemap_core.specs.MadeRanges.{IsSame};
+    ghost use Rattle.rangemap_core.specs.operations.PlaceKinds.{closed_has_places};
+    ghost use Rattle.rangemap_core.specs.engine.ClosedPlaces.{closed_end_place};
+    ghost use Rattle.std.specs.Prelude.{◌≡◌, true, IfOk, refl};
+
+    ghost kind = { closed StepFnsT.is_key K.cmp };
+
+    ghost end_place = { closed_end_place StepFnsT.after };
+
+    ghost part_of = { closed_part StepFnsT.after StepFnsT.before };
+
+    ghost placed = { closed_placed StepFnsT.is_key K.cmp K.total StepFnsT.after StepFnsT.before StepFnsT.follows StepFnsT.precedes };
+
+    ghost interval = { closed_interval K.total StepFnsT.is_key };
+
+    ghost non_empty = { λ range h f. (h, f) };
+
+    ghost has_key_of = { λ range h. h.0 };
+
+    ghost is_fresh_of = { λ range h. h.1 };
+
+    ghost reads = { record { start = λ r. refl; end = λ r. refl; cmp = λ x y. refl; holds = λ r x. refl } };
+
+    ghost has_places = { closed_has_places K.cmp K.total StepFnsT.is_key };
+
+    ghost canonical_unstepped = { canonical_unstepped StepFnsT.is_key K.cmp };
+
+    ghost non_empty_stepped = { λ range h. h };
+
+    fn known(key: &K) {
+        StepFnsT::known(key)
+    }
+
+    fn touch_test(first: &RangeInclusive<K>, second: &RangeInclusive<K>) -> Touch {
+        touch_test_inclusive::<K, StepFnsT>(first, second)
+    }
+
+    fn is_before(from: Endpoint<'_, RangeInclusive<K>>, to: Endpoint<'_, RangeInclusive<K>>) -> bool
+        ensures { result ≡ is_before (closed StepFnsT.is_key K.cmp) (closed_end_place StepFnsT.after) (endpoint_of from.entry) (endpoint_of to.entry) }
+    {
+        known_at::<K, StepFnsT>(from);
+        known_at::<K, StepFnsT>(to);
+        match (from, to) {
+            (Endpoint::Start(from), Endpoint::Start(to)) => from.start().cmp(to.start()).is_lt(),
+            (Endpoint::Start(from), Endpoint::End(to)) => from.start().cmp(to.end()).is_le(),
+            (Endpoint::End(from), Endpoint::Start(to)) => { is_apart::<K, StepFnsT>(from, to) }
+            (Endpoint::End(from), Endpoint::End(to)) => from.end().cmp(to.end()).is_lt(),
+        }
+    }
+
+    fn part(
+        from: Endpoint<'_, RangeInclusive<K>>,
+        to: Endpoint<'_, RangeInclusive<K>>,
+    ) -> Result<RangeInclusive<K>, AllocError>
+        requires is_before { is_before (closed StepFnsT.is_key K.cmp) (closed_end_place StepFnsT.after) (endpoint_of from) (endpoint_of to) ≡ true }
+        requires faithful_keys { KeysCloneFaithfully K.is_clone K.cmp }
+        ensures { IfOk result (IsSame (closed StepFnsT.is_key K.cmp) (closed_part StepFnsT.after StepFnsT.before (endpoint_of from.entry) (endpoint_of to.entry))) }
+    {
+        known_at::<K, StepFnsT>(from);
+        known_at::<K, StepFnsT>(to);
+        let start = first_key::<K, StepFnsT>(from)?;
+        let end = last_key::<K, StepFnsT>(to)?;
+        StepFnsT::known(&start);
+        StepFnsT::known(&end);
+        Ok(RangeInclusive::new(start, end))
+    }
+}
+
+impl<K: StepLite + Clone> OwnSteps<RangeInclusive<K>> for Closed<K> {}
+
+// Whether the first range lies wholly before the second, with a key between.
+fn is_apart<K: Ord + Clone, StepFnsT: StepFns<K>>(
+    first: &RangeInclusive<K>,
+    second: &RangeInclusive<K>,
+) -> bool
+    requires first { IsAsked (closed StepFnsT.is_key K.cmp) first.now }
+    requires second { IsAsked (closed StepFnsT.is_key K.cmp) second.now }
+    ensures { result ≡ is_before (closed StepFnsT.is_key K.cmp) (closed_end_place StepFnsT.after) (AtEnd first.now) (AtStart second.now) }
+{
+    match touch_test_inclusive::<K, StepFnsT>(first, second) {
+        Touch::Apart => true,
+        Touch::Touching => false,
+        Touch::NotBefore => false,
+    }
+}
+
+// Does nothing, and tells that the ends of the endpoint's range are keys.
+fn known_at<K: Ord + Clone, StepFnsT: StepFns<K>>(endpoint: Endpoint<'_, RangeInclusive<K>>)
+    ensures { IsAskedAt (closed StepFnsT.is_key K.cmp) (endpoint_of endpoint.entry) }
+{
+    match endpoint {
+        Endpoint::Start(range) | Endpoint::End(range) => {
+            StepFnsT::known(range.start());
+            StepFnsT::known(range.end());
+        }
+    }
+}
+
+// The first key behind the endpoint.
+fn first_key<K: Ord + Clone, StepFnsT: StepFns<K>>(
+    from: Endpoint<'_, RangeInclusive<K>>,
+) -> Result<K, AllocError>
+    requires has_first { HasFirst StepFnsT.is_key K.cmp (endpoint_of from) }
+    requires faithful_keys { KeysCloneFaithfully K.is_clone K.cmp }
+    ensures { IfOk result (λ key. K.cmp (closed_first StepFnsT.after (endpoint_of from.entry)) key ≡ EqualWord) }
+{
+    match from {
+        Endpoint::Start(range) => range.start().clone(),
+        Endpoint::End(range) => Ok(StepFnsT::add_one(range.end())),
+    }
+}
+
+// The last key before the endpoint.
+fn last_key<K: Ord + Clone, StepFnsT: StepFns<K>>(
+    to: Endpoint<'_, RangeInclusive<K>>,
+) -> Result<K, AllocError>
+    requires has_last { HasLast StepFnsT.is_key K.cmp (endpoint_of to) }
+    requires faithful_keys { KeysCloneFaithfully K.is_clone K.cmp }
+    ensures { IfOk result (λ key. K.cmp (closed_last StepFnsT.before (endpoint_of to.entry)) key ≡ EqualWord) }
+{
+    match to {
+        Endpoint::Start(range) => Ok(StepFnsT::sub_one(range.start())),
+        Endpoint::End(range) => range.end().clone(),
+    }
+}

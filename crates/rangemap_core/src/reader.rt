@@ -1,0 +1,53 @@
+//! What is done with all pairs of a store, or of two, written once for every store.
+ghost use Rattle.std.specs.Prelude.{List, ⊤};
+
+use crate::key_range::KeyRange;
+use crate::pair_iter::PairIter;
+
+/// What reads pairs, one after another: it changes a state and gives an answer.
+///
+/// A store hands its pairs to a reader (`Store::read`), since code over any store can't name the
+/// iterators that it lends: order, hash, texts and the JSON form are readers.
+pub trait Reader<R: KeyRange, V> {
+    /// What it changes.
+    type State;
+
+    /// What it answers.
+    type Answer;
+
+    /// What it asks of the pairs and of its state.
+    ghost may_read: { List (R × V) → Self.State → Type 0 } = { λ _ _. ⊤ };
+
+    /// What it makes of a list of pairs: the state before, the answer, and the state after.
+    ghost reads: { List (R × V) → Self.State → Self.Answer → Self.State → Type 0 };
+
+    /// Reads the pairs.
+    fn read<I: PairIter<Range = R, Value = V>>(pairs: I, state: &mut Self::State) -> Self::Answer
+        requires { may_read (I.left pairs) state.old }
+        ensures { reads (I.left pairs) state.old result state.new };
+}
+
+/// What reads the pairs of two stores side by side (`Store::read_both`): equality, order, unions and
+/// intersections.
+pub trait ReaderOfBoth<R: KeyRange, V> {
+    /// What it changes.
+    type State;
+
+    /// What it answers.
+    type Answer;
+
+    /// What it asks of the pairs of either and of its state.
+    ghost may_read: { List (R × V) → List (R × V) → Self.State → Type 0 } = { λ _ _ _. ⊤ };
+
+    /// What it makes of two lists of pairs: the state before, the answer, and the state after.
+    ghost reads: { List (R × V) → List (R × V) → Self.State → Self.Answer → Self.State → Type 0 };
+
+    /// Reads the pairs of either.
+    fn read<I: PairIter<Range = R, Value = V>>(
+        left: I,
+        right: I,
+        state: &mut Self::State,
+    ) -> Self::Answer
+        requires { may_read (I.left left) (I.left right) state.old }
+        ensures { reads (I.left left) (I.left right) state.old result state.new };
+}

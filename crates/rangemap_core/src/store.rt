@@ -1,0 +1,216 @@
+//! What keeps the pairs of a map or a set: a sorted vector, a tree, chunks.
+//!
+//! `Store` is all that a representation has to do. `Map` and `Set` make every public call of it, so
+//! a store has no `extend`, no comparison, no text and no JSON form of its own.
+ghost use Rattle.std.specs.Prelude.{◌≡◌, ◌-◌, ◌+◌, ◌≤◌, List, [], IfOk, IsOk, OnErr, OnOk, length, map, slice_get, true};
+ghost use Rattle.std.specs.Iterator.{at_most};
+ghost use Rattle.std.specs.Map.Iter.{TakesFirst, TakesLast};
+ghost use Rattle.std.specs.Option.{option_map};
+ghost use Rattle.rangemap_core.specs.Appends.{AppendsGaps};
+ghost use Rattle.rangemap_core.specs.Clones.{KeysCloneFaithfully, ValuesCloneFaithfully};
+ghost use Rattle.rangemap_core.specs.Ranges.{AreGaps, IsCanonOf, IsCanonical, covering, erase, overlapped, override, same_pairs, value_at};
+
+use crate::key_range::KeyRange;
+use crate::kind::Kind;
+use crate::pair_iter::PairIter;
+use crate::reader::{Reader, ReaderOfBoth};
+use std::alloc::{AllocError, Allocator};
+use std::iter::{DoubleEndedIterator, ExactSizeIterator, Iterator};
+
+/// What keeps pairs of a range and a value, as a canonical list.
+///
+/// A bound that one representation alone has stands at its impl.
+pub trait Store {
+    /// A stored range.
+    type Range: KeyRange;
+
+    /// What a range is mapped to.
+    type Value: Eq + Clone;
+
+    /// The kind of the ranges.
+    type Kind: Kind<Self::Range>;
+
+    /// What the memory comes from.
+    type Alloc: Allocator;
+
+    /// The stored pairs, in order.
+    ghost pairs: { Self → List (Self.Range × Self.Value) };
+
+    /// Does nothing, and tells that the list is canonical.
+    fn known(&self)
+        ensures { IsCanonical Self.Kind.kind Self.Value.eq (pairs self.now) };
+
+    /// Returns the empty store, whose memory comes from `alloc`. It takes none yet.
+    fn empty(alloc: Self::Alloc) -> Self
+        ensures { pairs result ≡ [] };
+
+    /// Returns what the memory comes from.
+    fn allocator(&self) -> &Self::Alloc;
+
+    /// Gives every key of `range` the `value`, whatever it had before.
+    ///
+    /// # Errors
+    ///
+    /// Memory, or a clone of a key or value, was refused: then the store is as it was.
+    fn insert(&mut self, range: Self::Range, value: Self::Value) -> Result<(), AllocError>
+        requires non_empty { Self.Kind.kind.IsNonEmpty range }
+        requires faithful_keys { KeysCloneFaithfully Self.Range.Key.is_clone Self.Range.Key.cmp }
+        requires faithful_values { ValuesCloneFaithfully Self.Value.is_clone Self.Value.eq }
+        ensures ok { OnOk result (IsCanonOf Self.Kind.kind Self.Value.eq (override Self.Kind.kind (value_at Self.Kind.kind (pairs self.old)) range value) (pairs self.new)) }
+        ensures err { OnErr result (pairs self.new ≡ pairs self.old) }
+        ensures growth { OnOk result (length (pairs self.new) ≤ length (pairs self.old) + 2) }
+        ensures growth_where_all_are_equal { OnOk result (((v w : Self.Value) → Self.Value.eq v w ≡ true) → length (pairs self.new) ≤ length (pairs self.old) + 1) };
+
+    /// Takes every key of `range` out. Where no stored range overlaps it, the call takes no memory,
+    /// succeeds and changes nothing.
+    ///
+    /// # Errors
+    ///
+    /// As for `insert`.
+    fn remove(&mut self, range: Self::Range) -> Result<(), AllocError>
+        requires non_empty { Self.Kind.kind.IsNonEmpty range }
+        requires faithful_keys { KeysCloneFaithfully Self.Range.Key.is_clone Self.Range.Key.cmp }
+        requires faithful_values { ValuesCloneFaithfully Self.Value.is_clone Self.Value.eq }
+        ensures ok { OnOk result (IsCanonOf Self.Kind.kind Self.Value.eq (erase Self.Kind.kind (value_at Self.Kind.kind (pairs self.old)) range) (pairs self.new)) }
+        ensures err { OnErr result (pairs self.new ≡ pairs self.old) }
+        ensures growth { OnOk result (length (pairs self.new) ≤ length (pairs self.old) + 1) }
+        ensures meets_nothing { overlapped Self.Kind.kind (pairs self.old) range ≡ [] → IsOk result × (pairs self.new ≡ pairs self.old) };
+
+    /// Takes every key out. It takes no memory.
+    fn clear(&mut self)
+        ensures { pairs self.new ≡ [] };
+
+    /// Returns the number of stored ranges.
+    fn len(&self) -> usize
+        ensures { result ≡ length (pairs self.now) };
+
+    /// Returns the stored range that has the key, and its value, if there is one.
+    fn covering(&self, key: &<Self::Range as KeyRange>::Key) -> Option<(&Self::Range, &Self::Value)>
+        ensures { option_map (λ pair. (pair.0.now, pair.1.now)) result ≡ covering Self.Kind.kind (pairs self.now) key.now };
+
+    /// Returns the first stored range and its value, if there is one.
+    fn first(&self) -> Option<(&Self::Range, &Self::Value)>
+        ensures { option_map (λ pair. (pair.0.now, pair.1.now)) result ≡ slice_get (pairs self.now) 0 };
+
+    /// Returns the last stored range and its value, if there is one.
+    fn last(&self) -> Option<(&Self::Range, &Self::Value)>
+        ensures { option_map (λ pair. (pair.0.now, pair.1.now)) result ≡ slice_get (pairs self.now) (length (pairs self.now) - 1) };
+
+    /// Makes an equal store out of clones, in memory of `alloc`, which is a clone of this store's own
+    /// allocator. A store that is cloned whole, as a tree is, may make clones of its own besides.
+    ///
+    /// # Errors
+    ///
+    /// Memory or a clone was refused.
+    fn copy(&self, alloc: Self::Alloc) -> Result<Self, AllocError>
+        requires faithful_keys { KeysCloneFaithfully Self.Range.Key.is_clone Self.Range.Key.cmp }
+        requires faithful_values { ValuesCloneFaithfully Self.Value.is_clone Self.Value.eq }
+        ensures same { IfOk result (λ copy. same_pairs Self.Kind.kind Self.Value.eq (pairs self.now) (pairs copy) ≡ true) }
+        ensures canon { IfOk result (λ copy. IsCanonOf Self.Kind.kind Self.Value.eq (value_at Self.Kind.kind (pairs self.now)) (pairs copy)) };
+
+    /// Has all pairs read, in order.
+    fn read<U: Reader<Self::Range, Self::Value>>(&self, state: &mut U::State) -> U::Answer
+        requires { U.may_read (pairs self.now) state.old }
+        ensures { U.reads (pairs self.now) state.old result state.new };
+
+    /// Has the pairs of this store and of another one read side by side.
+    fn read_both<U: ReaderOfBoth<Self::Range, Self::Value>>(
+        &self,
+        other: &Self,
+        state: &mut U::State,
+    ) -> U::Answer
+        requires { U.may_read (pairs self.now) (pairs other.now) state.old }
+        ensures { U.reads (pairs self.now) (pairs other.now) state.old result state.new };
+
+    /// Has the pairs read that overlap `range`, in order. Nothing is asked of `range`.
+    fn read_overlapping<U: Reader<Self::Range, Self::Value>>(
+        &self,
+        range: &Self::Range,
+        state: &mut U::State,
+    ) -> U::Answer
+        requires { U.may_read (overlapped Self.Kind.kind (pairs self.now) range.now) state.old }
+        ensures { U.reads (overlapped Self.Kind.kind (pairs self.now) range.now) state.old result state.new };
+
+    /// Appends the parts of `outer_range` that no stored range covers, in order. Nothing is asked of
+    /// `outer_range`.
+    ///
+    /// # Errors
+    ///
+    /// A clone of a key, or the growth of `out`, was refused: then `out` is as it was.
+    fn append_gaps<B: Allocator>(
+        &self,
+        outer_range: &Self::Range,
+        out: &mut Vec<Self::Range, B>,
+    ) -> Result<(), AllocError>
+        requires faithful_keys { KeysCloneFaithfully Self.Range.Key.is_clone Self.Range.Key.cmp }
+        ensures ok { OnOk result (AppendsGaps Self.Kind.kind (map (λ pair. pair.0) (pairs self.now)) outer_range.now out.old.items out.new.items) }
+        ensures err { OnErr result (out.new.items ≡ out.old.items) };
+}
+
+/// A store that hands its pairs over.
+///
+/// It is a trait of its own: with an owned iterator in `Store`, each crate that names a map would
+/// have to prove how its pairs are dropped.
+pub trait HandsOver: Store {
+    /// The pairs that are handed over, in order and from both ends.
+    type IntoIter: DoubleEndedIterator<Item = (Self::Range, Self::Value)>
+        + ExactSizeIterator
+        + Drop;
+
+    /// The pairs that are still to come.
+    ghost owned: { Self.IntoIter → List (Self.Range × Self.Value) };
+
+    /// Hands all pairs over.
+    fn into_pairs(self) -> Self::IntoIter
+        ensures pairs { owned result ≡ Self.pairs self }
+        ensures canonical { IsCanonical Self.Kind.kind Self.Value.eq (Self.pairs self) };
+
+    /// The iterator may always be asked.
+    ghost asks: { (it : Self.IntoIter) → Self.IntoIter.can_next it };
+
+    /// At its back, too.
+    ghost asks_back: { (it : Self.IntoIter) → Self.IntoIter.can_next_back it };
+
+    /// It gives the pairs from the front.
+    ghost takes: { (it : Self.IntoIter) (taken : _) (rest : Self.IntoIter) → Self.IntoIter.next_gives it taken rest → TakesFirst (λ pair. pair) (owned it) taken (owned rest) };
+
+    /// And from the back.
+    ghost takes_back: { (it : Self.IntoIter) (taken : _) (rest : Self.IntoIter) → Self.IntoIter.next_back_gives it taken rest → TakesLast (λ pair. pair) (owned it) taken (owned rest) };
+
+    /// As many come as are left.
+    ghost counts: { (it : Self.IntoIter) → Self.IntoIter.remaining it ≡ at_most (length (owned it)) };
+}
+
+/// A store that lends its pairs for `'a`.
+pub trait Lends<'a>: Store
+where
+    Self::Range: 'a,
+    Self::Value: 'a,
+{
+    /// The pairs, in order and from both ends.
+    type Iter: PairIter<Range = Self::Range, Value = Self::Value, Lent = &'a Self::Range>
+        + DoubleEndedIterator<Item = (&'a Self::Range, &'a Self::Value)>;
+
+    /// The pairs that overlap a range, in order and from both ends.
+    type Overlapping: PairIter<Range = Self::Range, Value = Self::Value, Lent = &'a Self::Range>
+        + DoubleEndedIterator<Item = (&'a Self::Range, &'a Self::Value)>;
+
+    /// The parts of a range that no stored range covers, in order.
+    type Gaps: Iterator<Item = Result<Self::Range, AllocError>> + Drop;
+
+    /// The parts that are still to come.
+    ghost between: { Self.Gaps → List Self.Range };
+
+    /// Returns all pairs.
+    fn iter(&'a self) -> Self::Iter
+        ensures { Self.Iter.left result ≡ Self.pairs self.now };
+
+    /// Returns the pairs that overlap `range`, of which nothing is asked.
+    fn overlapping(&'a self, range: &'a Self::Range) -> Self::Overlapping
+        ensures { Self.Overlapping.left result ≡ overlapped Self.Kind.kind (Self.pairs self.now) range.now };
+
+    /// Returns the parts of `outer_range` that no stored range covers. Nothing is asked of
+    /// `outer_range`.
+    fn gaps(&'a self, outer_range: &'a Self::Range) -> Self::Gaps
+        ensures { AreGaps Self.Kind.kind (map (λ pair. pair.0) (Self.pairs self.now)) outer_range.now (between result) };
+}

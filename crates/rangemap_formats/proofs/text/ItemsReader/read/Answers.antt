@@ -1,0 +1,18 @@
+use Rattle.std.proofs.Common.{◌≡◌, ◌∷◌, Ok, refl}
+use Rattle.std.specs.Fmt.{◌++?◌}
+use Rattle.rangemap_formats.specs.Texts.{others_text}
+use Rattle.rangemap_formats.proofs.DisplayLemmas.{displays_from, shows_from, shows_then, shows_twin}
+use Rattle.rangemap_formats.proofs.text.ItemsReader.read.Goals as goal
+
+pub returns : goal.returns
+returns g c =
+    let took = g.W.Write.write_str_gives in
+    let text = g.T.PairText.text in
+    let pair = g.I.PairIter.shows c.in-Some.first in
+    let others = g.I.PairIter.left c.next.new.self in
+    let taken : g.I.PairIter.left c.args.pairs ≡ pair ∷ others = rw c.in-Some.is at (g.met.I.PairIter.takes _ _ _ c.next.ensures.steps) in
+    let read : text (c.range_of.result.now, c.value_of.result.now) ≡ text pair = λ i. text (c.range_of.ensures i, c.value_of.ensures i) in
+    rw taken (displays_from took c.args.f.now c.write_others.new.f c.write_others.result (text pair ++? others_text text others) (λ plain ok.
+    shows_then took c.args.f.now c.write_pair.new.f c.write_others.new.f (text pair) (others_text text others)
+    (shows_twin took c.args.f.now c.write_pair.new.f (Ok tt) (text (c.range_of.result.now, c.value_of.result.now)) (text pair) read c.in_ok-write_pair.ensures plain refl)
+    (λ p. shows_from took c.write_pair.new.f c.write_others.new.f c.write_others.result (others_text text others) c.write_others.ensures p ok)))

@@ -1,0 +1,118 @@
+//! Equality and order of what two stores hold, pair by pair: a store hands its pairs and those of
+//! another to a reader of both, so that no store compares pairs itself.
+ghost use Rattle.std.specs.Prelude.{◌≡◌};
+ghost use Rattle.rangemap_core.specs.ListOrder.{pair_cmp, pairs_cmp};
+ghost use Rattle.rangemap_core.specs.Ranges.{same_pairs};
+
+use rangemap_core::key_range::KeyRange;
+use rangemap_core::kind::Kind;
+use rangemap_core::pair_iter::PairIter;
+use rangemap_core::pairs::is_same;
+use rangemap_core::reader::ReaderOfBoth;
+use rangemap_core::store::Store;
+use std::cmp::Ordering;
+use std::iter::Iterator;
+use std::marker::PhantomData;
+
+/// Returns whether two stores hold equal pairs. It compares their numbers first, and stops at the
+/// first two pairs that differ.
+pub fn are_same<S: Store>(left: &S, right: &S) -> bool
+    ensures { result ≡ same_pairs S.Kind.kind S.Value.eq (S.pairs left.now) (S.pairs right.now) }
+{
+    left.len() == right.len() && left.read_both::<Same<S::Kind>>(right, &mut ())
+}
+
+/// Returns how two stores lie to one another: by the first two pairs that differ, else by how many
+/// pairs they hold.
+pub fn compare<S: Store<Value: Ord>>(left: &S, right: &S) -> Ordering
+    ensures { result ≡ pairs_cmp S.Kind.kind S.Value.cmp (S.pairs left.now) (S.pairs right.now) }
+{
+    left.read_both::<Compared<S::Kind>>(right, &mut ())
+}
+
+// Tells whether the pairs of either are equal.
+struct Same<Q>(PhantomData<Q>);
+
+impl<Q: Kind<R>, R: KeyRange, V: Eq> ReaderOfBoth<R, V> for Same<Q> {
+    ghost use Rattle.std.specs.Prelude.{◌≡◌};
+    ghost use Rattle.rangemap_core.specs.Ranges.{same_pairs};
+
+    type State = ();
+
+    type Answer = bool;
+
+    ghost reads = { λ left right _ result _. result ≡ same_pairs Q.kind V.eq left right };
+
+    fn read<I: PairIter<Range = R, Value = V>>(left: I, right: I, _state: &mut ()) -> bool {
+        let (mut ours, mut theirs) = (left, right);
+        'pairs: while let Some(our) = ours.next() {
+            let Some(their) = theirs.next() else {
+                return false;
+            };
+            let (range, value) = (I::range_of(&their), I::value_of(&their));
+            if !is_same::<Q, R, V>(I::range_of(&our), I::value_of(&our), range, value) {
+                return false;
+            }
+        }
+        theirs.next().is_none()
+    }
+}
+
+// Finds how the pairs of one lie to those of the other.
+struct Compared<Q>(PhantomData<Q>);
+
+impl<Q: Kind<R>, R: KeyRange, V: Ord> ReaderOfBoth<R, V> for Compared<Q> {
+    ghost use Rattle.std.specs.Prelude.{◌≡◌};
+    ghost use Rattle.rangemap_core.specs.ListOrder.{pairs_cmp};
+
+    type State = ();
+
+    type Answer = Ordering;
+
+    ghost reads = { λ left right _ result _. result ≡ pairs_cmp Q.kind V.cmp left right };
+
+    fn read<I: PairIter<Range = R, Value = V>>(left: I, right: I, _state: &mut ()) -> Ordering {
+        let (mut ours, mut theirs) = (left, right);
+        'pairs: while let Some(our) = ours.next() {
+            let Some(their) = theirs.next() else {
+                return Ordering::Greater;
+            };
+            let (range, value) = (I::range_of(&their), I::value_of(&their));
+            let found = compare_pairs::<Q, R, V>(
+                I::range_of(&our),
+                I::value_of(&our),
+                range,
+                value,
+            );
+            if found.is_ne() {
+                return found;
+            }
+        }
+        if theirs.next().is_none() {
+            Ordering::Equal
+        } else {
+            Ordering::Less
+        }
+    }
+}
+
+// How two pairs lie to one another: by the starts, where these are equal by the ends, and where the
+// ranges are equal by the values.
+fn compare_pairs<Q: Kind<R>, R: KeyRange, V: Ord>(
+    range: &R,
+    value: &V,
+    other: &R,
+    other_value: &V,
+) -> Ordering
+    ensures { result ≡ pair_cmp Q.kind V.cmp (range.now, value.now) (other.now, other_value.now) }
+{
+    let starts = range.start().cmp(other.start());
+    if starts.is_ne() {
+        return starts;
+    }
+    let ends = range.end().cmp(other.end());
+    if ends.is_ne() {
+        return ends;
+    }
+    value.cmp(other_value)
+}

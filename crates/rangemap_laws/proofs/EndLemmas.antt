@@ -1,0 +1,53 @@
+-- Three calls of an iterator that makes its items out of clones, one of them the end.
+use Rattle.std.proofs.Common.{arith, ◌≡◌, ℕ, ◌<◌, ◌≤◌, Option, Some, None, Result, Ok, Err, IfOk, refl, ap, ◌∙◌}
+use Rattle.std.specs.Prelude.{IfNone, IsNone, OnSome}
+use Rattle.std.specs.declared.alloc.AllocError.{AllocError}
+use Rattle.rangemap_laws.specs.IteratorEnds.{GoesToEnd, TriesToEnd}
+
+module _ {S : Type 0} (left : S → ℕ) where
+  goes_down : {A : Type 0} (s t : S) (r : Option A) → GoesToEnd left s r t → left t ≤ left s
+  goes_down s t None h = let same : left t ≡ left s = ap left h.1 in omega (arith, same)
+  goes_down s t (Some x) h = omega (arith, h)
+
+  tries_down : {B : Type 0} (s t : S) (q : Result (Option B) AllocError) → TriesToEnd left s q t → left t ≤ left s
+  tries_down s t (Ok None) h = let same : left t ≡ left s = ap left h.1 in omega (arith, same)
+  tries_down s t (Ok (Some x)) h = omega (arith, h)
+  tries_down s t (Err e) h = let same : left t ≡ left s = ap left h.1 in omega (arith, same)
+
+  ended : {A : Type 0} (s t : S) (r : Option A) → left s ≡ 0 → GoesToEnd left s r t → IsNone r × (t ≡ s)
+  ended s t None none h = (refl, h.1)
+  ended s t (Some x) none h = absurd (omega (arith, none, h))
+
+  tries_ended : {B : Type 0} (s t : S) (q : Result (Option B) AllocError) → left s ≡ 0 → TriesToEnd left s q t → (q ≡ Ok None) × (t ≡ s)
+  tries_ended s t (Ok None) none h = (refl, h.1)
+  tries_ended s t (Ok (Some x)) none h = absurd (omega (arith, none, h))
+  tries_ended s t (Err e) none h = absurd (h.0 none)
+
+  module _ {A B : Type 0} (s t u v : S) where
+    -- `next`, `try_next`, `next`
+    pub next_ends : (r : Option A) (q : Result (Option B) AllocError) (p : Option A) → GoesToEnd left s r t → TriesToEnd left t q u → GoesToEnd left u p v → OnSome r (left v < left s)
+    next_ends None q p a b c = tt
+    next_ends (Some x) q p a b c = omega (arith, a, tries_down t u q b, goes_down u v p c)
+
+    pub next_stays : (r : Option A) (q : Result (Option B) AllocError) (p : Option A) → GoesToEnd left s r t → TriesToEnd left t q u → GoesToEnd left u p v → IfNone r ((left s ≡ 0) × (q ≡ Ok None) × IsNone p × (v ≡ s))
+    next_stays (Some x) q p a b c = tt
+    next_stays None q p a b c =
+        let none : left t ≡ 0 = ap left a.1 ∙ a.0 in
+        let tried = tries_ended t u q none b in
+        let last = ended u v p (ap left tried.1 ∙ none) c in
+        (a.0, tried.0, last.0, last.1 ∙ tried.1 ∙ a.1)
+
+    -- `try_next` twice, and `next`
+    pub tries_end : (r q : Result (Option B) AllocError) (p : Option A) → TriesToEnd left s r t → TriesToEnd left t q u → GoesToEnd left u p v → IfOk r (λ answer. OnSome answer (left v < left s))
+    tries_end (Ok None) q p a b c = tt
+    tries_end (Ok (Some x)) q p a b c = omega (arith, a, tries_down t u q b, goes_down u v p c)
+    tries_end (Err e) q p a b c = tt
+
+    pub tries_stay : (r q : Result (Option B) AllocError) (p : Option A) → TriesToEnd left s r t → TriesToEnd left t q u → GoesToEnd left u p v → IfOk r (λ answer. IfNone answer ((left s ≡ 0) × (q ≡ Ok None) × IsNone p × (v ≡ s)))
+    tries_stay (Ok None) q p a b c =
+        let none : left t ≡ 0 = ap left a.1 ∙ a.0 in
+        let tried = tries_ended t u q none b in
+        let last = ended u v p (ap left tried.1 ∙ none) c in
+        (a.0, tried.0, last.0, last.1 ∙ tried.1 ∙ a.1)
+    tries_stay (Ok (Some x)) q p a b c = tt
+    tries_stay (Err e) q p a b c = tt

@@ -1,0 +1,24 @@
+//! What maps and sets ask of all pairs that a query overlaps.
+ghost use Rattle.std.specs.Prelude.{◌≡◌, length, nat_lt};
+
+use rangemap_core::key_range::KeyRange;
+use rangemap_core::pair_iter::PairIter;
+use rangemap_core::reader::Reader;
+
+/// Tells whether there is a pair.
+pub struct IsAny;
+
+impl<R: KeyRange, V> Reader<R, V> for IsAny {
+    ghost use Rattle.std.specs.Prelude.{◌≡◌, length, nat_lt};
+
+    type State = ();
+
+    type Answer = bool;
+
+    ghost reads = { λ pairs _ result _. result ≡ nat_lt 0 (length pairs) };
+
+    fn read<I: PairIter<Range = R, Value = V>>(pairs: I, _state: &mut ()) -> bool {
+        let mut rest = pairs;
+        rest.peek().is_some()
+    }
+}

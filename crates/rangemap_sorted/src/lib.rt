@@ -1,0 +1,18 @@
+//! The pairs of a map or a set in one sorted vector.
+//!
+//! The engine goes over slices of pairs, for any kind of range: the search by halving, what a query
+//! meets, gaps, and the changes, which make every clone and all room that they need first.
+//! `SortedVec` is the store that `Map` and `Set` stand on.
+#![tactic(auto)]
+
+pub mod entries;
+pub mod gaps;
+pub mod into_iter;
+pub mod iter;
+pub mod overlapping;
+mod probe;
+mod search;
+pub mod sorted_vec;
+pub mod splice;
+
+pub use sorted_vec::SortedVec;

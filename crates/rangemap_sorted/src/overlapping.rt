@@ -1,0 +1,286 @@
+//! The pairs that overlap a range: for queries an iterator over them, for changes their places.
+//!
+//! Where they begin, and where those of a change end, is searched for among the starts, as a lookup
+//! does. Where those of a query end is searched for over whole pairs, by std's `partition_point`: the
+//! iterator knows how its ranges are read, and no kind of range that the search asks for.
+ghost use Rattle.std.specs.Prelude.{◌≡◌, ◌<◌, ◌≤◌, ◌∷◌, [], IfSome, MatchOption, None as NoneWord, true, false, length, take_while};
+ghost use Rattle.std.specs.List.{AllWithin};
+ghost use Rattle.std.specs.List.Sorted.{IsPartitionedBy};
+ghost use Rattle.std.specs.Iterator.{UpTo, at_most};
+ghost use Rattle.std.specs.Iterator.SizeHint.{IsWithinCount};
+ghost use Rattle.std.specs.Map.Iter.{TakesFirst, TakesLast, deref_pair};
+ghost use Rattle.rangemap_core.specs.engine.Intervals.{is_begun};
+ghost use Rattle.rangemap_core.specs.Ranges.{IsCanonical, overlapped};
+ghost use Rattle.rangemap_core.specs.engine.Shape.{PassesUpTo, shape_of};
+ghost use Rattle.rangemap_core.specs.engine.Stretch.{IsOverlap, ends_by, starts_within};
+
+use crate::search::starts_up_to;
+use rangemap_core::key_range::KeyRange;
+use rangemap_core::kind::{Endpoint, Kind, known_ends};
+use rangemap_core::pair_iter::PairIter;
+use std::iter::{DoubleEndedIterator, Iterator};
+use std::marker::Model;
+use std::ops::Range;
+
+/// The pairs that overlap a range, in order.
+///
+/// One search finds the first of them, when this is made. `next` stops at the first pair that
+/// starts behind the range. Their end is searched for when the back is first asked for, and only
+/// then.
+#[derive(Drop)]
+pub struct Overlapping<'a, R: KeyRange, V> {
+    // The pairs that are left, from the first that overlaps the query on. Those that overlap it
+    // come first: they start before it ends.
+    pairs: &'a [(R, V)],
+    query: &'a R,
+    // Whether the end was searched for. Then all of these pairs overlap the query.
+    is_bounded: bool,
+}
+
+impl<'a, R: KeyRange, V> Model for Overlapping<'a, R, V> {
+    ghost use Rattle.std.specs.Prelude.{◌≡◌, List, false, if◌then◌else◌, take_while};
+    ghost use Rattle.std.specs.List.Sorted.{IsPartitionedBy};
+    ghost use Rattle.rangemap_core.specs.engine.Intervals.{is_begun};
+
+    ghost Value = { List (R × V) };
+
+    ghost view = { λ s. if s.is_bounded then s.pairs.now else take_while (is_begun R.read R.has_end s.query.now) s.pairs.now };
+
+    ghost invariant = { λ s. s.is_bounded ≡ false → IsPartitionedBy (is_begun R.read R.has_end s.query.now) s.pairs.now };
+}
+
+impl<'a, R: KeyRange, V: Eq> Overlapping<'a, R, V> {
+    /// Returns the pairs of a canonical list that overlap the query, which may be empty or
+    /// reversed.
+    pub fn new<Q: Kind<R>>(pairs: &'a [(R, V)], query: &'a R) -> Self
+        requires { IsCanonical Q.kind V.eq pairs.now }
+        ensures { result ≡ overlapped Q.kind pairs.now query.now }
+    {
+        Overlapping {
+            pairs: overlapping_tail::<Q, R, V>(pairs, query),
+            query,
+            is_bounded: false,
+        }
+    }
+}
+
+impl<'a, R: KeyRange, V> Iterator for Overlapping<'a, R, V> {
+    type Item = (&'a R, &'a V);
+
+    ghost next_gives = { TakesFirst deref_pair };
+
+    ghost remaining = { λ s. at_most (length s) };
+
+    fn next(&mut self) -> Option<(&'a R, &'a V)> {
+        let (pair, rest) = self.pairs.split_first()?;
+        if self.is_bounded || self.query.reaches(pair.0.start()) {
+            self.pairs = rest;
+            Some((&pair.0, &pair.1))
+        } else {
+            None
+        }
+    }
+
+    fn size_hint(&self) -> (usize, Option<usize>)
+        ensures lower { IsWithinCount result.0 (at_most (length self.now)) }
+        ensures upper { IfSome result.1 (UpTo (at_most (length self.now))) }
+        ensures exact { result ≡ (0, NoneWord) }
+    {
+        (0, None)
+    }
+}
+
+impl<'a, R: KeyRange, V> DoubleEndedIterator for Overlapping<'a, R, V> {
+    ghost next_back_gives = { TakesLast deref_pair };
+
+    fn next_back(&mut self) -> Option<(&'a R, &'a V)> {
+        if !self.is_bounded {
+            self.pairs = take_begun::<R, V>(self.pairs, self.query);
+            self.is_bounded = true;
+        }
+        let (pair, rest) = self.pairs.split_last()?;
+        self.pairs = rest;
+        Some((&pair.0, &pair.1))
+    }
+}
+
+impl<'a, R: KeyRange, V> PairIter for Overlapping<'a, R, V> {
+    ghost use Rattle.std.specs.Map.Iter.{deref, deref_pair};
+    ghost use Rattle.std.specs.Prelude.{None as NoneWord, refl};
+    ghost use Rattle.rangemap_core.specs.laws.Hints.{none_within};
+
+    type Range = R;
+
+    type Value = V;
+
+    type Lent = &'a R;
+
+    ghost left = { λ it. it };
+
+    ghost shows = { deref_pair };
+
+    ghost lent = { deref };
+
+    ghost hinted = { λ _. (0, NoneWord) };
+
+    ghost hinted_within = { none_within };
+
+    fn lend(item: (&'a R, &'a V)) -> &'a R {
+        item.0
+    }
+
+    fn range_of<'b>(item: &'b (&'a R, &'a V)) -> &'b R {
+        item.0
+    }
+
+    fn value_of<'b>(item: &'b (&'a R, &'a V)) -> &'b V {
+        item.1
+    }
+
+    fn range<'b>(reference: &'b &'a R) -> &'b R {
+        reference
+    }
+
+    fn peek(&mut self) -> Option<&'a R> {
+        if self.is_bounded {
+            let (pair, _) = self.pairs.split_first()?;
+            return Some(&pair.0);
+        }
+        let (pair, _) = split_begun(self.pairs, self.query)?;
+        Some(&pair.0)
+    }
+
+    fn hint(&self) -> (usize, Option<usize>) {
+        self.size_hint()
+    }
+
+    ghost asks = { λ it. tt };
+
+    ghost asks_back = { λ it. tt };
+
+    ghost ends = { λ it. tt };
+
+    ghost counts = { λ it. refl };
+
+    ghost takes = { λ it taken rest h. h };
+
+    ghost takes_back = { λ it taken rest h. h };
+}
+
+// The pairs of a canonical list from the first that overlaps the query on. Of these the ones that
+// overlap it come first: those that start before it ends.
+pub(crate) fn overlapping_tail<'a, Q: Kind<R>, R: KeyRange, V: Eq>(
+    pairs: &'a [(R, V)],
+    query: &R,
+) -> &'a [(R, V)]
+    requires { IsCanonical Q.kind V.eq pairs.now }
+    ensures overlapped { take_while (is_begun R.read R.has_end query.now) result.now ≡ overlapped Q.kind pairs.now query.now }
+    ensures begun_first { IsPartitionedBy (is_begun R.read R.has_end query.now) result.now }
+{
+    known_ends::<Q, R>(query);
+    &pairs[overlap_start::<Q, R, V>(pairs, query)..]
+}
+
+// The first pair and those behind it, if it starts before the query ends.
+pub(crate) fn split_begun<'a, R: KeyRange, V>(
+    pairs: &'a [(R, V)],
+    query: &R,
+) -> Option<(&'a (R, V), &'a [(R, V)])>
+    ensures begun { MatchOption result (take_while (is_begun R.read R.has_end query.now) pairs.now ≡ []) (λ split. take_while (is_begun R.read R.has_end query.now) pairs.now ≡ split.0.now ∷ take_while (is_begun R.read R.has_end query.now) split.1.now) }
+    ensures shorter { IfSome result (λ split. length split.1.now < length pairs.now) }
+{
+    let (first, rest) = pairs.split_first()?;
+    if query.reaches(first.0.start()) {
+        Some((first, rest))
+    } else {
+        None
+    }
+}
+
+// The pairs that start before the query ends, where these come first: by std's search, which sees
+// whole pairs.
+fn take_begun<'a, R: KeyRange, V>(pairs: &'a [(R, V)], query: &R) -> &'a [(R, V)]
+    requires { IsPartitionedBy (is_begun R.read R.has_end query.now) pairs.now }
+    ensures { result.now ≡ take_while (is_begun R.read R.has_end query.now) pairs.now }
+{
+    let count = pairs.partition_point(|pair| query.reaches(pair.0.start()));
+    &pairs[..count]
+}
+
+/// Returns the places of the pairs that overlap a range which is to be changed.
+pub fn overlap<Q: Kind<R>, R: KeyRange, V: Eq>(pairs: &[(R, V)], range: &R) -> Range<usize>
+    requires { IsCanonical Q.kind V.eq pairs.now }
+    ensures { IsOverlap (shape_of Q.kind Q.end_place V.eq) pairs.now range.now result.start result.end }
+{
+    let start = overlap_start::<Q, R, V>(pairs, range);
+    start..overlap_end::<Q, R, V>(pairs, range, start)
+}
+
+// The place of the first pair that ends after the query starts.
+//
+// Of the pairs that start no later than the query, only the last can reach past its start: a search
+// among the starts and one look find the place. The look compiles to no branch: where a query
+// begins one answer is as likely as the other, so a branch would be guessed wrong every other time.
+fn overlap_start<Q: Kind<R>, R: KeyRange, V: Eq>(pairs: &[(R, V)], query: &R) -> usize
+    requires { IsCanonical Q.kind V.eq pairs.now }
+    ensures bound { result ≤ length pairs.now }
+    ensures point { PassesUpTo (ends_by (shape_of Q.kind Q.end_place V.eq) query.now) pairs.now result }
+{
+    let near = starts_up_to::<Q, R, V>(pairs, query.start());
+    if near == 0 {
+        return 0;
+    }
+    let reaches = Q::is_before(Endpoint::Start(query), Endpoint::End(&pairs[near - 1].0));
+    near - usize::from(reaches)
+}
+
+// Up to how many pairs are looked at one by one for the end of an overlap. A change mostly meets no
+// more, and then a look at each is shorter than a search among all.
+const LOOKED_AT: usize = 4;
+
+// How far on from a place the pairs start before the query ends.
+fn overlap_end<Q: Kind<R>, R: KeyRange, V: Eq>(pairs: &[(R, V)], query: &R, start: usize) -> usize
+    requires canonical { IsCanonical Q.kind V.eq pairs.now }
+    requires in_bounds { start ≤ length pairs.now }
+    ensures start { start ≤ result }
+    ensures bound { result ≤ length pairs.now }
+    ensures begun { AllWithin (λ b. starts_within (shape_of Q.kind Q.end_place V.eq) query.now b ≡ true) pairs.now start result }
+    ensures later { AllWithin (λ b. starts_within (shape_of Q.kind Q.end_place V.eq) query.now b ≡ false) pairs.now result (length pairs.now) }
+{
+    let end = Endpoint::End(query);
+    if LOOKED_AT < pairs.len() - start
+        && Q::is_before(Endpoint::Start(&pairs[start + LOOKED_AT].0), end)
+    {
+        return searched_end::<Q, R, V>(pairs, query, start);
+    }
+    let mut at = start;
+    'on: while at < pairs.len() {
+        if !Q::is_before(Endpoint::Start(&pairs[at].0), end) {
+            return at;
+        }
+        at += 1;
+    }
+    at
+}
+
+// The end of an overlap, by a search.
+//
+// Of the pairs that start no later than the query's end, only the last can start there, and it
+// overlaps only where the end is a point of the query. So a search among the starts and one look
+// find the end.
+fn searched_end<Q: Kind<R>, R: KeyRange, V: Eq>(pairs: &[(R, V)], query: &R, start: usize) -> usize
+    requires canonical { IsCanonical Q.kind V.eq pairs.now }
+    requires in_bounds { start ≤ length pairs.now }
+    ensures start { start ≤ result }
+    ensures bound { result ≤ length pairs.now }
+    ensures begun { AllWithin (λ b. starts_within (shape_of Q.kind Q.end_place V.eq) query.now b ≡ true) pairs.now start result }
+    ensures later { AllWithin (λ b. starts_within (shape_of Q.kind Q.end_place V.eq) query.now b ≡ false) pairs.now result (length pairs.now) }
+{
+    known_ends::<Q, R>(query);
+    let near = starts_up_to::<Q, R, V>(pairs, query.end());
+    if near == 0 {
+        return start;
+    }
+    let begins = Q::is_before(Endpoint::Start(&pairs[near - 1].0), Endpoint::End(query));
+    (near - usize::from(!begins)).max(start)
+}

@@ -1,0 +1,79 @@
+//! The search for a key among stored starts, by halving.
+ghost use Rattle.std.specs.Prelude.{◌≡◌, ◌+◌, ◌*◌, ◌^◌, ◌<◌, ◌≤◌, true, false, length};
+ghost use Rattle.std.specs.List.{All};
+ghost use Rattle.std.specs.List.Sorted.{IsPartitionedBy};
+ghost use Rattle.rangemap_core.specs.Ranges.{IsCanonical};
+ghost use Rattle.rangemap_core.specs.engine.Shape.{PassesUpTo, is_up_to, starts_by_key};
+
+use crate::probe::Probe;
+use rangemap_core::key_range::KeyRange;
+use rangemap_core::kind::Kind;
+use std::cmp::Ordering;
+
+/// Returns how many of the pairs of a canonical list start no later than the key.
+pub fn starts_up_to<'a, Q: Kind<R>, R: KeyRange + 'a, V: Eq + 'a>(
+    pairs: &'a [(R, V)],
+    key: &R::Key,
+) -> usize
+    requires { IsCanonical Q.kind V.eq pairs.now }
+    ensures bound { result ≤ length pairs.now }
+    ensures point { PassesUpTo (starts_by_key Q.kind key.now) pairs.now result }
+{
+    let mut probe: Probe<'a, Q, R, V> = Probe::new(pairs);
+    count_up_to(&mut probe, key)
+}
+
+/// Returns how many starts are not after the key. The probe is fresh, and counts what is asked.
+///
+/// The count is made of powers of two, from the greatest that is no more than the number of starts
+/// down to 1: each is added where the start before the sum is not after the key. That takes one ask
+/// for each power.
+pub fn count_up_to<'a, Q: Kind<R>, R: KeyRange + 'a, V>(
+    probe: &mut Probe<'a, Q, R, V>,
+    key: &R::Key,
+) -> usize
+    requires rising { IsPartitionedBy (is_up_to Q.kind.cmp key.now) probe.old.0 }
+    requires fresh { probe.old.1 ≡ 0 }
+    ensures starts { probe.new.0 ≡ probe.old.0 }
+    ensures bound { result ≤ length probe.old.0 }
+    ensures point { PassesUpTo (is_up_to Q.kind.cmp key.now) probe.old.0 result }
+    ensures none_asked { length probe.old.0 ≡ 0 → probe.new.1 ≡ 0 }
+    ensures asked { 0 < length probe.old.0 → 1 ≤ probe.new.1 }
+    ensures few_asked { 0 < length probe.old.0 → 2 ^ probe.new.1 ≤ 2 * length probe.old.0 }
+{
+    let len = probe.len();
+    if len == 0 {
+        return 0;
+    }
+    let places = len.ilog2();
+    let whole = 1usize << places;
+    let mut base = 0;
+    if is_up_to::<Q, R>(probe.start(len - whole), key) {
+        base = len - whole + 1;
+    }
+    let mut half = whole;
+    'halves: while 1 < half {
+        half /= 2;
+        // This never turns. In a loop that has no other within, LLVM makes a branch of the
+        // conditional move below.
+        'fits: while len < base + half {
+            half >>= 1;
+        }
+        let next = base + half;
+        if is_up_to::<Q, R>(probe.start(next - 1), key) {
+            base = next;
+        }
+    }
+    base
+}
+
+// The start is not after the key.
+#[inline(always)]
+fn is_up_to<Q: Kind<R>, R: KeyRange>(start: &R::Key, key: &R::Key) -> bool
+    ensures { result ≡ is_up_to Q.kind.cmp key.now start.now }
+{
+    match key.cmp(start) {
+        Ordering::Less => false,
+        _ => true,
+    }
+}

@@ -1,0 +1,178 @@
+//! The store in one sorted vector.
+ghost use Rattle.std.specs.Prelude.{◌≡◌};
+
+use crate::entries::{changes, covering};
+use crate::gaps::Gaps;
+use crate::into_iter::IntoIter;
+use crate::iter::Iter;
+use crate::overlapping::Overlapping;
+use rangemap_core::container::append_gaps;
+use rangemap_core::key_range::KeyRange;
+use rangemap_core::kind::Kind;
+use rangemap_core::pairs::clone_pair;
+use rangemap_core::reader::{Reader, ReaderOfBoth};
+use rangemap_core::store::{HandsOver, Lends, Store};
+use std::alloc::{AllocError, Allocator};
+use std::marker::{Model, PhantomData};
+
+/// Pairs of a range and a value in one sorted vector.
+///
+/// It is the fastest store of up to some two thousand ranges, and wherever ranges come in order: an
+/// insert at the end moves nothing, one before it moves the pairs behind.
+#[derive(Drop)]
+pub struct SortedVec<Q: Kind<R>, R: KeyRange, V: Eq + Clone, A: Allocator> {
+    pairs: Vec<(R, V), A>,
+    kind: PhantomData<Q>,
+}
+
+impl<Q: Kind<R>, R: KeyRange, V: Eq + Clone, A: Allocator> Model for SortedVec<Q, R, V, A> {
+    ghost use Rattle.std.specs.Prelude.{List};
+    ghost use Rattle.rangemap_core.specs.Ranges.{IsCanonical};
+
+    ghost Value = { List (R × V) };
+
+    ghost view = { λ s. s.pairs.items };
+
+    ghost invariant = { λ s. IsCanonical Q.kind V.eq s.pairs.items };
+}
+
+impl<Q: Kind<R>, R: KeyRange, V: Eq + Clone, A: Allocator> Store for SortedVec<Q, R, V, A> {
+    type Range = R;
+
+    type Value = V;
+
+    type Kind = Q;
+
+    type Alloc = A;
+
+    ghost pairs = { λ s. s };
+
+    fn known(&self) {
+        let _pairs = &self.pairs;
+    }
+
+    fn empty(alloc: A) -> Self {
+        SortedVec {
+            pairs: Vec::new(alloc),
+            kind: PhantomData,
+        }
+    }
+
+    fn allocator(&self) -> &A {
+        self.pairs.allocator()
+    }
+
+    fn insert(&mut self, range: R, value: V) -> Result<(), AllocError> {
+        changes::insert::<Q, R, V, A>(&mut self.pairs, range, value)
+    }
+
+    fn remove(&mut self, range: R) -> Result<(), AllocError> {
+        changes::remove::<Q, R, V, A>(&mut self.pairs, range)
+    }
+
+    fn clear(&mut self) {
+        self.pairs.clear();
+    }
+
+    fn len(&self) -> usize {
+        self.pairs.len()
+    }
+
+    fn covering(&self, key: &R::Key) -> Option<(&R, &V)> {
+        let pair = covering::<Q, R, V>(&self.pairs, key).0?;
+        Some((&pair.0, &pair.1))
+    }
+
+    fn first(&self) -> Option<(&R, &V)> {
+        let pair = self.pairs.first()?;
+        Some((&pair.0, &pair.1))
+    }
+
+    fn last(&self) -> Option<(&R, &V)> {
+        let pair = self.pairs.last()?;
+        Some((&pair.0, &pair.1))
+    }
+
+    fn copy(&self, alloc: A) -> Result<Self, AllocError> {
+        let mut pairs = Vec::with_capacity(alloc, self.pairs.len())?;
+        for pair in &self.pairs {
+            pairs.push_reserved(clone_pair::<Q, R, V>(&pair.0, &pair.1)?);
+        }
+        Ok(SortedVec {
+            pairs,
+            kind: PhantomData,
+        })
+    }
+
+    fn read<U: Reader<R, V>>(&self, state: &mut U::State) -> U::Answer {
+        U::read(Iter::over(&self.pairs), state)
+    }
+
+    fn read_both<U: ReaderOfBoth<R, V>>(&self, other: &Self, state: &mut U::State) -> U::Answer {
+        U::read(Iter::over(&self.pairs), Iter::over(&other.pairs), state)
+    }
+
+    fn read_overlapping<U: Reader<R, V>>(&self, range: &R, state: &mut U::State) -> U::Answer {
+        U::read(Overlapping::new::<Q>(&self.pairs, range), state)
+    }
+
+    fn append_gaps<B: Allocator>(
+        &self,
+        outer_range: &R,
+        out: &mut Vec<R, B>,
+    ) -> Result<(), AllocError> {
+        let gaps: Gaps<'_, Q, R, V> = Gaps::new(&self.pairs, outer_range);
+        append_gaps(gaps, out)
+    }
+}
+
+impl<Q: Kind<R>, R: KeyRange, V: Eq + Clone, A: Allocator> HandsOver for SortedVec<Q, R, V, A> {
+    ghost use Rattle.std.specs.Prelude.{refl};
+
+    type IntoIter = IntoIter<R, V, A>;
+
+    ghost owned = { λ it. it };
+
+    fn into_pairs(self) -> IntoIter<R, V, A> {
+        let SortedVec { pairs, kind: _ } = self;
+        IntoIter::over(pairs)
+    }
+
+    ghost asks = { λ it. tt };
+
+    ghost asks_back = { λ it. tt };
+
+    ghost takes = { λ it taken rest h. h };
+
+    ghost takes_back = { λ it taken rest h. h };
+
+    ghost counts = { λ it. refl };
+}
+
+impl<'a, Q: Kind<R>, R: KeyRange, V: Eq + Clone, A: Allocator> Lends<'a> for SortedVec<Q, R, V, A>
+where
+    R: 'a,
+    V: 'a,
+    Self::Range: 'a,
+    Self::Value: 'a,
+{
+    type Iter = Iter<'a, R, V>;
+
+    type Overlapping = Overlapping<'a, R, V>;
+
+    type Gaps = Gaps<'a, Q, R, V>;
+
+    ghost between = { λ it. it };
+
+    fn iter(&'a self) -> Iter<'a, R, V> {
+        Iter::over(&self.pairs)
+    }
+
+    fn overlapping(&'a self, range: &'a R) -> Overlapping<'a, R, V> {
+        Overlapping::new::<Q>(&self.pairs, range)
+    }
+
+    fn gaps(&'a self, outer_range: &'a R) -> Gaps<'a, Q, R, V> {
+        Gaps::new(&self.pairs, outer_range)
+    }
+}

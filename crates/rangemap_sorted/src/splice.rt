@@ -1,0 +1,126 @@
+//! A stretch of a vector replaced by up to three values.
+ghost use Rattle.std.specs.Prelude.{◌≡◌, ◌+◌, ◌-◌, ◌≤◌, ◌++◌, ◌∷◌, take, drop, length, IsOk, OnOk, OnErr, vec_len, vec_capacity};
+ghost use Rattle.std.specs.Option.{option_to_list};
+
+use crate::splice::turn::{turn_left, turn_right};
+use std::alloc::{AllocError, Allocator};
+use std::ops::Range;
+
+mod turn;
+
+/// Puts the values in the place of those at `places`, in order.
+///
+/// The values that stand behind the stretch are moved at most once, all together, and not at all
+/// where as many values come as go.
+///
+/// # Errors
+///
+/// The vector had to grow and could not. All memory is taken before the first change, so nothing
+/// changed then.
+pub fn splice<T: Drop, A: Allocator>(
+    list: &mut Vec<T, A>,
+    places: Range<usize>,
+    left: Option<T>,
+    middle: Option<T>,
+    right: Option<T>,
+) -> Result<(), AllocError>
+    requires start_le_end { places.start ≤ places.end }
+    requires in_bounds { places.end ≤ vec_len list.old }
+    ensures ok { OnOk result (list.new.items ≡ take places.start list.old.items ++ (option_to_list left ++ (option_to_list middle ++ option_to_list right)) ++ drop places.end list.old.items) }
+    ensures err { OnErr result (list.new.items ≡ list.old.items) }
+    ensures succeeds { vec_len list.old + (length (option_to_list left) + length (option_to_list middle) + length (option_to_list right) - (places.end - places.start)) ≤ vec_capacity list.old → IsOk result }
+{
+    let Range { start, end } = places;
+    let added = count(&left) + count(&middle) + count(&right);
+    make_room(list, added.saturating_sub(end - start))?;
+    let len = list.len();
+    let at = put(list, start, end, left);
+    let at = put(list, at, end, middle);
+    let at = put(list, at, end, right);
+    let pushed = list.len() - len;
+    rotate_tail(list, end, pushed);
+    cut(list, at, end);
+    Ok(())
+}
+
+// How many values the first block has room for, so that a small container asks for memory once.
+const FIRST_ROOM: usize = 12;
+
+// Room for up to three more values. The first block is made larger than these need, and none is
+// made where nothing is added.
+fn make_room<T, A: Allocator>(list: &mut Vec<T, A>, more: usize) -> Result<(), AllocError>
+    requires { more ≤ 3 }
+    ensures items { list.new.items ≡ list.old.items }
+    ensures len { vec_len list.new ≡ vec_len list.old }
+    ensures ok { OnOk result (vec_len list.new + more ≤ vec_capacity list.new) }
+    ensures succeeds { vec_len list.old + more ≤ vec_capacity list.old → IsOk result }
+{
+    if 0 < more && list.capacity() == 0 {
+        list.reserve_exact(FIRST_ROOM)
+    } else {
+        list.reserve(more)
+    }
+}
+
+// How many values an option holds.
+fn count<T>(option: &Option<T>) -> usize
+    ensures value { result ≡ length (option_to_list option.now) }
+    ensures bound { result ≤ 1 }
+{
+    match option {
+        Some(_) => 1,
+        None => 0,
+    }
+}
+
+// Puts the value over the one at `at`, or where the stretch ends there, behind all others. Answers
+// where the next one goes.
+fn put<T: Drop, A: Allocator>(
+    list: &mut Vec<T, A>,
+    at: usize,
+    end: usize,
+    option: Option<T>,
+) -> usize
+    requires at_le_end { at ≤ end }
+    requires in_bounds { end ≤ vec_len list.old }
+    requires room { vec_len list.old + (length (option_to_list option) - (end - at)) ≤ vec_capacity list.old }
+    ensures next { result ≡ at + length (take (end - at) (option_to_list option)) }
+    ensures items { list.new.items ≡ take at list.old.items ++ take (end - at) (option_to_list option) ++ drop result list.old.items ++ drop (end - at) (option_to_list option) }
+    ensures len { vec_len list.new ≡ vec_len list.old + (length (option_to_list option) - (end - at)) }
+    ensures capacity { vec_capacity list.new ≡ vec_capacity list.old }
+{
+    match option {
+        Some(value) => {
+            if at < end {
+                list[at] = value;
+                at + 1
+            } else {
+                list.push_reserved(value);
+                at
+            }
+        }
+        None => at,
+    }
+}
+
+// Moves the last values before those from `from` on.
+fn rotate_tail<T, A: Allocator>(list: &mut Vec<T, A>, from: usize, count: usize)
+    requires { from + count ≤ vec_len list.old }
+    ensures { list.new.items ≡ take from list.old.items ++ (drop (vec_len list.old - count) list.old.items ++ take (vec_len list.old - count - from) (drop from list.old.items)) }
+{
+    turn_right(&mut list[from..], count);
+}
+
+// Takes out the values from `start` up to `end`, if there are any: those behind them are moved
+// once, all together.
+fn cut<T: Drop, A: Allocator>(list: &mut Vec<T, A>, start: usize, end: usize)
+    requires start_le_end { start ≤ end }
+    requires in_bounds { end ≤ vec_len list.old }
+    ensures { list.new.items ≡ take start list.old.items ++ drop end list.old.items }
+{
+    if start < end {
+        let len = list.len();
+        turn_left(&mut list[start..], end - start);
+        list.truncate(len - (end - start));
+    }
+}

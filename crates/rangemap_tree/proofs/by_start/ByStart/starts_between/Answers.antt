@@ -1,0 +1,12 @@
+use Rattle.std.proofs.Common.{[], append-nil, filter, subst, sym}
+use Rattle.std.specs.BTreeMap.Range.{range_contains}
+use Rattle.std.specs.Range.Bound.{bound_map}
+use Rattle.std.specs.declared.ops.Bound.TheVariants.{Excluded}
+use Rattle.rangemap_tree.specs.Starts.{AreStarts}
+use Rattle.rangemap_tree.proofs.by_start.ByStart.starts_between.Goals as goal
+
+pub returns : goal.returns
+returns g c =
+    let cmp = g.K.Ord.cmp in
+    subst (AreStarts cmp (filter (λ p. range_contains cmp (bound_map (λ x. x.now) c.args.from) (Excluded c.args.to.now) p.0.start) c.args.self.now)) (append-nil c.pairs.starts.items)
+    (c.pairs.invariant [] (subst (λ ps. AreStarts cmp ps []) (sym c.in_default.ensures.steps.0) tt))

@@ -1,0 +1,19 @@
+use Rattle.std.proofs.Common.{◌∙◌, sym, ap, Some, None, cond, is_lt}
+use Rattle.std.specs.declared.ops.Range.{Range}
+use Rattle.rangemap_tree.proofs.ChangeLemmas.{looked, looked_none}
+use Rattle.rangemap_tree.proofs.overlapping.covering.Goals as goal
+
+pub returns-then-is_lt : goal.returns-then-is_lt
+returns-then-is_lt g c =
+    let o = g.met.K.Ord.total in
+    let p : Range g.row.K.Denot × g.row.V.Denot = (c.in-Some.range.now, c.in-Some.value.now) in
+    sym (looked o g.V.PartialEq.eq g.met.V.Eq.laws c.args.pairs.now c.requires c.args.key.now c.in-Some.ensures.0 p c.in-Some.ensures.1 ∙ ap (λ b. cond b (Some p) None) (ap is_lt (sym c.cmp.ensures) ∙ sym c.is_lt.ensures ∙ c.if-is_lt.true))
+
+pub returns-else-is_lt : goal.returns-else-is_lt
+returns-else-is_lt g c =
+    let o = g.met.K.Ord.total in
+    let p : Range g.row.K.Denot × g.row.V.Denot = (c.in-Some.range.now, c.in-Some.value.now) in
+    sym (looked o g.V.PartialEq.eq g.met.V.Eq.laws c.args.pairs.now c.requires c.args.key.now c.in-Some.ensures.0 p c.in-Some.ensures.1 ∙ ap (λ b. cond b (Some p) None) (ap is_lt (sym c.cmp.ensures) ∙ sym c.is_lt.ensures ∙ c.if-is_lt.false))
+
+pub returns-in_default : goal.returns-in_default
+returns-in_default g c = sym (looked_none g.met.K.Ord.total g.V.PartialEq.eq g.met.V.Eq.laws c.args.pairs.now c.requires c.args.key.now c.in_default.ensures.1.0)

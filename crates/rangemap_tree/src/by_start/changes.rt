@@ -1,0 +1,222 @@
+//! What is put into a tree of pairs, and taken out.
+ghost use Rattle.std.specs.Prelude.{◌≡◌, ◌∷◌, ◌++◌, [], filter, IfErr, IsOk, None as NoneWord, OnErr, OnOk, Some as SomeWord};
+ghost use Rattle.std.specs.BTreeMap.{insert_entry, is_at, values, IsOrdered};
+ghost use Rattle.std.specs.Map.{remove_entry};
+ghost use Rattle.std.specs.BTreeMap.Range.{range_contains};
+ghost use Rattle.std.specs.declared.ops.Bound.TheVariants.{Excluded, Included};
+ghost use Rattle.std.specs.declared.cmp.Ordering.TheVariants.{Equal, Less};
+ghost use Rattle.rangemap_tree.specs.Starts.{AreKeyed, AreStarts, before, from, past, piece_list, recut, with_piece, without, without_all, IsCutThere, IsKeyed, IsNewAt, IsRecut};
+
+use super::ByStart;
+use std::alloc::{AllocError, Allocator};
+use std::collections::BTreeMap;
+use std::ops::Range;
+
+impl<K: Ord + Drop, V: Drop, A: Allocator> ByStart<K, V, A> {
+    /// Drops all pairs.
+    pub fn clear(&mut self)
+        ensures { self.new ≡ [] }
+    {
+        self.tree = None;
+    }
+
+    // Takes the pair out that starts at `key`, if one does.
+    fn take(&mut self, key: &K)
+        ensures { self.new ≡ without K.cmp key.now self.old }
+    {
+        if let Some(tree) = &mut self.tree {
+            remove(tree, key);
+        }
+    }
+
+    // Takes out each pair that starts at one of the keys.
+    fn take_all(&mut self, keys: &[K])
+        ensures { self.new ≡ without_all K.cmp keys.now self.old }
+    {
+        let mut rest = keys;
+        'keys: while let Some((first, others)) = rest.split_first() {
+            self.take(first);
+            rest = others;
+        }
+    }
+
+    // Gives the pair that starts where the range does that range, if there is one. It takes no
+    // memory.
+    fn recut(&mut self, cut: Option<Range<K>>)
+        ensures { IsRecut K.cmp cut self.old self.new }
+    {
+        let Some(range) = cut else {
+            return;
+        };
+        if let Some(tree) = &mut self.tree {
+            set_range(tree, range);
+        }
+    }
+}
+
+impl<K: Ord + Drop, V: Drop, A: Allocator + Clone> ByStart<K, V, A> {
+    // Puts a pair in, in the place of one that starts where it does. `key` is a clone of its start.
+    // Where the memory or a clone of the allocator is refused, the range is given back.
+    fn put(&mut self, key: K, range: Range<K>, value: V) -> Result<(), Range<K>>
+        requires { K.cmp key range.start ≡ Equal }
+        ensures ok { OnOk result (self.new ≡ before K.cmp key self.old ++ (range, value) ∷ past K.cmp key self.old) }
+        ensures err { OnErr result (self.new ≡ self.old) }
+        ensures given_back { IfErr result (λ refused. refused ≡ range) }
+    {
+        if let Some(tree) = &mut self.tree {
+            return insert(tree, key, range, value);
+        }
+        let Ok(alloc) = self.alloc.clone() else {
+            return Err(range);
+        };
+        let mut tree = BTreeMap::new(alloc);
+        insert(&mut tree, key, range, value)?;
+        self.tree = Some(tree);
+        Ok(())
+    }
+
+    // Puts the piece in, if there is one.
+    fn put_piece(&mut self, piece: Option<(K, (Range<K>, V))>) -> Result<(), AllocError>
+        requires { IsKeyed K.cmp piece }
+        ensures ok { OnOk result (self.new ≡ with_piece K.cmp piece self.old) }
+        ensures err { OnErr result (self.new ≡ self.old) }
+        ensures none_refused { piece ≡ NoneWord → IsOk result }
+    {
+        let Some((key, (range, value))) = piece else {
+            return Ok(());
+        };
+        match self.put(key, range, value) {
+            Ok(_) => Ok(()),
+            Err(_) => Err(AllocError),
+        }
+    }
+
+    // Puts the piece in, if there is one, and the pair, or neither. No pair starts where the range
+    // ends, and the piece does.
+    fn put_both(
+        &mut self,
+        key: K,
+        range: Range<K>,
+        value: V,
+        piece: Option<(K, (Range<K>, V))>,
+    ) -> Result<(), AllocError>
+        requires key { K.cmp key range.start ≡ Equal }
+        requires piece { IsNewAt K.cmp range.end piece self.old }
+        ensures ok { OnOk result (self.new ≡ before K.cmp key (with_piece K.cmp piece self.old) ++ (range, value) ∷ past K.cmp key (with_piece K.cmp piece self.old)) }
+        ensures err { OnErr result (self.new ≡ self.old) }
+    {
+        let has_piece = piece.is_some();
+        self.put_piece(piece)?;
+        match self.put(key, range, value) {
+            Ok(_) => Ok(()),
+            Err(range) => {
+                if has_piece {
+                    self.take(&range.end);
+                }
+                Err(AllocError)
+            }
+        }
+    }
+
+    /// Puts a pair in the place of those that start within its range, with what is left of the pair
+    /// before it, if that is cut, and what is left of the last of them, if that is. `key` is a
+    /// clone of where it starts, and `starts` are those of the pairs that go.
+    ///
+    /// # Errors
+    ///
+    /// The memory, or a clone of the allocator, was refused: then nothing changed.
+    pub fn replace(
+        &mut self,
+        key: K,
+        range: Range<K>,
+        value: V,
+        cut: Option<Range<K>>,
+        piece: Option<(K, (Range<K>, V))>,
+        starts: &[K],
+    ) -> Result<(), AllocError>
+        requires key { K.cmp key range.start ≡ Equal }
+        requires non_empty { K.cmp range.start range.end ≡ Less }
+        requires cut { IsCutThere K.cmp range.start cut self.old }
+        requires piece { IsNewAt K.cmp range.end piece self.old }
+        requires starts { AreStarts K.cmp (filter (λ p. range_contains K.cmp (Excluded range.start) (Excluded range.end) p.0.start) self.old) starts.now }
+        ensures ok { OnOk result (self.new ≡ recut cut (before K.cmp range.start self.old) ++ (range, value) ∷ (piece_list piece ++ from K.cmp range.end self.old)) }
+        ensures err { OnErr result (self.new ≡ self.old) }
+    {
+        self.put_both(key, range, value, piece)?;
+        self.take_all(starts);
+        self.recut(cut);
+        Ok(())
+    }
+
+    /// Takes out the pairs that start within the range, at `starts`, and puts what is left of the
+    /// pair before them in its place, if that is cut, and what is left of the last of them, if that
+    /// is.
+    ///
+    /// # Errors
+    ///
+    /// As for `replace`. Where there is no piece to put in, it is not refused.
+    pub fn erase(
+        &mut self,
+        range: Range<K>,
+        cut: Option<Range<K>>,
+        piece: Option<(K, (Range<K>, V))>,
+        starts: &[K],
+    ) -> Result<(), AllocError>
+        requires non_empty { K.cmp range.start range.end ≡ Less }
+        requires in_order { before K.cmp range.start self.old ++ from K.cmp range.start self.old ≡ self.old }
+        requires cut { IsCutThere K.cmp range.start cut self.old }
+        requires piece { IsNewAt K.cmp range.end piece self.old }
+        requires starts { AreStarts K.cmp (filter (λ p. range_contains K.cmp (Included range.start) (Excluded range.end) p.0.start) self.old) starts.now }
+        ensures ok { OnOk result (self.new ≡ recut cut (before K.cmp range.start self.old) ++ (piece_list piece ++ from K.cmp range.end self.old)) }
+        ensures err { OnErr result (self.new ≡ self.old) }
+        ensures none_refused { piece ≡ NoneWord → IsOk result }
+    {
+        self.put_piece(piece)?;
+        self.take_all(starts);
+        self.recut(cut);
+        Ok(())
+    }
+}
+
+// Puts a pair into a tree, at its key, or gives its range back.
+fn insert<K: Ord + Drop, V: Drop, A: Allocator + Clone>(
+    tree: &mut BTreeMap<K, (Range<K>, V), A>,
+    key: K,
+    range: Range<K>,
+    value: V,
+) -> Result<(), Range<K>>
+    ensures ok { OnOk result (tree.new.entries ≡ insert_entry K.cmp tree.old.entries key (range, value)) }
+    ensures err { OnErr result (tree.new.entries ≡ tree.old.entries) }
+    ensures given_back { IfErr result (λ refused. refused ≡ range) }
+    ensures was_ordered { IsOrdered K.cmp tree.old }
+{
+    match tree.insert(key, (range, value)) {
+        Ok(_) => Ok(()),
+        Err(refused) => {
+            let (_, pair) = refused.value;
+            Err(pair.0)
+        }
+    }
+}
+
+// Takes the pair out of a tree that stands at a key, if one does.
+fn remove<K: Ord + Drop, V: Drop, A: Allocator>(tree: &mut BTreeMap<K, (Range<K>, V), A>, key: &K)
+    ensures removed { tree.new.entries ≡ remove_entry (is_at (K.cmp key.now)) tree.old.entries }
+    ensures was_ordered { IsOrdered K.cmp tree.old }
+{
+    let _ = tree.len();
+    tree.remove(key);
+}
+
+// Puts another range at the pair of a tree that starts where it does.
+fn set_range<K: Ord + Drop, V: Drop, A: Allocator>(
+    tree: &mut BTreeMap<K, (Range<K>, V), A>,
+    range: Range<K>,
+)
+    ensures keyed { AreKeyed K.cmp tree.old.entries → AreKeyed K.cmp tree.new.entries }
+    ensures set { AreKeyed K.cmp tree.old.entries → IsRecut K.cmp (SomeWord range) (values tree.old) (values tree.new) }
+{
+    if let Some(pair) = tree.get_mut(&range.start) {
+        pair.0 = range;
+    }
+}

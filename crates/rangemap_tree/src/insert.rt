@@ -1,0 +1,202 @@
+//! Giving the keys of a range a value, in a tree of pairs.
+ghost use Rattle.std.specs.Prelude.{◌≡◌, true, ◌≤◌, ◌+◌, List, filter, length, IfOk, OnOk, OnErr};
+ghost use Rattle.std.specs.BTreeMap.Range.{range_contains};
+ghost use Rattle.std.specs.Map.Iter.{TakesLast, deref_pair};
+ghost use Rattle.std.specs.declared.ops.Bound.TheVariants.{Excluded};
+ghost use Rattle.rangemap_core.specs.Clones.{KeysCloneFaithfully, ValuesCloneFaithfully};
+ghost use Rattle.rangemap_core.specs.Ranges.{IsCanonOf, IsCanonical, half_open, override, value_at};
+ghost use Rattle.rangemap_tree.specs.Sides.{IsLeft, IsRight};
+ghost use Rattle.rangemap_tree.specs.Starts.{AreStarts, before, from, past, up_to};
+ghost use Rattle.std.specs.Option.{unwrap_or};
+
+use crate::by_start::ByStart;
+use std::alloc::{AllocError, Allocator};
+use std::ops::{Bound, Range};
+
+// Where the new range starts if one before it is taken into it, or what is left of one that is cut.
+#[derive(Drop)]
+struct Left<K> {
+    start: Option<K>,
+    cut: Option<Range<K>>,
+}
+
+// Where the new range ends if one after it is taken into it, or what is left of one that is cut,
+// with a clone of its start.
+#[derive(Drop)]
+struct Right<K, V> {
+    end: Option<K>,
+    piece: Option<(K, (Range<K>, V))>,
+}
+
+/// Gives every key of `range` the `value` in a canonical list, as `Store::insert` does.
+///
+/// It makes one clone of a value at most, for a part that it cuts off. All clones are made before
+/// the first change.
+///
+/// # Errors
+///
+/// The growth of the tree, a list of keys, or a clone of the allocator, of a key or of the value
+/// was refused: then the list is as it was, and the range and the value are dropped.
+pub fn insert<K: Ord + Clone, V: Eq + Clone, A: Allocator + Clone>(
+    pairs: &mut ByStart<K, V, A>,
+    range: Range<K>,
+    value: V,
+) -> Result<(), AllocError>
+    requires canonical { IsCanonical (half_open K.cmp) V.eq pairs.old }
+    requires non_empty { (half_open K.cmp).IsNonEmpty range }
+    requires faithful_keys { KeysCloneFaithfully K.is_clone K.cmp }
+    requires faithful_values { ValuesCloneFaithfully V.is_clone V.eq }
+    ensures ok { OnOk result (IsCanonOf (half_open K.cmp) V.eq (override (half_open K.cmp) (value_at (half_open K.cmp) pairs.old) range value) pairs.new) }
+    ensures err { OnErr result (pairs.new ≡ pairs.old) }
+    ensures growth { OnOk result (length pairs.new ≤ length pairs.old + 2) }
+    ensures growth_where_all_are_equal { OnOk result (((v w : V) → V.eq v w ≡ true) → length pairs.new ≤ length pairs.old + 1) }
+{
+    let near = pairs.last_up_to(&range.end);
+    let left = left_side(pairs, near, &range, &value)?;
+    let right = right_side(pairs, near, &range, &value)?;
+    let middle = joined(left.start, right.end, range);
+    let key = middle.start.clone()?;
+    let starts = starts_within(pairs, near, &middle)?;
+    pairs.replace(key, middle, value, left.cut, right.piece, starts.as_slice())
+}
+
+// Of the pairs that start before the new range only the last can reach it. `near` is the last that
+// starts no later than its end.
+fn left_side<K: Ord + Clone, V: Eq, A: Allocator + Clone>(
+    pairs: &ByStart<K, V, A>,
+    near: Option<(&Range<K>, &V)>,
+    range: &Range<K>,
+    value: &V,
+) -> Result<Left<K>, AllocError>
+    requires canonical { IsCanonical (half_open K.cmp) V.eq pairs.now }
+    requires near { (rest : List _) × TakesLast deref_pair (up_to K.cmp range.now.end pairs.now) near rest }
+    requires range { (half_open K.cmp).IsNonEmpty range.now }
+    requires faithful_keys { KeysCloneFaithfully K.is_clone K.cmp }
+    ensures { IfOk result (λ left. IsLeft K.cmp V.eq pairs.now range.now value.now left.start left.cut) }
+{
+    let neither = Left {
+        start: None,
+        cut: None,
+    };
+    let Some((first, first_value)) = last_before(pairs, near, range) else {
+        return Ok(neither);
+    };
+    let reach = first.end.cmp(&range.start);
+    if reach.is_lt() {
+        return Ok(neither);
+    }
+    if *first_value == *value {
+        let start = first.start.clone()?;
+        return Ok(Left {
+            start: Some(start),
+            cut: None,
+        });
+    }
+    if reach.is_gt() {
+        let rest = first.start.clone()?..range.start.clone()?;
+        return Ok(Left {
+            start: None,
+            cut: Some(rest),
+        });
+    }
+    Ok(neither)
+}
+
+// The last pair that starts before the range, where `near` is the last that starts no later than
+// its end. Mostly that is the one, and then the tree is not searched.
+fn last_before<'a, K: Ord, V: Eq, A: Allocator>(
+    pairs: &'a ByStart<K, V, A>,
+    near: Option<(&'a Range<K>, &'a V)>,
+    range: &Range<K>,
+) -> Option<(&'a Range<K>, &'a V)>
+    requires canonical { IsCanonical (half_open K.cmp) V.eq pairs.now }
+    requires near { (rest : List _) × TakesLast deref_pair (up_to K.cmp range.now.end pairs.now) near rest }
+    requires range { (half_open K.cmp).IsNonEmpty range.now }
+    ensures { (rest : List _) × TakesLast deref_pair (before K.cmp range.now.start pairs.now) result rest }
+{
+    let (last, last_value) = near?;
+    if last.start.cmp(&range.start).is_lt() {
+        Some((last, last_value))
+    } else {
+        pairs.last_before(&range.start)
+    }
+}
+
+// Of the pairs that start no later than the end of the new range only the last, `near`, can reach
+// past it.
+fn right_side<K: Ord + Clone, V: Eq + Clone, A: Allocator + Clone>(
+    pairs: &ByStart<K, V, A>,
+    near: Option<(&Range<K>, &V)>,
+    range: &Range<K>,
+    value: &V,
+) -> Result<Right<K, V>, AllocError>
+    requires canonical { IsCanonical (half_open K.cmp) V.eq pairs.now }
+    requires near { (rest : List _) × TakesLast deref_pair (up_to K.cmp range.now.end pairs.now) near rest }
+    requires range { (half_open K.cmp).IsNonEmpty range.now }
+    requires faithful_keys { KeysCloneFaithfully K.is_clone K.cmp }
+    requires faithful_values { ValuesCloneFaithfully V.is_clone V.eq }
+    ensures { IfOk result (λ right. IsRight K.cmp V.eq pairs.now range.now value.now right.end right.piece) }
+{
+    let neither = Right {
+        end: None,
+        piece: None,
+    };
+    let Some((last, last_value)) = near else {
+        return Ok(neither);
+    };
+    if last.end.cmp(&range.end).is_le() {
+        return Ok(neither);
+    }
+    if *last_value == *value {
+        let end = last.end.clone()?;
+        return Ok(Right {
+            end: Some(end),
+            piece: None,
+        });
+    }
+    if last.start.cmp(&range.end).is_lt() {
+        let rest = range.end.clone()?..last.end.clone()?;
+        let key = range.end.clone()?;
+        let rest_value = last_value.clone()?;
+        return Ok(Right {
+            end: None,
+            piece: Some((key, (rest, rest_value))),
+        });
+    }
+    Ok(neither)
+}
+
+// Clones of the starts of the pairs that start within `middle`, the new range with what is taken
+// into it. `near` is the last that starts no later than the end of the new range, and none behind
+// it starts before `middle` ends. So where `near` starts no later than `middle`, none starts
+// within, and the tree is not searched.
+fn starts_within<K: Ord + Clone, V: Eq, A: Allocator + Clone>(
+    pairs: &ByStart<K, V, A>,
+    near: Option<(&Range<K>, &V)>,
+    middle: &Range<K>,
+) -> Result<Vec<K, A>, AllocError>
+    requires canonical { IsCanonical (half_open K.cmp) V.eq pairs.now }
+    requires near { (x : K) × ((rest : List _) × TakesLast deref_pair (up_to K.cmp x pairs.now) near rest) × (from K.cmp middle.now.end (past K.cmp x pairs.now) ≡ past K.cmp x pairs.now) }
+    requires range { (half_open K.cmp).IsNonEmpty middle.now }
+    requires faithful_keys { KeysCloneFaithfully K.is_clone K.cmp }
+    ensures { IfOk result (λ starts. AreStarts K.cmp (filter (λ p. range_contains K.cmp (Excluded middle.now.start) (Excluded middle.now.end) p.0.start) pairs.now) starts.items) }
+{
+    match near {
+        Some((last, _)) if last.start.cmp(&middle.start).is_gt() => {
+            pairs.starts_between(Bound::Excluded(&middle.start), &middle.end)
+        }
+        _ => Ok(Vec::new(pairs.allocator().clone()?)),
+    }
+}
+
+// The new range with what is taken into it.
+fn joined<K: Drop>(start: Option<K>, end: Option<K>, range: Range<K>) -> Range<K>
+    ensures start { result.start ≡ unwrap_or start range.start }
+    ensures end { result.end ≡ unwrap_or end range.end }
+{
+    let Range {
+        start: new_start,
+        end: new_end,
+    } = range;
+    start.unwrap_or(new_start)..end.unwrap_or(new_end)
+}

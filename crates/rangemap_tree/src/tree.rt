@@ -1,0 +1,192 @@
+//! The store in a B-tree.
+ghost use Rattle.std.specs.Prelude.{◌≡◌};
+
+use crate::by_start::ByStart;
+use crate::gaps::Gaps;
+use crate::insert::insert;
+use crate::into_iter::IntoIter;
+use crate::iter::Iter;
+use crate::overlapping::{Overlapping, covering, overlapping_pairs};
+use crate::remove::remove;
+use rangemap_core::container::append_gaps;
+use rangemap_core::half_open::HalfOpen;
+use rangemap_core::reader::{Reader, ReaderOfBoth};
+use rangemap_core::store::{HandsOver, Lends, Store};
+use std::alloc::{AllocError, Allocator};
+use std::iter::{DoubleEndedIterator, Iterator};
+use std::marker::Model;
+use std::ops::Range;
+
+/// Pairs of a half-open range and a value in a B-tree, by the starts of the ranges.
+///
+/// A change moves no others, so it is the store for many thousands of ranges that change at random
+/// places. Of *n* stored ranges, *k* meet the range that a call is given:
+///
+/// | Call | Time | Memory |
+/// |---|---|---|
+/// | `empty`, `allocator`, `len` | *O*(1) | none |
+/// | `first`, `last`, `covering` | *O*(log *n*) | none |
+/// | `iter`, `read`, `into_pairs` | *O*(log *n*), and *O*(*n*) for all items | none |
+/// | `overlapping`, `read_overlapping` | *O*(log *n*), and *O*(*k*) for all items | none |
+/// | `gaps`, `append_gaps` | *O*(log *n*), and *O*(*k*) for all items | clones for a gap |
+/// | `insert`, `remove` | *O*((*k* + 1) log *n*) | nodes, clones, a list of *k* keys |
+/// | `clear` | *O*(*n*), as each drop | none |
+/// | `copy` | *O*(*n*) | the tree, clones |
+///
+/// An `insert` makes one clone of a value at most, for a part that it cuts off. For each stored
+/// range a `copy` clones three keys and a value.
+#[derive(Drop)]
+pub struct Tree<K: Ord + Clone, V: Eq + Clone, A: Allocator + Clone> {
+    pairs: ByStart<K, V, A>,
+}
+
+impl<K: Ord + Clone, V: Eq + Clone, A: Allocator + Clone> Model for Tree<K, V, A> {
+    ghost use Rattle.std.specs.Prelude.{List};
+    ghost use Rattle.std.specs.declared.ops.Range.{Range as RangeOf};
+    ghost use Rattle.rangemap_core.specs.Ranges.{IsCanonical, half_open};
+
+    ghost Value = { List (RangeOf K × V) };
+
+    ghost view = { λ m. m.pairs };
+
+    ghost invariant = { λ m. IsCanonical (half_open K.cmp) V.eq m.pairs };
+}
+
+impl<K: Ord + Clone, V: Eq + Clone, A: Allocator + Clone> Store for Tree<K, V, A> {
+    type Range = Range<K>;
+
+    type Value = V;
+
+    type Kind = HalfOpen;
+
+    type Alloc = A;
+
+    ghost pairs = { λ s. s };
+
+    fn known(&self) {
+        let _pairs = &self.pairs;
+    }
+
+    fn empty(alloc: A) -> Self {
+        Tree {
+            pairs: ByStart::new(alloc),
+        }
+    }
+
+    fn allocator(&self) -> &A {
+        self.pairs.allocator()
+    }
+
+    fn insert(&mut self, range: Range<K>, value: V) -> Result<(), AllocError> {
+        insert(&mut self.pairs, range, value)
+    }
+
+    fn remove(&mut self, range: Range<K>) -> Result<(), AllocError> {
+        remove(&mut self.pairs, range)
+    }
+
+    fn clear(&mut self) {
+        self.pairs.clear();
+    }
+
+    fn len(&self) -> usize {
+        self.pairs.len()
+    }
+
+    fn covering(&self, key: &K) -> Option<(&Range<K>, &V)> {
+        covering(&self.pairs, key)
+    }
+
+    fn first(&self) -> Option<(&Range<K>, &V)> {
+        self.pairs.iter().next()
+    }
+
+    fn last(&self) -> Option<(&Range<K>, &V)> {
+        self.pairs.iter().next_back()
+    }
+
+    fn copy(&self, alloc: A) -> Result<Self, AllocError> {
+        let pairs = self.pairs.clone(alloc)?;
+        Ok(Tree { pairs })
+    }
+
+    fn read<U: Reader<Range<K>, V>>(&self, state: &mut U::State) -> U::Answer {
+        U::read(self.pairs.iter(), state)
+    }
+
+    fn read_both<U: ReaderOfBoth<Range<K>, V>>(
+        &self,
+        other: &Self,
+        state: &mut U::State,
+    ) -> U::Answer {
+        U::read(self.pairs.iter(), other.pairs.iter(), state)
+    }
+
+    fn read_overlapping<U: Reader<Range<K>, V>>(
+        &self,
+        range: &Range<K>,
+        state: &mut U::State,
+    ) -> U::Answer {
+        U::read(overlapping_pairs(&self.pairs, range), state)
+    }
+
+    fn append_gaps<B: Allocator>(
+        &self,
+        outer_range: &Range<K>,
+        out: &mut Vec<Range<K>, B>,
+    ) -> Result<(), AllocError> {
+        let gaps = Gaps::new(&self.pairs, outer_range);
+        append_gaps(gaps, out)
+    }
+}
+
+impl<K: Ord + Clone, V: Eq + Clone, A: Allocator + Clone> HandsOver for Tree<K, V, A> {
+    ghost use Rattle.std.specs.Prelude.{refl};
+
+    type IntoIter = IntoIter<K, V, A>;
+
+    ghost owned = { λ it. it };
+
+    fn into_pairs(self) -> IntoIter<K, V, A> {
+        let Tree { pairs } = self;
+        pairs.into_iter()
+    }
+
+    ghost asks = { λ it. tt };
+
+    ghost asks_back = { λ it. tt };
+
+    ghost takes = { λ it taken rest h. h };
+
+    ghost takes_back = { λ it taken rest h. h };
+
+    ghost counts = { λ it. refl };
+}
+
+impl<'a, K: Ord + Clone, V: Eq + Clone, A: Allocator + Clone> Lends<'a> for Tree<K, V, A>
+where
+    K: 'a,
+    V: 'a,
+    Self::Range: 'a,
+    Self::Value: 'a,
+{
+    type Iter = Iter<'a, K, V>;
+
+    type Overlapping = Overlapping<'a, K, V>;
+
+    type Gaps = Gaps<'a, K, V>;
+
+    ghost between = { λ it. it };
+
+    fn iter(&'a self) -> Iter<'a, K, V> {
+        self.pairs.iter()
+    }
+
+    fn overlapping(&'a self, range: &'a Range<K>) -> Overlapping<'a, K, V> {
+        overlapping_pairs(&self.pairs, range)
+    }
+
+    fn gaps(&'a self, outer_range: &'a Range<K>) -> Gaps<'a, K, V> {
+        Gaps::new(&self.pairs, outer_range)
+    }
+}

@@ -1,0 +1,41 @@
+-- What the first and the last range of an item say of it.
+use Rattle.std.proofs.Common.{◌≡◌, Bool, true, false, List, ◌∷◌, Option, Some, None, refl, sym, ap, ◌∙◌, true≢false, Less, Equal, is_lt}
+use Rattle.std.specs.Cmp as order
+use Rattle.rangemap_core.specs.MadeRanges.{TakesRange}
+use Rattle.rangemap_core.specs.Ranges.{RangeKind}
+use Rattle.rangemap_core.specs.engine.Intervals.{IsBetween, IsInterval, goes_past}
+use Rattle.rangemap_core.specs.engine.Intervals as intervals
+use Rattle.rangemap_core.specs.laws.Orders.{le_not_lt, not_lt}
+use Rattle.rangemap_unions.specs.Items.{reaches}
+use Rattle.rangemap_core.specs.operations.PlaceLaws.{HasPlaces}
+use Rattle.rangemap_core.specs.operations.Places.{RangePlaces}
+
+-- tests that fail together are one
+same_test : (a b : Bool) → (a ≡ false → b ≡ false) → (b ≡ false → a ≡ false) → a ≡ b
+same_test true true h g = refl
+same_test true false h g = g refl
+same_test false true h g = sym (h refl)
+same_test false false h g = refl
+
+module _ {K X P : Type 0} {k : RangeKind K X} {has_end : Bool} {l : RangePlaces P X} {at cut : K → P} (i : IsInterval k has_end) (p : HasPlaces k l at cut) where
+  -- whether one range starts before another ends is told by keys and by places alike
+  pub reaches_places : (r s : X) → intervals.reaches k has_end (k.end r) (k.start s) ≡ reaches l r s
+  reaches_places r s = same_test _ _
+      (λ h. le_not_lt p.total (l.start_place s) (l.end_place r) (p.before r s (i.before_from r s h)))
+      (λ h. i.before r s (p.before_from r s (not_lt p.total (l.start_place s) (l.end_place r) h)))
+
+  -- clones of the start of one range and of the end of another make the item from the one to the other
+  pub taken_between : (a b : X) (start end : K) → k.cmp (k.start a) start ≡ Equal → k.cmp (k.end b) end ≡ Equal → l.order (l.start_place a) (l.end_place b) ≡ Less
+      → (made : Option X) → IsBetween k has_end start end made → (rest : List X) → TakesRange k (l.between a b ∷ rest) made rest
+  taken_between a b start end starts ends up None h rest =
+      let keys : k.cmp (k.start a) (k.end b) ≡ k.cmp start end = order.alike_right i.total (k.end b) end (k.start a) ends ∙ i.total.congr (k.start a) start end starts in
+      absurd (true≢false (sym (ap is_lt up) ∙ sym (reaches_places b a) ∙ ap (goes_past has_end) keys ∙ h))
+  taken_between a b start end starts ends up (Some range) h rest = (
+    l.between a b,
+    refl,
+    record {
+      storable = h.0;
+      starts = ap (λ x. k.cmp x (k.start range)) (p.between_start a b) ∙ ap (k.cmp (k.start a)) h.1 ∙ starts;
+      ends = ap (λ x. k.cmp x (k.end range)) (p.between_end a b) ∙ ap (k.cmp (k.end b)) h.2 ∙ ends;
+    },
+  )

@@ -1,0 +1,22 @@
+-- Two lists of ranges merged step by step.
+use Rattle.std.specs.Prelude.{◌≡◌, ⊤, Bool, true, false, List, [], ◌∷◌, Option, Some, None}
+use Rattle.std.specs.Ordering.{is_lt}
+use Rattle.rangemap_unions.specs.Items.{hulls, hulls_from, reaches}
+use Rattle.rangemap_core.specs.operations.Places.{RangePlaces}
+
+module _ {P X : Type 0} (l : RangePlaces P X) where
+  -- the first list's first range starts before the second's
+  abbrev pub left_first : List X → List X → Bool
+  left_first [] qs = false
+  left_first (p ∷ ps) [] = true
+  left_first (p ∷ ps) (q ∷ qs) = is_lt (l.order (l.start_place p) (l.start_place q))
+
+  -- no range of the list by starts goes on where `last` ends
+  abbrev pub IsUnreached : X → List X → Type 0
+  IsUnreached last [] = ⊤
+  IsUnreached last (r ∷ rest) = reaches l last r ≡ false
+
+  -- the items of a union, of which one may be begun: from its first range up to its last so far
+  abbrev pub items_behind : Option (X × X) → List X → List X
+  items_behind None rest = hulls l rest
+  items_behind (Some ends) rest = hulls_from l ends.0 ends.1 rest

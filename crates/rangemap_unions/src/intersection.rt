@@ -1,0 +1,166 @@
+//! What two lists of ranges have in common.
+ghost use Rattle.std.specs.Prelude.{◌≡◌, ◌≢◌, ◌&&◌, List, [], IfOk, IfSome, MatchOption, None as NoneWord, OnErr, Some as SomeWord, length, true};
+ghost use Rattle.std.specs.Iterator.{UpTo, at_most};
+ghost use Rattle.std.specs.Iterator.SizeHint.{IsWithinCount};
+ghost use Rattle.std.specs.Ordering.{is_lt};
+ghost use Rattle.std.specs.declared.cmp.Ordering.TheVariants.{Less};
+ghost use Rattle.rangemap_core.specs.Clones.{KeysCloneFaithfully};
+ghost use Rattle.rangemap_core.specs.MadeRanges.{GivesRange, TakesRange};
+ghost use Rattle.rangemap_core.specs.Sets.{AreCommon, AreNonEmptyRanges, ranges};
+ghost use Rattle.rangemap_unions.specs.Items.{earlier_end, intersection_items, later_start, reaches, with_common};
+
+use crate::item::{between, compare_ends, compare_starts, overlap};
+use crate::ranges::Ranges;
+use crate::side::take;
+use rangemap_core::key_range::KeyRange;
+use rangemap_core::pair_iter::PairIter;
+use std::alloc::AllocError;
+use std::iter::Iterator;
+use std::marker::Model;
+
+/// The intersection of two lists of ranges: the parts that both have, in order.
+///
+/// Of closed ranges `Intersection::new` says *common* with every value of the key type as a key,
+/// since it knows no steps. `laws::sets::closed_operations` tells the same items by the steps' keys,
+/// and so does a set's own `intersection`.
+#[derive(Drop)]
+pub struct Intersection<I: PairIter> {
+    sides: Sides<I>,
+    // Whether a clone was refused to `next`, after which nothing comes.
+    is_done: bool,
+}
+
+impl<I: PairIter> Model for Intersection<I> {
+    ghost use Rattle.std.specs.Prelude.{List, [], if◌then◌else◌};
+    ghost use Rattle.rangemap_core.specs.Sets.{AreNonEmptyRanges, ranges};
+    ghost use Rattle.rangemap_unions.specs.Items.{intersection_items};
+
+    ghost Value = { List I.Range };
+
+    ghost view = { λ s. if s.is_done then [] else intersection_items I.Range.places (ranges (I.left s.sides.left)) (ranges (I.left s.sides.right)) };
+
+    ghost invariant = { λ s. AreNonEmptyRanges I.Range.read (intersection_items I.Range.places (ranges (I.left s.sides.left)) (ranges (I.left s.sides.right))) };
+}
+
+impl<I: PairIter> Intersection<I> {
+    /// Returns the intersection of what is left in two iterators.
+    pub fn new(left: Ranges<I>, right: Ranges<I>) -> Self
+        ensures items { result ≡ intersection_items I.Range.places left right }
+        ensures common { AreCommon I.Range.read left right result }
+    {
+        Intersection {
+            sides: Sides {
+                left: left.into_pairs(),
+                right: right.into_pairs(),
+            },
+            is_done: false,
+        }
+    }
+
+    /// Takes the next range, made of clones.
+    ///
+    /// # Requires
+    ///
+    /// A clone of a key ties with its original.
+    ///
+    /// # Errors
+    ///
+    /// A clone was refused. Nothing has changed then.
+    pub fn try_next(&mut self) -> Result<Option<I::Range>, AllocError>
+        requires { KeysCloneFaithfully I.Range.Key.is_clone I.Range.Key.cmp }
+        ensures ok { IfOk result (λ item. TakesRange I.Range.read self.old item self.new) }
+        ensures err { OnErr result (self.new ≡ self.old) }
+        ensures refused { OnErr result (self.old ≢ []) }
+    {
+        if self.is_done {
+            return Ok(None);
+        }
+        self.sides.try_next()
+    }
+}
+
+impl<I: PairIter> Iterator for Intersection<I> {
+    type Item = Result<I::Range, AllocError>;
+
+    ghost can_next = { λ _. KeysCloneFaithfully I.Range.Key.is_clone I.Range.Key.cmp };
+
+    ghost next_gives = { GivesRange I.Range.read };
+
+    ghost remaining = { λ s. at_most (length s) };
+
+    fn next(&mut self) -> Option<Result<I::Range, AllocError>> {
+        match self.try_next() {
+            Ok(None) => None,
+            Ok(Some(item)) => Some(Ok(item)),
+            Err(error) => {
+                // A refusal is the last answer.
+                self.is_done = true;
+                Some(Err(error))
+            }
+        }
+    }
+
+    fn size_hint(&self) -> (usize, Option<usize>)
+        ensures lower { IsWithinCount result.0 (at_most (length self.now)) }
+        ensures upper { IfSome result.1 (UpTo (at_most (length self.now))) }
+        ensures exact { result ≡ (0, NoneWord) }
+    {
+        (0, None)
+    }
+}
+
+// What two ranges have in common, if anything.
+fn common<R: KeyRange>(left: &R, right: &R, left_ends_first: bool) -> Result<Option<R>, AllocError>
+    requires ends { left_ends_first ≡ is_lt (R.places.order (R.places.end_place left.now) (R.places.end_place right.now)) }
+    requires in_order { (reaches R.places left.now right.now && reaches R.places right.now left.now) ≡ true → R.places.order (R.places.start_place (later_start R.places left.now right.now)) (R.places.end_place (earlier_end R.places left.now right.now)) ≡ Less }
+    requires faithful_keys { KeysCloneFaithfully R.Key.is_clone R.Key.cmp }
+    ensures made { (rest : List R) → IfOk result (λ part. MatchOption part
+        (with_common R.places left.now right.now rest ≡ rest)
+        (λ range. TakesRange R.read (with_common R.places left.now right.now rest) (SomeWord range) rest)) }
+    ensures refused { OnErr result ((reaches R.places left.now right.now && reaches R.places right.now left.now) ≡ true) }
+{
+    if !overlap(left, right) {
+        return Ok(None);
+    }
+    let first = if compare_starts(left, right).is_lt() {
+        right
+    } else {
+        left
+    };
+    let last = if left_ends_first { left } else { right };
+    between(first, last)
+}
+
+// What is left of both lists.
+#[derive(Drop)]
+struct Sides<I: PairIter> {
+    left: I,
+    right: I,
+}
+
+impl<I: PairIter> Sides<I> {
+    // Takes the next item, made of clones, and passes what has nothing in common. `Err` says that a
+    // clone was refused: no item is lost then.
+    fn try_next(&mut self) -> Result<Option<I::Range>, AllocError>
+        requires non_empty { AreNonEmptyRanges I.Range.read (intersection_items I.Range.places (ranges (I.left self.now.left)) (ranges (I.left self.now.right))) }
+        requires faithful_keys { KeysCloneFaithfully I.Range.Key.is_clone I.Range.Key.cmp }
+        ensures ok { IfOk result (λ item. TakesRange I.Range.read (intersection_items I.Range.places (ranges (I.left self.old.left)) (ranges (I.left self.old.right))) item (intersection_items I.Range.places (ranges (I.left self.new.left)) (ranges (I.left self.new.right)))) }
+        ensures err { OnErr result (intersection_items I.Range.places (ranges (I.left self.new.left)) (ranges (I.left self.new.right)) ≡ intersection_items I.Range.places (ranges (I.left self.old.left)) (ranges (I.left self.old.right))) }
+        ensures refused { OnErr result (intersection_items I.Range.places (ranges (I.left self.old.left)) (ranges (I.left self.old.right)) ≢ []) }
+    {
+        'both: while let (Some(p), Some(q)) = (self.left.peek(), self.right.peek()) {
+            let (left, right) = (I::range(&p), I::range(&q));
+            let ends_first = compare_ends(left, right).is_lt();
+            let part = common(left, right, ends_first)?;
+            if ends_first {
+                let _ = take(&mut self.left);
+            } else {
+                let _ = take(&mut self.right);
+            }
+            if part.is_some() {
+                return Ok(part);
+            }
+        }
+        Ok(None)
+    }
+}

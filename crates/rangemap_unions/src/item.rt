@@ -1,0 +1,49 @@
+//! One item of a union or an intersection, before it is made.
+ghost use Rattle.std.specs.Prelude.{◌≡◌, ◌&&◌, ◌∷◌, List, IfOk};
+ghost use Rattle.std.specs.declared.cmp.Ordering.TheVariants.{Less};
+ghost use Rattle.rangemap_core.specs.Clones.{KeysCloneFaithfully};
+ghost use Rattle.rangemap_core.specs.MadeRanges.{TakesRange};
+ghost use Rattle.rangemap_unions.specs.Items.{reaches};
+
+use rangemap_core::key_range::KeyRange;
+use std::alloc::AllocError;
+use std::cmp::Ordering;
+
+/// Compares the starts of two ranges.
+pub fn compare_starts<R: KeyRange>(left: &R, right: &R) -> Ordering
+    ensures { result ≡ R.places.order (R.places.start_place left.now) (R.places.start_place right.now) }
+{
+    left.start().cmp(right.start())
+}
+
+/// Compares the ends of two ranges.
+pub fn compare_ends<R: KeyRange>(left: &R, right: &R) -> Ordering
+    ensures { result ≡ R.places.order (R.places.end_place left.now) (R.places.end_place right.now) }
+{
+    left.end().cmp(right.end())
+}
+
+/// Returns whether the second range starts before the first one ends.
+pub fn is_reached<R: KeyRange>(first: &R, second: &R) -> bool
+    ensures { result ≡ reaches R.places first.now second.now }
+{
+    first.reaches(second.start())
+}
+
+/// Returns whether two ranges overlap.
+pub fn overlap<R: KeyRange>(left: &R, right: &R) -> bool
+    ensures { result ≡ (reaches R.places left.now right.now && reaches R.places right.now left.now) }
+{
+    is_reached(left, right) && is_reached(right, left)
+}
+
+/// Makes the item from the start of the first range up to the end of the last, of clones.
+pub fn between<R: KeyRange>(first: &R, last: &R) -> Result<Option<R>, AllocError>
+    requires in_order { R.places.order (R.places.start_place first.now) (R.places.end_place last.now) ≡ Less }
+    requires faithful_keys { KeysCloneFaithfully R.Key.is_clone R.Key.cmp }
+    ensures { (rest : List R) → IfOk result (λ item. TakesRange R.read (R.places.between first.now last.now ∷ rest) item rest) }
+{
+    let start = first.start().clone()?;
+    let end = last.end().clone()?;
+    Ok(R::between(start, end))
+}

@@ -1,0 +1,20 @@
+//! Unions and intersections of sets, over whatever store, and the iterators over ranges without
+//! values.
+//!
+//! Users name the crate `rangemap`, which has the set itself. What a list of ranges means is said in
+//! `specs/Sets.antt`, beside `specs/Ranges.antt`, of `rangemap_core`.
+#![tactic(auto)]
+
+pub mod inserts;
+pub mod intersection;
+mod item;
+pub mod laws;
+pub mod owned;
+pub mod ranges;
+mod side;
+pub mod union;
+
+pub use intersection::Intersection;
+pub use owned::IntoRanges;
+pub use ranges::Ranges;
+pub use union::Union;

@@ -1,0 +1,42 @@
+//! Carrying out a command on a container, and the text of its answer.
+ghost use Rattle.std.specs.Prelude.{◌≡◌, false, OnErr};
+ghost use Rattle.rangemap.specs.Clones.{KeysCloneFaithfully, ValuesCloneFaithfully};
+ghost use Rattle.rangerun_library.specs.Commands.{may_change};
+
+use crate::command::Command;
+use crate::container::Container;
+use crate::listing::{write_gaps, write_item_or_none, write_json, write_overlapping};
+use std::alloc::{AllocError, Allocator, Global};
+
+/// Carries out a command, and appends the line that it prints, if any, to `text`. A JSON form is
+/// made in memory of `json`.
+///
+/// Where memory runs out, the container is as it was; so it is after a command that only asks.
+pub fn answer<A: Allocator, C: Container<Alloc = A>>(
+    alloc: A,
+    json: Global,
+    container: &mut C,
+    command: Command<'_, C::Range>,
+    text: &mut String<A>,
+) -> Result<(), AllocError>
+    ensures err { OnErr result (C.pairs container.new ≡ C.pairs container.old) }
+    ensures asks { may_change command.entry ≡ false → C.pairs container.new ≡ C.pairs container.old }
+{
+    match command {
+        Command::Insert(span, value) => container.insert(span.range(), C::value(alloc, value)?),
+        Command::Remove(span) => container.remove(span.range()),
+        Command::Clear => {
+            container.clear();
+            Ok(())
+        }
+        Command::Get(key) => write_item_or_none(text, container.get_key_value(&key)),
+        Command::First => write_item_or_none(text, container.first_range_value()),
+        Command::Last => write_item_or_none(text, container.last_range_value()),
+        Command::Iter => writeln!(text, "{container:?}"),
+        Command::Len => writeln!(text, "{}", container.len()),
+        Command::Overlapping(range) => write_overlapping(alloc, text, container, &range),
+        Command::Overlaps(range) => writeln!(text, "{}", container.overlaps(&range)),
+        Command::Gaps(range) => write_gaps(alloc, text, container, &range),
+        Command::Json => write_json(json, text, container),
+    }
+}

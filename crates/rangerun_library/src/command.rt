@@ -1,0 +1,148 @@
+//! The commands, and how a line is read as one.
+ghost use Rattle.std.specs.Prelude.{◌≡◌, ◌≢◌, ◌↔◌, false, IsOk, IfOk, IfErr, IsErrOf};
+ghost use Rattle.rangerun_library.specs.Words.{AreEnds, IsNumber, IsValue, holds_key, number_of};
+
+use crate::fault::Cause;
+use crate::range::{NumberRange, Span};
+use crate::words::{self, Operands};
+
+/// What a line asks for, of a container of ranges `R`.
+#[derive(Debug, Drop)]
+pub enum Command<'a, R: NumberRange> {
+    /// Give the keys of a range a value, or no value where the container is a set.
+    Insert(Span<R>, Option<&'a str>),
+    /// Take the keys of a range out.
+    Remove(Span<R>),
+    /// Take every key out.
+    Clear,
+    /// Print the item that has a key.
+    Get(u32),
+    /// Print the first item.
+    First,
+    /// Print the last item.
+    Last,
+    /// Print all items.
+    Iter,
+    /// Print the number of items.
+    Len,
+    /// Print the items that a range overlaps.
+    Overlapping(R),
+    /// Print whether there are any.
+    Overlaps(R),
+    /// Print the parts of a range that no item has.
+    Gaps(R),
+    /// Print the JSON form of the container.
+    Json,
+}
+
+impl<'a, R: NumberRange> Command<'a, R> {
+    /// Reads a line, given without its newline, as a command on a container whose inserts have a
+    /// value or have none.
+    ///
+    /// Of several faults in a line the one whose cause has the least number is told.
+    pub fn parse(line: &'a [u8], has_value: bool) -> Result<Command<'a, R>, Cause> {
+        let (name, operands) = words::divide(line);
+        match operands {
+            Operands::None => Command::of_name(name),
+            Operands::One(key) => Command::of_key(name, key),
+            Operands::Two(start, end) => Command::of_ends(name, start, end, has_value),
+            Operands::Three(start, end, value) if has_value => {
+                Command::of_pair(name, start, end, value)
+            }
+            _ => Err(Cause::Command),
+        }
+    }
+
+    /// The command of one word.
+    fn of_name(name: &[u8]) -> Result<Command<'a, R>, Cause> {
+        match name {
+            b"clear" => Ok(Command::Clear),
+            b"first" => Ok(Command::First),
+            b"last" => Ok(Command::Last),
+            b"iter" => Ok(Command::Iter),
+            b"len" => Ok(Command::Len),
+            b"json" => Ok(Command::Json),
+            _ => Err(Cause::Command),
+        }
+    }
+
+    /// The command on a key.
+    fn of_key(name: &[u8], key: &[u8]) -> Result<Command<'a, R>, Cause> {
+        match name {
+            b"get" => Ok(Command::Get(words::number(key)?)),
+            _ => Err(Cause::Command),
+        }
+    }
+
+    /// The command on two ends. `insert` is one where it has no value.
+    fn of_ends(
+        name: &[u8],
+        start: &[u8],
+        end: &[u8],
+        has_value: bool,
+    ) -> Result<Command<'a, R>, Cause> {
+        match name {
+            b"insert" if !has_value => Ok(Command::Insert(parse_span(start, end)?, None)),
+            b"remove" => Ok(Command::Remove(parse_span(start, end)?)),
+            b"overlapping" => Ok(Command::Overlapping(parse_query(start, end)?)),
+            b"overlaps" => Ok(Command::Overlaps(parse_query(start, end)?)),
+            b"gaps" => Ok(Command::Gaps(parse_query(start, end)?)),
+            _ => Err(Cause::Command),
+        }
+    }
+
+    /// The command on two ends and a value.
+    fn of_pair(
+        name: &[u8],
+        start: &[u8],
+        end: &[u8],
+        value: &'a [u8],
+    ) -> Result<Command<'a, R>, Cause> {
+        match name {
+            b"insert" => {
+                let (span, value) = parse_pair(start, end, value)?;
+                Ok(Command::Insert(span, Some(value)))
+            }
+            _ => Err(Cause::Command),
+        }
+    }
+}
+
+/// The range that two words give the ends of, and the value that a third is.
+fn parse_pair<'a, R: NumberRange>(
+    start: &[u8],
+    end: &[u8],
+    value: &'a [u8],
+) -> Result<(Span<R>, &'a str), Cause>
+    ensures ok { IfOk result (λ pair. (pair.0.start ≡ number_of start.now) × (pair.0.end ≡ number_of end.now) × (pair.1.now ≡ value.now)) }
+    ensures succeeds { IsOk result ↔ AreEnds R.has_end start.now end.now × IsValue value.now }
+    ensures number { IsErrOf result Cause.Number ↔ ¬ (IsNumber start.now × IsNumber end.now) }
+    ensures empty { IsErrOf result Cause.EmptyRange ↔ IsNumber start.now × IsNumber end.now × (holds_key R.has_end (number_of start.now) (number_of end.now) ≡ false) }
+    ensures value { IsErrOf result Cause.Value ↔ AreEnds R.has_end start.now end.now × (¬ IsValue value.now) }
+{
+    let span = parse_span(start, end)?;
+    let value = words::value(value)?;
+    Ok((span, value))
+}
+
+/// The range, with a key in it, that two words give the ends of.
+fn parse_span<R: NumberRange>(start: &[u8], end: &[u8]) -> Result<Span<R>, Cause>
+    ensures ok { IfOk result (λ span. (span.start ≡ number_of start.now) × (span.end ≡ number_of end.now)) }
+    ensures succeeds { IsOk result ↔ AreEnds R.has_end start.now end.now }
+    ensures number { IsErrOf result Cause.Number ↔ ¬ (IsNumber start.now × IsNumber end.now) }
+    ensures empty { IsErrOf result Cause.EmptyRange ↔ IsNumber start.now × IsNumber end.now × (holds_key R.has_end (number_of start.now) (number_of end.now) ≡ false) }
+    ensures value { result ≢ Err Cause.Value }
+{
+    let (start, end) = words::ends(start, end)?;
+    Span::new(start, end).ok_or(Cause::EmptyRange)
+}
+
+/// The range that two words give the ends of, in whichever order they are.
+fn parse_query<R: NumberRange>(start: &[u8], end: &[u8]) -> Result<R, Cause>
+    ensures ok { IfOk result (λ range. (R.read.start range ≡ number_of start.now) × (R.read.end range ≡ number_of end.now)) }
+    ensures succeeds { IsOk result ↔ IsNumber start.now × IsNumber end.now }
+    ensures err { IfErr result (λ cause. cause ≡ Cause.Number) }
+{
+    let (start, end) = words::ends(start, end)?;
+    Ok(R::of_ends(start, end))
+}

@@ -1,0 +1,87 @@
+//! What the program runs its lines over: a container, or the calendar.
+
+use crate::answer::answer;
+use crate::booking::Booking;
+use crate::command::Command;
+use crate::container::Container;
+use crate::fault::Cause;
+use crate::listing::write_items;
+use crate::value::Stored;
+use calendar::{BookError, Calendar};
+use std::alloc::{Allocator, Global};
+
+/// What lines are carried out on, in memory of an allocator `A`.
+pub trait Desk<A: Allocator>: Drop {
+    /// Returns an empty one, whose memory will come from `alloc`.
+    fn new(alloc: A) -> Self;
+
+    /// Carries out a line, given without its newline, and appends what it prints, if anything, to
+    /// `text`. A JSON form is made in memory of `json`.
+    fn carry_out(
+        &mut self,
+        alloc: A,
+        json: Global,
+        line: &[u8],
+        text: &mut String<A>,
+    ) -> Result<(), Cause>;
+}
+
+/// A container of the library, as a desk.
+#[derive(Drop)]
+pub struct Over<C> {
+    container: C,
+}
+
+impl<A: Allocator, C: Container<Alloc = A>> Desk<A> for Over<C> {
+    fn new(alloc: A) -> Over<C> {
+        Over {
+            container: C::new_with_step_fns(alloc),
+        }
+    }
+
+    fn carry_out(
+        &mut self,
+        alloc: A,
+        json: Global,
+        line: &[u8],
+        text: &mut String<A>,
+    ) -> Result<(), Cause> {
+        let command = Command::parse(line, C::Value::HAS_WORD)?;
+        answer(alloc, json, &mut self.container, command, text)?;
+        Ok(())
+    }
+}
+
+impl<A: Allocator> Desk<A> for Calendar<A> {
+    fn new(alloc: A) -> Calendar<A> {
+        Calendar::new(alloc)
+    }
+
+    fn carry_out(
+        &mut self,
+        _alloc: A,
+        _json: Global,
+        line: &[u8],
+        text: &mut String<A>,
+    ) -> Result<(), Cause> {
+        match Booking::parse(line)? {
+            Booking::Change(call) => write_refusal(self.make(call), text),
+            Booking::Free(days) => Ok(write_items(text, self.free(&days))?),
+            Booking::Iter => Ok(write_items(text, self.iter())?),
+        }
+    }
+}
+
+/// Writes the line of a booking that is refused since a day is taken. Other refusals stop the
+/// program.
+fn write_refusal<A: Allocator>(
+    answer: Result<(), BookError>,
+    text: &mut String<A>,
+) -> Result<(), Cause> {
+    match answer {
+        Ok(()) => Ok(()),
+        Err(BookError::Empty) => Err(Cause::EmptyRange),
+        Err(BookError::Taken) => Ok(text.push_str("taken\n")?),
+        Err(BookError::OutOfMemory) => Err(Cause::Memory),
+    }
+}

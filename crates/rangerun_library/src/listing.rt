@@ -1,0 +1,106 @@
+//! The lines that items are printed on.
+ghost use Rattle.std.specs.Prelude.{◌<◌, OnOk};
+ghost use Rattle.std.specs.Iterator.{IsFinite};
+ghost use Rattle.std.specs.String.{string_len};
+
+use crate::container::Container;
+use crate::range::NumberRange;
+use crate::value::Shown;
+use rangemap::WriteError;
+use std::alloc::{AllocError, Allocator, Global};
+
+/// One item of an answer.
+pub trait Item: Drop {
+    /// Appends the item to the text.
+    fn write<A: Allocator>(self, text: &mut String<A>) -> Result<(), AllocError>;
+}
+
+/// A range and its value.
+impl<'a, R: NumberRange, V: Shown> Item for (&'a R, &'a V) {
+    fn write<A: Allocator>(self, text: &mut String<A>) -> Result<(), AllocError> {
+        write!(text, "{:?}", self.0)?;
+        self.1.write(text)
+    }
+}
+
+/// A gap, which is made when it is asked for.
+impl<R: NumberRange> Item for Result<R, AllocError> {
+    fn write<A: Allocator>(self, text: &mut String<A>) -> Result<(), AllocError> {
+        let gap = self?;
+        write!(text, "{gap:?}")
+    }
+}
+
+/// Writes the line of the item, or of `none`.
+pub fn write_item_or_none<A: Allocator, I: Item>(
+    text: &mut String<A>,
+    item: Option<I>,
+) -> Result<(), AllocError> {
+    match item {
+        Some(item) => item.write(text)?,
+        None => text.push_str("none")?,
+    }
+    text.push('\n')
+}
+
+/// Writes the line of the items that an iterator gives, in braces.
+pub fn write_items<A: Allocator, I: Item, Items: Iterator<Item = I> + Drop>(
+    text: &mut String<A>,
+    items: Items,
+) -> Result<(), AllocError>
+    requires can { Items.can_next items }
+    requires ends { IsFinite (Items.remaining items) }
+{
+    text.push('{')?;
+    let mut is_first = true;
+    for item in items {
+        if !is_first {
+            text.push_str(", ")?;
+        }
+        is_first = false;
+        item.write(text)?;
+    }
+    text.push_str("}\n")
+}
+
+/// Writes the line of the items that the range overlaps.
+pub fn write_overlapping<A: Allocator, C: Container<Alloc = A>>(
+    alloc: A,
+    text: &mut String<A>,
+    container: &C,
+    range: &C::Range,
+) -> Result<(), AllocError> {
+    let mut pairs = Vec::new(alloc);
+    container.append_overlapping(range, &mut pairs)?;
+    write_items(text, pairs.iter().map(|pair| (&pair.0, &pair.1)))
+}
+
+/// Writes the line of the parts of the range that no item has.
+pub fn write_gaps<A: Allocator, C: Container<Alloc = A>>(
+    alloc: A,
+    text: &mut String<A>,
+    container: &C,
+    range: &C::Range,
+) -> Result<(), AllocError> {
+    let mut gaps = Vec::new(alloc);
+    container.append_gaps(range, &mut gaps)?;
+    write_items(text, gaps.into_iter().map(|gap| Ok(gap)))
+}
+
+/// Writes the line of the JSON form, which is made in memory of `json`. Where it answers `Ok`,
+/// something was written: want of memory is not passed over.
+pub fn write_json<A: Allocator, C: Container>(
+    json: Global,
+    text: &mut String<A>,
+    container: &C,
+) -> Result<(), AllocError>
+    ensures { OnOk result (string_len text.old < string_len text.new) }
+{
+    let value = match container.to_value(json) {
+        Ok(value) => value,
+        Err(WriteError::Caller(error)) => return Err(error),
+        Err(WriteError::OutOfMemory) => return Err(AllocError),
+    };
+    text.push_str(value.to_string(json)?.as_str())?;
+    text.push('\n')
+}

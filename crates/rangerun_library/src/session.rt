@@ -1,0 +1,121 @@
+//! The program from its arguments to its last answer.
+
+use crate::container::{ClosedMap, ClosedSet, HalfOpenMap, HalfOpenSet};
+use crate::desk::{Desk, Over};
+use crate::fault::{Cause, Fault};
+use crate::lines::{Source, fetch};
+use calendar::Calendar;
+use std::alloc::{Allocator, Global};
+use std::io::{self, BufRead, BufReader, Read, Write};
+
+/// Carries out the commands of `input` over the container that `args`, the words after the
+/// program's name, ask for, and writes each answer to `output` before it reads the next line.
+///
+/// # Errors
+///
+/// Stops at the first fault. The answers of the lines before it are written then.
+pub fn run<R: Read + Drop, W: Write + Drop>(
+    alloc: Global,
+    args: &[String],
+    input: R,
+    output: W,
+) -> Result<(), Fault> {
+    run_in(alloc, alloc, args, input, output)
+}
+
+/// Does what `run` does in memory of `alloc`, but for that of JSON values: only a `Global` gives it,
+/// and it comes from `json`.
+///
+/// # Errors
+///
+/// As of `run`.
+pub fn run_in<A: Allocator + Copy, R: Read + Drop, W: Write + Drop>(
+    alloc: A,
+    json: Global,
+    args: &[String],
+    input: R,
+    output: W,
+) -> Result<(), Fault> {
+    let [kind] = args else {
+        return Err(Cause::Arguments.at(0));
+    };
+    match kind.as_str() {
+        "map" => run_over::<A, Over<HalfOpenMap<A>>, R, W>(alloc, json, input, output),
+        "imap" => run_over::<A, Over<ClosedMap<A>>, R, W>(alloc, json, input, output),
+        "set" => run_over::<A, Over<HalfOpenSet<A>>, R, W>(alloc, json, input, output),
+        "iset" => run_over::<A, Over<ClosedSet<A>>, R, W>(alloc, json, input, output),
+        "cal" => run_over::<A, Calendar<A>, R, W>(alloc, json, input, output),
+        _ => Err(Cause::Arguments.at(0)),
+    }
+}
+
+/// Carries out the commands of `input` over an empty container, as `run` does.
+fn run_over<A: Allocator + Copy, D: Desk<A>, R: Read + Drop, W: Write + Drop>(
+    alloc: A,
+    json: Global,
+    input: R,
+    mut output: W,
+) -> Result<(), Fault> {
+    let Ok(mut input) = BufReader::new(alloc, Source(input)) else {
+        return Err(Cause::Memory.at(0));
+    };
+    let mut session: Session<A, D> = Session::new(alloc, json);
+    let mut number = 0u64;
+    for _ in 0..u64::MAX {
+        number = number.saturating_add(1);
+        match session.step(&mut input, &mut output) {
+            Ok(true) => {}
+            Ok(false) => return Ok(()),
+            Err(cause) => return Err(cause.at(number)),
+        }
+    }
+    // More lines than can be counted were read, and the input has not ended.
+    Err(Cause::Stream.at(number))
+}
+
+/// The container, and room for a line and its answer that is used again for each line.
+#[derive(Drop)]
+struct Session<A: Allocator, D> {
+    alloc: A,
+    json: Global,
+    desk: D,
+    line: Vec<u8, A>,
+    text: String<A>,
+}
+
+impl<A: Allocator + Copy, D: Desk<A>> Session<A, D> {
+    /// An empty container, and no line yet.
+    fn new(alloc: A, json: Global) -> Session<A, D> {
+        Session {
+            alloc,
+            json,
+            desk: D::new(alloc),
+            line: Vec::new(alloc),
+            text: String::new(alloc),
+        }
+    }
+
+    /// Reads a line, carries out its command and writes the answer. False where there is no line
+    /// left.
+    fn step<R: BufRead, W: Write>(&mut self, input: &mut R, output: &mut W) -> Result<bool, Cause> {
+        if !fetch(input, &mut self.line)? {
+            return Ok(false);
+        }
+        self.text.clear();
+        self.desk
+            .carry_out(self.alloc, self.json, &self.line, &mut self.text)?;
+        if write_out(output, self.text.as_bytes()).is_err() {
+            return Err(Cause::Stream);
+        }
+        Ok(true)
+    }
+}
+
+/// Writes the bytes, and sees that they arrive.
+fn write_out<W: Write>(output: &mut W, bytes: &[u8]) -> io::Result<()> {
+    if bytes.is_empty() {
+        return Ok(());
+    }
+    output.write_all(bytes)?;
+    output.flush()
+}

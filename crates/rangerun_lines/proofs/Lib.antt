@@ -1,2 +1,0 @@
--- Lemmas of the program's proofs.
-pub mod Ascii

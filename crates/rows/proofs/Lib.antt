@@ -1,3 +1,0 @@
--- Lemmas of the rows.
-pub mod OneMore
-pub mod NoCommonKey

@@ -1,0 +1,208 @@
+//! What the crate `examples` stands for: each use once, at an example.
+ghost use Rattle.std.specs.Prelude.{◌≡◌};
+
+use crate::same::assert_same;
+use examples::block_list::{Block, BlockList, split};
+use examples::byte_cache::ByteCache;
+use examples::char_class::{CharClass, complement_twice, de_morgan};
+use examples::extents::Extents;
+use examples::memory_map::{Access, Fault, MemoryMap, Region};
+use examples::planner::Planner;
+use examples::received::Received;
+use examples::rota::Rota;
+use examples::window::Window;
+use rangemap::range_inclusive_set;
+use std::ops::Range;
+use std::test::Fail;
+
+#[test]
+fn only_what_is_missing_is_fetched(rt: HostRuntime) -> Result<(), Fail> {
+    let mut cache = ByteCache::new(rt.alloc());
+    cache.fetched(0..512)?;
+    cache.fetched(1024..2048)?;
+    let parts = cache.missing(rt.alloc(), &(256..4096))?;
+    let wanted: [Range<u64>; 2] = [512..1024, 2048..4096];
+    assert_same(&rt, parts.as_slice(), wanted.as_slice());
+    cache.fetched(256..4096)?;
+    assert!(rt; cache.missing(rt.alloc(), &(0..4096))?.is_empty());
+    Ok(())
+}
+
+#[test]
+fn words_and_what_is_none(rt: HostRuntime) -> Result<(), Fail> {
+    let word = CharClass::word(rt.alloc())?;
+    let other = word.complement(rt.alloc())?;
+    assert!(rt; word.contains('_') && word.contains('M') && !word.contains('-'));
+    assert!(rt; !other.contains('_') && other.contains('-') && other.contains('\u{10FFFF}'));
+    assert!(rt; word.union(&other)?.contains('-'));
+    assert!(rt; !word.intersection(&other)?.contains('z'));
+    let (neither, not_both) = de_morgan(rt.alloc(), &word, &other)?;
+    assert!(rt; neither.members == not_both.members && neither.members.is_empty());
+    assert!(rt; complement_twice(rt.alloc(), &word)?.members == word.members);
+    Ok(())
+}
+
+#[test]
+fn digits_by_the_macro(rt: HostRuntime) -> Result<(), Fail> {
+    let digits = range_inclusive_set![in rt.alloc(); '0'..='4', '5'..='9']?;
+    assert_same(&rt, digits.len(), 1);
+    assert!(rt; digits.contains(&'7') && !digits.contains(&'a'));
+    Ok(())
+}
+
+#[test]
+fn ranges_that_overlap_become_one(rt: HostRuntime) -> Result<(), Fail> {
+    let class = CharClass::from_ranges(rt.alloc(), ['d'..='k', 'a'..='f', 'x'..='z'])?;
+    let wanted = range_inclusive_set![in rt.alloc(); 'a'..='k', 'x'..='z']?;
+    assert!(rt; class.members == wanted);
+    assert!(rt; class.contains('k') && !class.contains('l'));
+    Ok(())
+}
+
+#[test]
+fn blocks_are_mapped_once(rt: HostRuntime) -> Result<(), Fail> {
+    let mut extents = Extents::new(rt.alloc());
+    assert!(rt; extents.map(0, 1000, 8)?);
+    assert!(rt; !extents.map(20, 1007, 2)?);
+    assert!(rt; extents.map(20, 4, 2)?);
+    assert_same(&rt, extents.physical(7), Some(1007));
+    assert_same(&rt, extents.physical(21), Some(5));
+    extents.punch(2, 5)?;
+    assert_same(&rt, extents.physical(5), None);
+    assert_same(&rt, extents.physical(6), Some(1006));
+    assert!(rt; extents.map(30, 1002, 4)?);
+    Ok(())
+}
+
+/// The numbers of the addresses 10.0.0.0 and 10.0.0.15.
+const FIRST: u32 = 167772160;
+
+const LAST: u32 = 167772175;
+
+#[test]
+fn blocks_are_reserved_and_released(rt: HostRuntime) -> Result<(), Fail> {
+    let mut planner = Planner::new(rt.alloc());
+    assert_same(&rt, planner.reserve(FIRST, LAST, 7)?, true);
+    assert_same(&rt, planner.reserve(LAST, LAST + 1, 8)?, false);
+    assert_same(&rt, planner.owner(LAST), Some(7));
+    assert_same(&rt, planner.first_free(FIRST)?, Some(0));
+    assert_same(&rt, planner.first_free(FIRST + 1)?, Some(LAST + 1));
+    assert_same(&rt, planner.first_free(u32::MAX)?, None);
+    planner.release(FIRST, LAST)?;
+    assert_same(&rt, planner.first_free(u32::MAX)?, Some(0));
+    Ok(())
+}
+
+#[test]
+fn numbers_come_out_of_order(rt: HostRuntime) -> Result<(), Fail> {
+    let mut received = Received::new(rt.alloc());
+    assert_same(&rt, received.acknowledged(), None);
+    assert_same(&rt, received.receive(0)?, true);
+    assert_same(&rt, received.receive(2)?, true);
+    assert_same(&rt, received.receive(2)?, false);
+    assert_same(&rt, received.acknowledged(), Some(0));
+    assert_same(&rt, received.lowest_missing(2), Some(3));
+    assert_same(&rt, received.receive(1)?, true);
+    assert_same(&rt, received.acknowledged(), Some(2));
+    assert_same(&rt, received.receive(u64::MAX)?, true);
+    assert_same(&rt, received.lowest_missing(u64::MAX), None);
+    Ok(())
+}
+
+#[test]
+fn two_shifts_are_swapped(rt: HostRuntime) -> Result<(), Fail> {
+    let mut rota = Rota::new(rt.alloc());
+    rota.assign(8..16, 1)?;
+    rota.assign(16..20, 2)?;
+    assert_same(&rt, rota.on_at(15), Some(1));
+    assert_same(&rt, rota.swap(9, 20)?, false);
+    assert_same(&rt, rota.swap(9, 19)?, true);
+    assert_same(&rt, rota.on_at(15), Some(2));
+    assert_same(&rt, rota.on_at(16), Some(1));
+    let day = 0..24;
+    let mut free = rota.uncovered(&day);
+    assert_same(&rt, free.try_next()?, Some(0..8));
+    assert_same(&rt, free.try_next()?, Some(20..24));
+    assert_same(&rt, free.try_next()?, None);
+    Ok(())
+}
+
+#[test]
+fn addresses_are_blocked(rt: HostRuntime) -> Result<(), Fail> {
+    let mut list = BlockList::new(rt.alloc());
+    list.block(FIRST, LAST)?;
+    list.block(LAST + 1, u32::MAX)?;
+    assert!(rt; list.is_blocked(FIRST) && list.is_blocked(LAST + 1));
+    assert!(rt; list.is_blocked(u32::MAX) && !list.is_blocked(FIRST - 1));
+    Ok(())
+}
+
+/// A block of a row.
+fn block(first: u32, prefix: u32) -> Block
+    ensures { (result.first ≡ first) × (result.prefix ≡ prefix) }
+{
+    Block { first, prefix }
+}
+
+// The blocks are what Python's `ipaddress.summarize_address_range` gives for 10.0.0.5 to 10.0.0.16
+// and for all addresses.
+#[test]
+fn addresses_are_split_into_few_blocks(rt: HostRuntime) -> Result<(), Fail> {
+    let wanted = [
+        block(FIRST + 5, 32),
+        block(FIRST + 6, 31),
+        block(FIRST + 8, 29),
+        block(FIRST + 16, 32),
+    ];
+    let first = u64::from(FIRST);
+    let blocks = split(rt.alloc(), first + 5, first + 17)?;
+    assert_same(&rt, blocks.as_slice(), wanted.as_slice());
+    let all = split(rt.alloc(), 0, 4_294_967_296)?;
+    let whole = block(0, 0);
+    assert_same(&rt, all.as_slice(), [whole].as_slice());
+    assert_same(&rt, whole.size(), 4_294_967_296);
+    assert!(rt; split(rt.alloc(), first, first)?.is_empty());
+    Ok(())
+}
+
+#[test]
+fn numbers_wait_until_they_are_delivered(rt: HostRuntime) -> Result<(), Fail> {
+    let mut window = Window::new(rt.alloc());
+    window.receive(4, 8)?;
+    window.receive(0, 2)?;
+    assert_same(&rt, window.next(), 0);
+    assert!(rt; window.is_waiting(1) && !window.is_waiting(2) && window.is_waiting(4));
+    window.deliver(6)?;
+    assert_same(&rt, window.next(), 6);
+    assert!(rt; !window.is_waiting(1) && !window.is_waiting(5) && window.is_waiting(7));
+    Ok(())
+}
+
+#[test]
+fn memory_is_mapped_and_checked(rt: HostRuntime) -> Result<(), Fail> {
+    let code = Region {
+        file: 1,
+        writable: false,
+        executable: true,
+    };
+    let data = Region {
+        file: 0,
+        writable: true,
+        executable: false,
+    };
+    let mut memory = MemoryMap::new(rt.alloc());
+    memory.map(0x1000, 0x3000, code)?;
+    memory.map(0x4000, 0x5000, data)?;
+    assert!(rt; memory.region_at(0x2FFF) == Some(code) && memory.region_at(0x3000).is_none());
+    assert!(rt; memory.check(0x1000, Access::Execute).is_ok());
+    assert!(rt; memory.check(0x1000, Access::Write) == Err(Fault::Forbidden));
+    assert!(rt; memory.check(0x3000, Access::Read) == Err(Fault::Unmapped));
+    assert!(rt; memory.find_free(0, 0x8000, 0x2000)? == Some(0x5000));
+    memory.unmap(0x2000, 0x3000)?;
+    assert!(rt; memory.find_free(0, 0x8000, 0x2000)? == Some(0x2000));
+    assert!(rt; memory.find_free(0, 0x8000, 0x4000)?.is_none());
+    assert!(rt; memory.is_free(0x2000, 0x4000) && !memory.is_free(0x1FFF, 0x4000));
+    assert!(rt; memory.shows(0x1FFF, 0x5000, 1) && !memory.shows(0x2000, 0x5000, 1));
+    assert!(rt; !memory.has_writable_code());
+    Ok(())
+}

@@ -1,0 +1,7 @@
+//! Names every iterator of a container, from `rangemap` alone: `each` what it gives and from which
+//! ends, over any keys; `two` each sort twice in one function, at the widest keys, and in one tuple
+//! where the check takes that.
+#![tactic(auto)]
+
+mod each;
+mod two;

@@ -1,0 +1,39 @@
+//! Calls on maps over closed ranges that are refused memory: the growth of a map and each clone of
+//! a key, in its turn.
+
+use crate::containers::inclusive_map;
+use std::test::Fail;
+use tests_support::{Costly, MANY, Refusing};
+
+// The first growth takes a request, a clone of the stored end of each piece that stays another, and
+// so do both ends of a range that is joined, on whichever side what it joins lies; one that joins
+// nothing is moved. A removal that meets nothing takes nothing, nor does a clone of an empty map;
+// one of another map takes its list, and six keys. The start of a gap is cloned, and its end comes
+// of a step. An append takes a clone of either end of each pair; there is room for four.
+#[test]
+fn each_request_may_be_refused(rt: HostRuntime) -> Result<(), Fail> {
+    let heap = Refusing::new(rt.alloc(), MANY);
+    inclusive_map::<Costly<'_>, char>(
+        &heap,
+        "| insert 0..=255 a | 0..=255 a | 1
+        0..=4 a | insert 5..=9 a | 0..=9 a | 2
+        5..=9 a | insert 0..=4 a | 0..=9 a | 2
+        0..=4 a, 10..=14 a | insert 5..=9 a | 0..=14 a | 2
+        0..=4 a | insert 6..=9 a | 0..=4 a, 6..=9 a | 0
+        0..=9 a | insert 3..=5 a | 0..=9 a | 2
+        0..=9 a | insert 3..=5 b | 0..=2 a, 3..=5 b, 6..=9 a | 2
+        0..=127 a, 128..=255 b | insert 128..=255 a | 0..=255 a | 2
+        0..=9 a | remove 3..=5 | 0..=2 a, 6..=9 a | 2
+        0..=9 a | remove 10..=255 | 0..=9 a | 0
+        | remove 0..=5 | | 0
+        | clone | | 0
+        0..=2 a, 3..=5 b, 6..=9 a | clone | 0..=2 a, 3..=5 b, 6..=9 a | 7
+        10..=249 a | gaps 0..=255 | 0..=9, 250..=255 | 1
+        0..=9 a + 3..=5 b | extend | ; 0..=9 a; 0..=9 a; 0..=2 a, 3..=5 b, 6..=9 a | 3
+        0..=2 a, 5..=10 a | append 1..=6 0..=2 a + 5..=10 a \
+            | 0..=2 a, 5..=10 a, 0..=2 a, 5..=10 a | 4",
+    )?;
+    // A replay, which changes nothing without room, takes three lists, and the growth of either map.
+    let row = "new, insert 0..=255 true, clone | replay | 2 | 5";
+    inclusive_map::<u8, bool>(&heap, row)
+}

@@ -1,0 +1,29 @@
+//! Calls that take memory, each tried with its request *k* refused for *k* = 0, 1, 2, .. until it is
+//! accepted, by all containers.
+//!
+//! The crate `tests_requests` makes the calls and compares what they leave with a row, by one function for
+//! every container; docs/TESTS.md leads from each call to its test.
+#![tactic(auto)]
+
+#[cfg(test)]
+mod allocator;
+#[cfg(test)]
+mod allocators;
+#[cfg(test)]
+mod containers;
+#[cfg(test)]
+mod inclusive_map;
+#[cfg(test)]
+mod inclusive_set;
+#[cfg(test)]
+mod made;
+#[cfg(test)]
+mod map;
+#[cfg(test)]
+mod natives;
+#[cfg(test)]
+mod set;
+#[cfg(test)]
+mod tree_map;
+#[cfg(test)]
+mod tree_set;

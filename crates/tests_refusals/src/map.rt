@@ -1,0 +1,72 @@
+//! Rows about calls on maps over half-open ranges that are refused memory: the growth of a map and
+//! each clone of a text or a key, in its turn.
+
+use crate::containers::map;
+use std::test::Fail;
+use tests_support::{Costly, MANY, Refusing, Text};
+
+// The first growth takes a request, and a clone of the value of each piece that stays another; a
+// clone of a map its list, and three texts. An insert that joins what lies to the left, to the right
+// or on both sides, and one that joins nothing and finds room, takes none. Of an `extend` the first
+// pair takes the first growth. The second, inside it, takes a clone of its text for each piece of the
+// first.
+//
+// There is room for twelve pairs. A removal that meets nothing asks for no more of it, nor does one
+// of a map without any; a clone of such a map takes nothing either.
+#[test]
+fn each_request_may_be_refused(rt: HostRuntime) -> Result<(), Fail> {
+    let heap = Refusing::new(rt.alloc(), MANY);
+    map::<u32, Text<'_>>(
+        &heap,
+        "| insert 0..10 a | 0..10 a | 1
+        0..10 a | insert 10..20 a | 0..20 a | 0
+        10..20 a | insert 0..10 a | 0..20 a | 0
+        0..5 a, 10..15 a | insert 5..10 a | 0..15 a | 0
+        0..5 a | insert 10..15 b | 0..5 a, 10..15 b | 0
+        0..10 a | insert 3..6 a | 0..10 a | 0
+        0..10 a | insert 3..6 b | 0..3 a, 3..6 b, 6..10 a | 2
+        0..4 a, 4..8 b, 8..12 a | insert 2..10 c | 0..2 a, 2..10 c, 10..12 a | 2
+        0..10 a | remove 3..6 | 0..3 a, 6..10 a | 2
+        0..10 a, 20..30 b | remove 10..20 | 0..10 a, 20..30 b | 0
+        0..1 a, 2..3 a, 4..5 a, 6..7 a, 8..9 a, 10..11 a, 12..13 a, 14..15 a, 16..17 a, 18..19 a, \
+            20..21 a, 22..23 a | remove 5..6 | 0..1 a, 2..3 a, 4..5 a, 6..7 a, 8..9 a, 10..11 a, \
+            12..13 a, 14..15 a, 16..17 a, 18..19 a, 20..21 a, 22..23 a | 0
+        | remove 0..5 | | 0
+        | clone | | 0
+        0..4 a, 4..8 b, 8..12 a | clone | 0..4 a, 4..8 b, 8..12 a | 4
+        0..10 a + 3..6 b + 20..25 c | extend \
+            | ; 0..10 a; 0..10 a; 0..3 a, 3..6 b, 6..10 a, 20..25 c | 3",
+    )
+}
+
+// Both ends of each piece that stays are cloned, and both ends of a gap. Of a range that is joined
+// both ends are cloned, on whichever side what it joins lies; one that joins nothing is moved.
+#[test]
+#[tactic(auto, using(rangemap::proofs::TextKeys::clones_tie))]
+fn each_clone_of_a_key_may_be_refused(rt: HostRuntime) -> Result<(), Fail> {
+    let heap = Refusing::new(rt.alloc(), MANY);
+    let row = "a..k a, u..z b | insert f..w c | a..f a, f..w c, w..z b | 4";
+    map::<Text<'_>, char>(&heap, row)?;
+    map::<Costly<'_>, char>(
+        &heap,
+        "1..3 a | gaps 0..5 | 0..1, 3..5 | 2
+        0..10 a | insert 10..20 a | 0..20 a | 2
+        10..20 a | insert 0..10 a | 0..20 a | 2
+        0..5 a, 10..15 a | insert 5..10 a | 0..15 a | 2
+        0..5 a | insert 10..15 b | 0..5 a, 10..15 b | 0
+        0..10 a | insert 3..6 a | 0..10 a | 2
+        0..10 a | insert 3..6 b | 0..3 a, 3..6 b, 6..10 a | 4",
+    )
+}
+
+// A run of commands takes room for the answers, the growth of the map, and the list of its clones. A
+// replay, which changes nothing without room, takes three lists, and the growth of either map.
+#[test]
+fn each_command_may_be_refused(rt: HostRuntime) -> Result<(), Fail> {
+    let heap = Refusing::new(rt.alloc(), MANY);
+    map::<u32, char>(
+        &heap,
+        "0..10 a + 20..30 b | run | | 3
+        new, insert 0..10 a, clone, remove 4..5 | replay | 2 | 5",
+    )
+}

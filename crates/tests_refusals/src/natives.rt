@@ -1,0 +1,62 @@
+//! Calls that have functions of their own here: replays by steps of another type, containers of an
+//! array, the macros, and reading.
+
+mod arrays;
+mod json;
+mod macros;
+mod steps;
+
+use rangemap_core::closed::Closed;
+use rangemap_core::half_open::HalfOpen;
+use rangemap_sorted::SortedVec;
+use rangemap_tree::Tree;
+use std::alloc::Global;
+use std::ops::{Range, RangeInclusive};
+use std::test::Fail;
+use tests_requests::{Answer, Row, Tried};
+use tests_support::Heap;
+
+/// These calls. A row has what the call is given (the calls of a replay, two items, or the form in
+/// which a value is read, and the value), its name, what comes of it (how many containers a replay
+/// leaves, or what is made), and the number of requests.
+pub struct Natives;
+
+/// A store of numbers over closed ranges.
+type ClosedNumbers<'a, V> = SortedVec<Closed<u32>, RangeInclusive<u32>, V, &'a Heap>;
+
+/// A store of numbers over half-open ranges.
+type Numbers<'a, V> = SortedVec<HalfOpen, Range<u32>, V, &'a Heap>;
+
+impl Tried for Natives {
+    type Alloc = Global;
+
+    ghost use Rattle.std.specs.Prelude.{⊤};
+
+    ghost clones_are_faithful = { ⊤ };
+
+    fn is_accepted(heap: &Heap, alloc: Global, row: &Row<'_>, left: u64) -> Answer {
+        match row.call {
+            "replay maps by steps" => steps::try_maps(heap, row, left),
+            "replay sets by steps" => steps::try_sets(heap, row, left),
+            "map to texts from" => arrays::try_texts(heap, row, left),
+            "inclusive map from" => arrays::try_map(heap, row, left),
+            "tree from" => arrays::try_tree(heap, row, left),
+            "set from" => arrays::try_set(heap, row, left),
+            "inclusive set from" => arrays::try_inclusive_set(heap, row, left),
+            "tree set from" => arrays::try_tree_set(heap, row, left),
+            "macros" => macros::try_lists(heap, left),
+            "read map" => json::try_map::<Numbers<'_, u32>>(heap, alloc, row, left),
+            "read inclusive map" => {
+                json::try_map::<ClosedNumbers<'_, u32>>(heap, alloc, row, left)
+            }
+            "read tree" => json::try_map::<Tree<u32, u32, &Heap>>(heap, alloc, row, left),
+            "read set" => json::try_set::<Numbers<'_, ()>>(heap, alloc, row, left),
+            "read inclusive set" => {
+                json::try_set::<ClosedNumbers<'_, ()>>(heap, alloc, row, left)
+            }
+            "read tree set" => json::try_set::<Tree<u32, (), &Heap>>(heap, alloc, row, left),
+            "read costly parts" => json::try_costly(heap, alloc, row, left),
+            _ => Err(Fail::new("a row has a call of another name")),
+        }
+    }
+}

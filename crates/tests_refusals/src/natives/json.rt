@@ -1,0 +1,94 @@
+//! Reading where a request for memory is refused. `to_value` takes memory of the `Global` that the
+//! JSON value is made in, and of no other; `from_value` takes that of the container.
+ghost use Rattle.rangemap.specs.Clones.{KeysCloneFaithfully, ValuesCloneFaithfully};
+
+use rangemap::map::Map;
+use rangemap::range_set::Set;
+use rangemap::{Form, RangeInclusiveMap, ReadError};
+use rangemap_core::key_range::KeyRange;
+use rangemap_core::kind::OwnSteps;
+use rangemap_core::store::Store;
+use serde_json::Value;
+use std::alloc::{AllocError, Global};
+use std::test::Fail;
+use tests_requests::{Answer, Row, is_made};
+use tests_support::{Costly, Heap, InRows};
+
+/// A part is no whole number of the size that is read.
+#[derive(Drop)]
+struct NoNumber;
+
+/// Reads a key or a value.
+fn read_number(part: &Value) -> Result<u32, NoNumber> {
+    let number = part.as_u64().ok_or(NoNumber)?;
+    u32::try_from(number).ok().ok_or(NoNumber)
+}
+
+/// Reads a key or a value whose clones take memory.
+fn read_costly<'a>(heap: &'a Heap, part: &Value) -> Result<Costly<'a>, NoNumber> {
+    let number = part.as_u64().ok_or(NoNumber)?;
+    match u8::try_from(number) {
+        Ok(byte) => Ok(Costly { byte, heap }),
+        Err(_) => Err(NoNumber),
+    }
+}
+
+/// The form that a row reads in, and the value that it reads.
+fn form_and_value(alloc: Global, given: &str) -> Result<(Form, Value), Fail> {
+    let (form, text) = given.split_once(' ').ok_or("a row names a form")?;
+    let form = if form == "canonical" {
+        Form::Canonical
+    } else {
+        Form::Any
+    };
+    Ok((form, Value::from_str(alloc, text)?))
+}
+
+/// Tries to read a map of numbers.
+pub fn try_map<'a, S>(heap: &'a Heap, alloc: Global, row: &Row<'_>, left: u64) -> Answer
+where
+    S: Store<Range: KeyRange<Key = u32>, Value = u32, Alloc = &'a Heap> + Drop,
+    S::Kind: OwnSteps<S::Range>,
+    Map<S>: InRows<Range = S::Range, Value = u32, Alloc = &'a Heap, Kind = S::Kind>,
+{
+    let (form, value) = form_and_value(alloc, row.given)?;
+    heap.refuse_after(left);
+    let read = Map::<S>::from_value(heap, form, &value, read_number, read_number);
+    is_made(unless_refused(read)?, row.outcome)
+}
+
+/// Tries to read a set of numbers.
+pub fn try_set<'a, S>(heap: &'a Heap, alloc: Global, row: &Row<'_>, left: u64) -> Answer
+where
+    S: Store<Range: KeyRange<Key = u32>, Value = (), Alloc = &'a Heap> + Drop,
+    S::Kind: OwnSteps<S::Range>,
+    Set<S>: InRows<Range = S::Range, Value = (), Alloc = &'a Heap, Kind = S::Kind>,
+{
+    let (form, value) = form_and_value(alloc, row.given)?;
+    heap.refuse_after(left);
+    let read = Set::<S>::from_value(heap, form, &value, read_number);
+    is_made(unless_refused(read)?, row.outcome)
+}
+
+/// A map of parts whose clones take memory.
+type CostlyParts<'a> = RangeInclusiveMap<Costly<'a>, Costly<'a>, Costly<'a>, &'a Heap>;
+
+/// Tries to read such a map.
+pub fn try_costly(heap: &Heap, alloc: Global, row: &Row<'_>, left: u64) -> Answer {
+    let (form, value) = form_and_value(alloc, row.given)?;
+    let read = move |part: &Value| read_costly(heap, part);
+    heap.refuse_after(left);
+    let read = CostlyParts::from_value(heap, form, &value, read, read);
+    is_made(unless_refused(read)?, row.outcome)
+}
+
+/// What was read. What rows name is refused for want of memory alone.
+fn unless_refused<M: Drop>(
+    read: Result<M, ReadError<NoNumber>>,
+) -> Result<Result<M, AllocError>, Fail> {
+    match read {
+        Ok(made) => Ok(Ok(made)),
+        Err(ReadError::OutOfMemory) => Ok(Err(AllocError)),
+        Err(_) => Err(Fail::new("what is read is refused")),
+    }
+}

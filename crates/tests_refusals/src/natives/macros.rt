@@ -1,0 +1,49 @@
+//! Lists whose macros are refused memory.
+
+use rangemap::{range_inclusive_map, range_inclusive_set, range_map, range_set};
+use tests_requests::{Answer, is_made};
+use tests_support::{Heap, check_that};
+
+/// Tries the four macros, which are refused alike.
+pub fn try_lists(heap: &Heap, left: u64) -> Answer {
+    let is_map = try_map(heap, left)?;
+    let others = (
+        try_inclusive_map(heap, left)?,
+        try_set(heap, left)?,
+        try_inclusive_set(heap, left)?,
+    );
+    check_that(
+        others == (is_map, is_map, is_map),
+        "a macro is refused otherwise",
+    )?;
+    Ok(is_map)
+}
+
+/// Tries the list of a map.
+fn try_map(heap: &Heap, left: u64) -> Answer {
+    heap.refuse_after(left);
+    let map = range_map! { in heap; 0..5u32 => 'a', 7..9 => 'b' };
+    is_made(map, "0..5 a, 7..9 b")
+}
+
+/// Tries the list of a closed map.
+fn try_inclusive_map(heap: &Heap, left: u64) -> Answer {
+    heap.refuse_after(left);
+    let map = range_inclusive_map! { in heap; 0..=5u32 => 'a', 7..=9 => 'b' };
+    is_made(map, "0..=5 a, 7..=9 b")
+}
+
+/// Tries the list of a set.
+fn try_set(heap: &Heap, left: u64) -> Answer {
+    heap.refuse_after(left);
+    is_made(range_set![in heap; 0..5u32, 7..9], "0..5, 7..9")
+}
+
+/// Tries the list of a closed set.
+fn try_inclusive_set(heap: &Heap, left: u64) -> Answer {
+    heap.refuse_after(left);
+    is_made(
+        range_inclusive_set![in heap; 0..=5u32, 7..=9],
+        "0..=5, 7..=9",
+    )
+}

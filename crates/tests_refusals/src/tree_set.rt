@@ -1,0 +1,39 @@
+//! Rows about calls on sets in a tree that are refused memory: each node, each list of keys and each
+//! clone of a key, in its turn.
+
+use crate::containers::tree_set;
+use std::test::Fail;
+use tests_support::{Costly, MANY, Refusing};
+
+// An insert, a removal, a clone and a gap take what they take of a map in a tree with equal values.
+//
+// Of an item of two sets both ends are cloned. A set of such items takes the tree and the key that
+// the first stands at beside them, and the key of the second. Of an `extend` the first range takes
+// the tree and a key, and each other, which joins what lies to the left, clones its start and a key.
+// A replay, which changes nothing without room, takes three lists, a node and a key of the first
+// set, a node and three keys of the clone, and two clones, a node and a key for each operator.
+#[test]
+fn each_request_may_be_refused(rt: HostRuntime) -> Result<(), Fail> {
+    let heap = Refusing::new(rt.alloc(), MANY);
+    tree_set::<Costly<'_>>(
+        &heap,
+        "| insert 0..10 | 0..10 | 2
+        0..5 | insert 5..10 | 0..10 | 2
+        5..10 | insert 0..5 | 0..10 | 4
+        0..5, 10..15 | insert 5..10 | 0..15 | 5
+        0..5 | insert 10..15 | 0..5, 10..15 | 1
+        0..10 | insert 3..6 | 0..10 | 3
+        0..10 | remove 2..5 | 0..2, 5..10 | 5
+        0..10 | remove 12..15 | 0..10 | 0
+        | remove 0..5 | | 0
+        | clone | | 0
+        0..2, 5..10 | clone | 0..2, 5..10 | 7
+        1..3 | gaps 0..5 | 0..1, 3..5 | 2
+        0..3, 7..10 | union 2..5, 9..13 | 0..5, 7..13 | 2
+        0..3, 7..10 | intersection 2..5, 9..13 | 2..3, 9..10 | 2
+        0..3, 7..10 | or 2..5, 9..13 | 0..5, 7..13 | 7
+        0..3, 7..10 | and 2..5, 9..13 | 2..3, 9..10 | 7
+        0..5 + 5..10 + 10..15 | extend | ; ; 0..5; 0..5; 0..10; 0..10; 0..15 | 6
+        new, insert 0..10, clone, union 0 1, intersection 0 1 | replay | 4 | 17",
+    )
+}

@@ -1,0 +1,131 @@
+//! What a container keeps of items that it is given where a request for memory is refused.
+ghost use Rattle.std.specs.Prelude.{IfOk};
+ghost use Rattle.rangemap.specs.Clones.{KeysCloneFaithfully, ValuesCloneFaithfully};
+ghost use Rattle.rangemap.specs.Ranges.{AreNonEmpty};
+
+use crate::calls::is_made;
+use crate::row::{Answer, Row};
+use rangemap::container::{Collect, insert_pairs};
+use std::alloc::AllocError;
+use std::test::Fail;
+use tests_support::{Heap, InRows, MANY, check_row, check_that, pair_of, pairs_of};
+
+mod sets;
+
+pub use sets::{try_growths, try_set_makers};
+
+/// Two pairs of a container.
+type TwoPairs<R, V> = ((R, V), (R, V));
+
+/// Makes the two pairs that a text names.
+pub fn two_pairs<M: InRows>(
+    alloc: M::Alloc,
+    pairs: &str,
+) -> Result<TwoPairs<M::Range, M::Value>, Fail>
+    ensures first { IfOk result (λ pairs. M.Kind.kind.IsNonEmpty pairs.0.0) }
+    ensures second { IfOk result (λ pairs. M.Kind.kind.IsNonEmpty pairs.1.0) }
+{
+    let (first, second) = pairs.split_once(" + ").ok_or("there are two pairs")?;
+    let first = pair_of::<M>(alloc, first)?;
+    Ok((first, pair_of::<M>(alloc, second)?))
+}
+
+/// Inserts the pairs into an empty container, until the request is refused that comes after `left`
+/// others. Tells whether all were inserted.
+fn insert_until<M: InRows>(
+    heap: &Heap,
+    alloc: M::Alloc,
+    pairs: Vec<(M::Range, M::Value), M::Alloc>,
+    left: u64,
+) -> (M, bool)
+    requires non_empty { AreNonEmpty M.Kind.kind pairs.items }
+    requires faithful_keys { KeysCloneFaithfully M.Range.Key.is_clone M.Range.Key.cmp }
+    requires faithful_values { ValuesCloneFaithfully M.Value.is_clone M.Value.eq }
+{
+    let mut map = M::new_with_step_fns(alloc);
+    heap.refuse_after(left);
+    let answer = insert_pairs(&mut map, pairs);
+    heap.refuse_after(MANY);
+    (map, answer.is_ok())
+}
+
+/// Extends an empty map by the pairs, in the same way.
+fn extend_until<M: Collect>(
+    heap: &Heap,
+    alloc: M::Alloc,
+    pairs: Vec<(M::Range, M::Value), M::Alloc>,
+    left: u64,
+) -> (M, bool)
+    requires non_empty { AreNonEmpty M.Kind.kind pairs.items }
+    requires faithful_keys { KeysCloneFaithfully M.Range.Key.is_clone M.Range.Key.cmp }
+    requires faithful_values { ValuesCloneFaithfully M.Value.is_clone M.Value.eq }
+{
+    let mut map = <M as Collect>::new(alloc);
+    heap.refuse_after(left);
+    let answer = map.extend(pairs);
+    heap.refuse_after(MANY);
+    (map, answer.is_ok())
+}
+
+/// Makes a map of the pairs by `from_iter`, unless the request that comes after `left` others is
+/// made, which is refused.
+fn collect_until<M: Collect>(
+    heap: &Heap,
+    alloc: M::Alloc,
+    pairs: Vec<(M::Range, M::Value), M::Alloc>,
+    left: u64,
+) -> Result<M, AllocError>
+    requires non_empty { AreNonEmpty M.Kind.kind pairs.items }
+    requires faithful_keys { KeysCloneFaithfully M.Range.Key.is_clone M.Range.Key.cmp }
+    requires faithful_values { ValuesCloneFaithfully M.Value.is_clone M.Value.eq }
+{
+    heap.refuse_after(left);
+    let answer = M::from_iter(alloc, pairs);
+    heap.refuse_after(MANY);
+    answer
+}
+
+/// The list that is kept where so many requests are granted. There is one for each number of these,
+/// and semicolons between them.
+fn kept(lists: &str, granted: u64) -> Result<&str, Fail> {
+    let mut rest = lists;
+    for _ in 0..granted {
+        rest = rest.split_once(';').ok_or("a list is missing")?.1;
+    }
+    Ok(rest.split_once(';').unwrap_or((rest, "")).0.trim())
+}
+
+/// Tries `extend`, which has to keep what inserts of the same pairs keep, and `from_iter`, which
+/// makes a map of the pairs or nothing.
+pub fn try_makers<M: InRows + Collect>(
+    heap: &Heap,
+    alloc: M::Alloc,
+    row: &Row<'_>,
+    left: u64,
+) -> Answer
+    requires faithful_keys { KeysCloneFaithfully M.Range.Key.is_clone M.Range.Key.cmp }
+    requires faithful_values { ValuesCloneFaithfully M.Value.is_clone M.Value.eq }
+{
+    let inserted = insert_until::<M>(heap, alloc, pairs_of::<M>(alloc, row.given)?, left);
+    let extended = extend_until::<M>(heap, alloc, pairs_of::<M>(alloc, row.given)?, left);
+    let made = collect_until::<M>(heap, alloc, pairs_of::<M>(alloc, row.given)?, left);
+    check_kept(inserted, extended, made, kept(row.outcome, left)?)
+}
+
+/// Compares what inserts and an `extend` kept, and what `from_iter` made, with a list. Answers
+/// whether all items were inserted.
+fn check_kept<M: InRows>(
+    inserted: (M, bool),
+    extended: (M, bool),
+    made: Result<M, AllocError>,
+    kept: &str,
+) -> Answer {
+    check_row(&extended.0, kept)?;
+    check_that(
+        extended == inserted,
+        "an `extend` keeps what inserts do not",
+    )?;
+    let is_made = is_made(made, kept)?;
+    check_that(is_made == extended.1, "`from_iter` is refused otherwise")?;
+    Ok(is_made)
+}

@@ -1,0 +1,79 @@
+//! A run of commands that are refused memory.
+ghost use Rattle.std.specs.Prelude.{IfOk};
+ghost use Rattle.std.specs.List.{AllByRecursion};
+ghost use Rattle.rangemap.specs.Clones.{KeysCloneFaithfully, ValuesCloneFaithfully};
+ghost use Rattle.rangemap.specs.Runs.{IsAllowed};
+
+use crate::makers::two_pairs;
+use crate::row::{Answer, Row};
+use rangemap::container::Container;
+use rangemap::tree_map::{Answer as Answered, Command, Outcome, run};
+use rangemap_core::key_range::KeyRange;
+use std::alloc::{AllocError, Allocator};
+use std::test::Fail;
+use tests_support::{Heap, InRows, check_that};
+
+/// Commands on a container, in its memory.
+type Commands<M> = Vec<
+    Command<
+        <<M as Container>::Range as KeyRange>::Key,
+        <M as Container>::Range,
+        <M as Container>::Value,
+    >,
+    <M as Container>::Alloc,
+>;
+
+/// Inserts of two pairs, and two questions.
+#[tactic(auto, using(tests_support::proofs::OneMore::all_and_one))]
+fn commands<M: InRows>(
+    alloc: M::Alloc,
+    first: (M::Range, M::Value),
+    second: (M::Range, M::Value),
+) -> Result<Commands<M>, AllocError>
+    requires first { M.Kind.kind.IsNonEmpty first.0 }
+    requires second { M.Kind.kind.IsNonEmpty second.0 }
+    ensures { IfOk result (λ commands. AllByRecursion (IsAllowed M.Kind.kind) commands.items) }
+{
+    let mut commands = Vec::new(alloc);
+    commands.push(Command::Insert(first.0, first.1))?;
+    commands.push(Command::Insert(second.0, second.1))?;
+    commands.push(Command::Len)?;
+    commands.push(Command::All)?;
+    Ok(commands)
+}
+
+/// Tries the run of these commands on an empty container.
+pub fn try_run<M: InRows>(heap: &Heap, alloc: M::Alloc, row: &Row<'_>, left: u64) -> Answer
+    requires faithful_keys { KeysCloneFaithfully M.Range.Key.is_clone M.Range.Key.cmp }
+    requires faithful_values { ValuesCloneFaithfully M.Value.is_clone M.Value.eq }
+{
+    let mut map = M::new_with_step_fns(alloc);
+    let (first, second) = two_pairs::<M>(alloc, row.given)?;
+    let commands = commands::<M>(alloc, first, second)?;
+    heap.refuse_after(left);
+    match run(alloc, &mut map, commands) {
+        Ok(answers) => are_accepted(answers.as_slice(), left),
+        Err(AllocError) => {
+            check_that(
+                (left, map.len()) == (0, 0),
+                "a run without room makes a call",
+            )?;
+            Ok(false)
+        }
+    }
+}
+
+/// Whether all commands were accepted. One is refused, if any, and those behind it are run.
+fn are_accepted<R, V, A: Allocator>(answers: &[Outcome<R, V, A>], left: u64) -> Answer {
+    let [first, second, third, last] = answers else {
+        return Err(Fail::new("four commands have other answers"));
+    };
+    let expected = if left == 1 { 1 } else { 2 };
+    let is_counted = matches!(third, Ok(Answered::Len(len)) if *len == expected);
+    let accepted = (first.is_ok(), second.is_ok(), is_counted, last.is_ok());
+    check_that(
+        accepted == (left != 1, true, true, left != 2),
+        "a command answers otherwise",
+    )?;
+    Ok(accepted == (true, true, true, true))
+}

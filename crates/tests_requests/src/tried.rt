@@ -1,0 +1,73 @@
+//! What is tried: the containers, and calls that have functions of their own.
+ghost use Rattle.rangemap.specs.Clones.{KeysCloneFaithfully, ValuesCloneFaithfully};
+
+mod maps;
+mod sets;
+
+use crate::row::{Answer, Row};
+use std::alloc::Allocator;
+use std::test::Fail;
+use tests_support::{Heap, InRows, MANY, check_that, made_of};
+
+/// What rows are tried on.
+///
+/// Each function here is proved once for all keys and values, so that a test's proof has to tell of
+/// these alone, and not of all that a container does. It is given the heap that refuses requests
+/// twice, the second time as what a container takes its memory from.
+pub trait Tried: Sized {
+    /// What its memory comes from.
+    type Alloc: Allocator + Copy;
+
+    /// That a clone of a key or a value equals its original.
+    ghost clones_are_faithful: { Type 0 };
+
+    /// Tries the call of a row, whose request that comes after `left` others is refused. Answers
+    /// whether it was accepted.
+    ///
+    /// Every container is asked to `insert`, to `remove` and to `clone`; for the `gaps` in a range,
+    /// of which there have to be two; to be made of any number of items, with what an `extend` keeps
+    /// of them for each number of requests that are granted; and to `replay` calls, which leave a
+    /// number of containers. Maps `append` their pairs to a list, and are what commands `run` on.
+    /// Sets are put together with another by `union`, `intersection`, `or` and `and`, the first two
+    /// of which have to give two items; and they `grow` by ranges that stand apart.
+    fn is_accepted(heap: &Heap, alloc: Self::Alloc, row: &Row<'_>, left: u64) -> Answer
+        requires { clones_are_faithful };
+}
+
+/// Makes the container that holds what a row has, and the range that a text names.
+fn with_range<M: InRows>(alloc: M::Alloc, pairs: &str, range: &str) -> Result<(M, M::Range), Fail>
+    requires faithful_keys { KeysCloneFaithfully M.Range.Key.is_clone M.Range.Key.cmp }
+    requires faithful_values { ValuesCloneFaithfully M.Value.is_clone M.Value.eq }
+{
+    let map = made_of(alloc, pairs)?;
+    Ok((map, M::range(alloc, range)?))
+}
+
+/// Tries the calls of a text, one on each line.
+pub fn check<M: Tried>(heap: &Heap, alloc: M::Alloc, text: &str) -> Result<(), Fail>
+    requires { M.clones_are_faithful }
+{
+    for line in text.split('\n') {
+        let line = line.trim();
+        if !line.is_empty() {
+            check_line::<M>(heap, alloc, line)?;
+        }
+    }
+    Ok(())
+}
+
+/// Tries the call of a line with each of its requests refused in its turn, and compares how many it
+/// makes. No block may stay held.
+fn check_line<M: Tried>(heap: &Heap, alloc: M::Alloc, line: &str) -> Result<(), Fail>
+    requires { M.clones_are_faithful }
+{
+    let row = Row::read(line)?;
+    for left in 0..=row.requests {
+        let is_accepted = M::is_accepted(heap, alloc, &row, left)?;
+        let is_all = left == row.requests;
+        let is_expected = is_accepted == is_all && !(is_all && heap.has_refused());
+        heap.refuse_after(MANY);
+        check_that(is_expected && heap.held() == 0, line)?;
+    }
+    Ok(())
+}

@@ -1,0 +1,2 @@
+-- Lemmas of the rows.
+pub mod NoCommonKey

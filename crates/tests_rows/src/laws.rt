@@ -1,0 +1,147 @@
+//! The laws, run on the containers of rows: with memory, each reaches its outcome.
+ghost use Rattle.rangemap.specs.Clones.{KeysCloneFaithfully, ValuesCloneFaithfully};
+
+use crate::answers::has_gaps;
+use rangemap_core::key_range::KeyRange;
+use rangemap_laws::laws;
+use std::test::Fail;
+use tests_support::{InRows, first_word, holds, pair_of, take_item};
+
+/// Runs a law on two containers that are equal, or on the first alone, and compares what it leaves.
+pub(crate) fn keeps_law<M: InRows>(
+    alloc: M::Alloc,
+    one: M,
+    other: M,
+    law: &str,
+    outcome: &str,
+) -> Result<bool, Fail>
+    requires faithful_keys { KeysCloneFaithfully M.Range.Key.is_clone M.Range.Key.cmp }
+    requires faithful_values { ValuesCloneFaithfully M.Value.is_clone M.Value.eq }
+{
+    let (name, operand) = first_word(law);
+    match name {
+        "insert" => keeps_insert(alloc, one, operand, outcome),
+        "remove" => keeps_remove(alloc, one, operand, outcome),
+        "parted" => is_parted(alloc, &one, operand, outcome),
+        "commute" => commute(alloc, one, other, operand, outcome),
+        "alike" | "twice" | "back" => are_alike(alloc, one, other, law, outcome),
+        _ => Err(Fail::new(format_args!("no law is called {name}"))),
+    }
+}
+
+/// An insert leaves the other pairs.
+fn keeps_insert<M: InRows>(
+    alloc: M::Alloc,
+    mut map: M,
+    pair: &str,
+    pairs: &str,
+) -> Result<bool, Fail>
+    requires faithful_keys { KeysCloneFaithfully M.Range.Key.is_clone M.Range.Key.cmp }
+    requires faithful_values { ValuesCloneFaithfully M.Value.is_clone M.Value.eq }
+{
+    let (range, value) = pair_of::<M>(alloc, pair)?;
+    laws::insert_changes_its_range_alone(&mut map, range, value)?;
+    Ok(holds(&map, pairs)?)
+}
+
+/// A remove leaves the other pairs.
+fn keeps_remove<M: InRows>(
+    alloc: M::Alloc,
+    mut map: M,
+    range: &str,
+    pairs: &str,
+) -> Result<bool, Fail>
+    requires faithful_keys { KeysCloneFaithfully M.Range.Key.is_clone M.Range.Key.cmp }
+    requires faithful_values { ValuesCloneFaithfully M.Value.is_clone M.Value.eq }
+{
+    laws::remove_changes_its_range_alone(&mut map, M::range(alloc, range)?)?;
+    Ok(holds(&map, pairs)?)
+}
+
+/// Gaps and covered keys make up a range, and the gaps are those that the container itself gives.
+fn is_parted<M: InRows>(
+    alloc: M::Alloc,
+    map: &M,
+    outer_range: &str,
+    gaps: &str,
+) -> Result<bool, Fail>
+    requires faithful_keys { KeysCloneFaithfully M.Range.Key.is_clone M.Range.Key.cmp }
+    requires faithful_values { ValuesCloneFaithfully M.Value.is_clone M.Value.eq }
+{
+    let outer_range = M::query(alloc, outer_range)?;
+    let found = laws::gaps_and_covered_keys_make_up_a_range(alloc, map, &outer_range)?;
+    Ok(are_ranges::<M>(found.as_slice(), gaps) && has_gaps(map, &outer_range, gaps)?)
+}
+
+/// Whether ranges are those of a list.
+fn are_ranges<M: InRows>(ranges: &[M::Range], list: &str) -> bool {
+    let mut rest = list;
+    for range in ranges {
+        match take_item(&mut rest) {
+            Some(item) if M::is_range(range, item) => {}
+            _ => return false,
+        }
+    }
+    rest.is_empty()
+}
+
+/// Two inserts leave the pairs, in either order. The range of the first ends before that of the
+/// second starts, so that they have no key in common.
+#[tactic(auto, using(crate::proofs::NoCommonKey::no_common_key))]
+fn commute<M: InRows>(
+    alloc: M::Alloc,
+    mut forth: M,
+    mut back: M,
+    inserted: &str,
+    pairs: &str,
+) -> Result<bool, Fail>
+    requires faithful_keys { KeysCloneFaithfully M.Range.Key.is_clone M.Range.Key.cmp }
+    requires faithful_values { ValuesCloneFaithfully M.Value.is_clone M.Value.eq }
+{
+    let (first, second) = inserted.split_once(" + ").ok_or("two inserts commute")?;
+    let first = pair_of::<M>(alloc, first)?;
+    let second = pair_of::<M>(alloc, second)?;
+    if first.0.reaches(second.0.start()) {
+        return Err(Fail::new("inserts that commute have a key in common"));
+    }
+    if laws::equal_exactly_when_alike(&forth, &back) != (true, false) {
+        return Ok(false);
+    }
+    laws::inserts_commute(
+        &mut forth,
+        &mut back,
+        (&first.0, &first.1),
+        (&second.0, &second.1),
+    )?;
+    Ok(holds(&forth, pairs)? && holds(&back, pairs)?)
+}
+
+/// Equal maps are alike, and are no more after an insert into one of them, which leaves the pairs. An
+/// insert into both leaves them, made once or `twice`; so does a remove from both, whether or not its
+/// range was inserted before and is `back` out.
+fn are_alike<M: InRows>(
+    alloc: M::Alloc,
+    mut one: M,
+    mut other: M,
+    law: &str,
+    pairs: &str,
+) -> Result<bool, Fail>
+    requires faithful_keys { KeysCloneFaithfully M.Range.Key.is_clone M.Range.Key.cmp }
+    requires faithful_values { ValuesCloneFaithfully M.Value.is_clone M.Value.eq }
+{
+    if laws::equal_exactly_when_alike(&one, &other) != (true, false) {
+        return Ok(false);
+    }
+    let (name, pair) = first_word(law);
+    let (range, value) = pair_of::<M>(alloc, pair)?;
+    match name {
+        "twice" => laws::insert_twice_equals_once(&mut one, &mut other, &range, &value)?,
+        "back" => laws::remove_after_insert_equals_remove(&mut one, &mut other, &range, &value)?,
+        _ => {
+            other.insert(range, value)?;
+            let compared = laws::equal_exactly_when_alike(&one, &other);
+            return Ok(compared == (false, true) && holds(&other, pairs)?);
+        }
+    }
+    Ok(holds(&one, pairs)? && holds(&other, pairs)?)
+}

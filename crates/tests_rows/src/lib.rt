@@ -1,0 +1,16 @@
+//! Rows: calls on a container, what they leave and what it then answers, each compared by one
+//! function for every container.
+//!
+//! `tests_support` says what the text of a row means. A row that differs is told as a `Fail`, since
+//! only a test may end itself.
+#![tactic(auto)]
+
+mod answers;
+mod iterators;
+mod laws;
+mod replays;
+mod tables;
+
+pub use iterators::{check_both_ends, check_counted_back, check_three, check_tries};
+pub use replays::check_replay;
+pub use tables::check_rows;

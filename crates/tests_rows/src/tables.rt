@@ -1,0 +1,59 @@
+//! Tables of rows, compared by one function for every container.
+//!
+//! A row has the calls that are made on an empty container, what it is asked then, and what it
+//! answers. The containers are made by `new_with_step_fns`, over the steps of their kind.
+//!
+//! It is asked what it `holds` (its pairs, their number, the first and the last of them), and of a
+//! `clone` of it the same; which pairs are `overlapping` a range; which `gaps` an outer range has;
+//! which pair is `at` a key, if one is; whether it `equals` the one that a list of pairs makes; and
+//! what a `law` of it leaves.
+ghost use Rattle.rangemap.specs.Clones.{KeysCloneFaithfully, ValuesCloneFaithfully};
+
+use crate::answers::{has_found, has_gaps, has_overlapping};
+use crate::laws::keeps_law;
+use std::test::Fail;
+use tests_support::{InRows, check_that, first_word, holds, insert_all, make, parts, rows};
+
+/// Compares the answer of each row of a table.
+pub fn check_rows<M: InRows>(alloc: M::Alloc, table: &str) -> Result<(), Fail>
+    requires faithful_keys { KeysCloneFaithfully M.Range.Key.is_clone M.Range.Key.cmp }
+    requires faithful_values { ValuesCloneFaithfully M.Value.is_clone M.Value.eq }
+{
+    for row in rows(alloc, table)? {
+        let is_so = is_answered::<M>(alloc, row)?;
+        check_that(is_so, format_args!("answered otherwise: {row}"))?;
+    }
+    Ok(())
+}
+
+/// Whether a container answers as a row says. Another is made for what it is compared with.
+fn is_answered<M: InRows>(alloc: M::Alloc, row: &str) -> Result<bool, Fail>
+    requires faithful_keys { KeysCloneFaithfully M.Range.Key.is_clone M.Range.Key.cmp }
+    requires faithful_values { ValuesCloneFaithfully M.Value.is_clone M.Value.eq }
+{
+    let (calls, question, answer) = parts(row)?;
+    let mut map = M::new_with_step_fns(alloc);
+    let mut other = M::new_with_step_fns(alloc);
+    make(&mut map, alloc, calls)?;
+    let (name, operand) = first_word(question);
+    match name {
+        "holds" => Ok(holds(&map, answer)?),
+        "clone" => {
+            let copy = map.clone()?;
+            Ok(copy == map && holds(&copy, answer)?)
+        }
+        "overlapping" => Ok(has_overlapping(&map, &M::query(alloc, operand)?, answer)?),
+        "gaps" => Ok(has_gaps(&map, &M::query(alloc, operand)?, answer)?),
+        "at" => Ok(has_found(&map, &M::key(alloc, operand)?, answer)),
+        "equals" => {
+            insert_all(&mut other, alloc, operand)?;
+            let (is_equal, differs) = (map == other, map != other);
+            Ok(is_equal != differs && answer.parse() == Ok(is_equal))
+        }
+        "law" => {
+            make(&mut other, alloc, calls)?;
+            keeps_law(alloc, map, other, operand, answer)
+        }
+        _ => Err(Fail::new(format_args!("no row asks {question}"))),
+    }
+}

@@ -1,0 +1,75 @@
+//! What the library has of its own: laws, replays and their calls, runs of commands, and what code
+//! over any container names.
+
+use rangemap::tree_map::Container;
+use rangemap::{laws, map};
+use std::alloc::{AllocError, Global};
+use std::ops::Range;
+
+// the structs behind the aliases, and what containers have in common
+pub use rangemap::container::{
+    Collect, Combine, Container as AnyContainer, collect_gaps, insert_pairs, segments,
+};
+pub use rangemap::map::Map;
+pub use rangemap::range_set::Set;
+
+// one function, under the name that each container's module gives it, and the calls that it makes
+pub use rangemap::inclusive_map::{
+    Call as CallOfClosedMaps, Change as ChangeOfClosedMaps, replay as replay_of_closed_maps,
+    replay_with_step_fns as replay_of_maps_by_step_fns,
+};
+pub use rangemap::inclusive_set::{
+    Call as CallOfClosedSets, Change as ChangeOfClosedSets, replay as replay_of_closed_sets,
+    replay_with_step_fns as replay_of_sets_by_step_fns,
+};
+pub use rangemap::map::{Call as CallOfMaps, Change as ChangeOfMaps, replay as replay_of_maps};
+pub use rangemap::set::{Call as CallOfSets, replay as replay_of_sets};
+pub use rangemap::tree_map::{
+    Answer, Call as CallOfTrees, Change as ChangeOfTrees, Command, Outcome,
+    replay as replay_of_trees, run,
+};
+pub use rangemap::tree_set::{Call as CallOfSetsInTrees, replay as replay_of_sets_in_trees};
+
+// every law
+pub use rangemap::laws::comparisons::{equal_maps_hash_alike, equality_agrees_with_order};
+pub use rangemap::laws::definitions::{
+    closed_rows, json_rows, list_rows, query_rows, set_and_text_rows,
+};
+pub use rangemap::laws::iterators::{
+    items_go_to_the_end, next_back_ends_both_ends, next_ends_both_ends, next_ends_tries,
+    next_stays_ended, try_next_ends_tries,
+};
+pub use rangemap::laws::overlaps::overlaps_exactly_where_covered;
+pub use rangemap::laws::round_trips::{
+    for_memory, from_iter_of_into_iter_is_equal, reading_what_was_written_is_equal,
+};
+pub use rangemap::laws::runs::accepted_runs_answer_alike;
+pub use rangemap::laws::set_round_trips::{
+    from_iter_of_into_iter_is_equal as from_iter_of_a_set_is_equal,
+    reading_what_was_written_is_equal as reading_a_written_set_is_equal,
+};
+pub use rangemap::laws::sets::{
+    Operator, Sides, absorbs, associates, closed_operations, commutes, distributes, is_idempotent,
+};
+pub use rangemap::laws::texts::{
+    ascii_text, set_texts_are_joined, signed_text, texts_are_joined, unsigned_text,
+};
+pub use rangemap::laws::{
+    equal_exactly_when_alike, gaps_and_covered_keys_make_up_a_range,
+    insert_changes_its_range_alone, insert_twice_equals_once, inserts_commute, lists_are_unique,
+    remove_after_insert_equals_remove, remove_changes_its_range_alone,
+};
+
+pub fn represented<M: Container<Range = Range<u32>, Value = char>>(
+    map: &M,
+    out: &mut Vec<(Range<u32>, char), Global>,
+) -> Result<(), AllocError> {
+    map.append_all(out)
+}
+
+pub fn laws_alike(
+    left: &map::RangeMap<u32, char>,
+    right: &map::RangeMap<u32, char>,
+) -> (bool, bool) {
+    laws::equal_exactly_when_alike(left, right)
+}

@@ -1,0 +1,22 @@
+//! Names every public item, from `rangemap` alone, and every call of a container but those by which
+//! the library's crates make parts for one another: `over`, `as_slice` and `new` of iterators other
+//! than `Union` and `Intersection`.
+//!
+//! The modules of one container name its calls over any keys; `keys` has each container at each type
+//! of keys, `defaults` each alias with its defaults. All maps are one struct, and so are all sets:
+//! what has nothing to do with steps is named of `a..b` alone, queries aside. The crate
+//! `tests_iterators` names the iterators. Laws, replays and what code over any container names are
+//! re-exports (`generic`), which cost nothing to prove.
+#![tactic(auto)]
+
+mod defaults;
+mod generic;
+mod inclusive_maps;
+mod inclusive_sets;
+mod keys;
+mod maps;
+mod root;
+mod sets;
+mod tree_sets;
+mod trees;
+mod widths;

@@ -1,0 +1,113 @@
+//! The calls of `tree_set::RangeSet`, by their signatures.
+ghost use Rattle.std.specs.Iterator.{IsFiniteIterable};
+ghost use Rattle.rangemap.specs.Clones.{KeysCloneFaithfully};
+ghost use Rattle.rangemap.specs.Ranges.{half_open};
+ghost use Rattle.rangemap.specs.Sets.{AreNonEmptyRanges, GivesNonEmptyRanges};
+
+use crate::root;
+use rangemap::tree_set::{Gaps, Intersection, IntoIter, Iter, Overlapping, RangeSet, Union};
+use rangemap::{Form, ReadError, WriteError};
+use serde_json::Value;
+use std::alloc::{AllocError, Allocator, Global};
+use std::fmt::Debug;
+use std::hash::{Hash, Hasher};
+use std::iter::IntoIterator;
+use std::ops::Range;
+
+pub fn ask<'a, T: Ord + Clone, A: Allocator + Clone>(
+    set: &'a RangeSet<T, A>,
+    value: &T,
+    range: &'a Range<T>,
+    other: &'a RangeSet<T, A>,
+) {
+    let _: Option<&'a Range<T>> = set.get(value);
+    let _: bool = set.contains(value);
+    let _: Option<&'a Range<T>> = set.first();
+    let _: Option<&'a Range<T>> = set.last();
+    let _: usize = set.len();
+    let _: bool = set.is_empty();
+    let _: bool = set.overlaps(range);
+    let _: Iter<'a, T> = set.iter();
+    let _: Overlapping<'a, T> = set.overlapping(range);
+    let _: Gaps<'a, T> = set.gaps(range);
+    let _: Union<'a, T> = set.union(other);
+    let _: Intersection<'a, T> = set.intersection(other);
+    let _: Union<'a, T> = Union::new(set.iter(), other.iter());
+    let _: Intersection<'a, T> = Intersection::new(set.iter(), other.iter());
+}
+
+pub fn from<T: Ord + Clone, A: Allocator + Clone, const N: usize>(
+    alloc: A,
+    value: [Range<T>; N],
+    other: &RangeSet<T, A>,
+) -> Result<[RangeSet<T, A>; 3], AllocError>
+    requires non_empty { AreNonEmptyRanges (half_open T.cmp) value }
+    requires faithful_keys { KeysCloneFaithfully T.is_clone T.cmp }
+{
+    let set = RangeSet::from(alloc, value)?;
+    let either = (&set | other)?;
+    let both = (&set & other)?;
+    Ok([set.clone()?, either, both])
+}
+
+pub fn collect_and_change<T: Ord + Clone, A: Allocator + Clone, I: IntoIterator<Item = Range<T>>>(
+    alloc: A,
+    other: A,
+    iter: I,
+    more: I,
+    given: Range<T>,
+    taken: Range<T>,
+) -> Result<(IntoIter<T, A>, RangeSet<T, A>), AllocError>
+    requires given_non_empty { (half_open T.cmp).IsNonEmpty given }
+    requires taken_non_empty { (half_open T.cmp).IsNonEmpty taken }
+    requires ends { IsFiniteIterable I.into_iter_gives I.IntoIter.can_next I.IntoIter.remaining iter }
+    requires non_empty { (it : I.IntoIter) → I.into_iter_gives iter it → GivesNonEmptyRanges (half_open T.cmp) I.IntoIter.next_gives it }
+    requires more_ends { IsFiniteIterable I.into_iter_gives I.IntoIter.can_next I.IntoIter.remaining more }
+    requires more_non_empty { (it : I.IntoIter) → I.into_iter_gives more it → GivesNonEmptyRanges (half_open T.cmp) I.IntoIter.next_gives it }
+    requires faithful_keys { KeysCloneFaithfully T.is_clone T.cmp }
+{
+    let mut changed: RangeSet<T, A> = RangeSet::new(other);
+    let answer = changed.extend(more);
+    let collected = RangeSet::from_iter(alloc, iter)?;
+    answer?;
+    changed.insert(given)?;
+    changed.remove(taken)?;
+    changed.clear();
+    Ok((collected.into_iter(), changed))
+}
+
+pub fn compare_and_print<T: Ord + Clone + Hash + Debug, A: Allocator + Clone, H: Hasher>(
+    alloc: Global,
+    left: &RangeSet<T, A>,
+    right: &RangeSet<T, A>,
+    state: &mut H,
+) -> Result<(bool, String), AllocError> {
+    let answer = root::compare(left, right, state);
+    Ok((answer, root::text(alloc, left)?))
+}
+
+pub fn write_and_read<
+    T: Ord + Clone,
+    A: Allocator + Clone,
+    E,
+    WK: Fn(&T) -> Result<Value, E>,
+    RK: Fn(&Value) -> Result<T, E>,
+>(
+    set: &RangeSet<T, A>,
+    alloc: Global,
+    write_key: WK,
+    other: A,
+    form: Form,
+    value: &Value,
+    read_key: RK,
+) -> (
+    Result<Value, WriteError<E>>,
+    Result<RangeSet<T, A>, ReadError<E>>,
+)
+    requires write_keys { WK.IsAlwaysCallable write_key }
+    requires read_keys { RK.IsAlwaysCallable read_key }
+    requires faithful_keys { KeysCloneFaithfully T.is_clone T.cmp }
+{
+    let written = set.to_value(alloc, write_key);
+    (written, RangeSet::from_value(other, form, value, read_key))
+}

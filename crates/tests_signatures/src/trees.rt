@@ -1,0 +1,130 @@
+//! The calls of `tree_map::RangeMap`, by their signatures.
+ghost use Rattle.std.specs.Iterator.{IsFiniteIterable};
+ghost use Rattle.rangemap.specs.Clones.{KeysCloneFaithfully, ValuesCloneFaithfully};
+ghost use Rattle.rangemap.specs.NonEmptyPairs.{GivesNonEmpty};
+ghost use Rattle.rangemap.specs.Ranges.{AreNonEmpty, half_open};
+
+use crate::root;
+use rangemap::tree_map::{Gaps, IntoIter, Iter, Overlapping, RangeMap};
+use rangemap::{Form, ReadError, WriteError};
+use serde_json::Value;
+use std::alloc::{AllocError, Allocator, Global};
+use std::fmt::Debug;
+use std::hash::{Hash, Hasher};
+use std::iter::IntoIterator;
+use std::ops::Range;
+
+pub fn ask<'a, K: Ord + Clone, V: Eq + Clone, A: Allocator + Clone>(
+    map: &'a RangeMap<K, V, A>,
+    key: &K,
+    range: &'a Range<K>,
+) {
+    let _: Option<&'a V> = map.get(key);
+    let _: Option<(&'a Range<K>, &'a V)> = map.get_key_value(key);
+    let _: bool = map.contains_key(key);
+    let _: Option<(&'a Range<K>, &'a V)> = map.first_range_value();
+    let _: Option<(&'a Range<K>, &'a V)> = map.last_range_value();
+    let _: usize = map.len();
+    let _: bool = map.is_empty();
+    let _: bool = map.overlaps(range);
+    let _: Iter<'a, K, V> = map.iter();
+    let _: Overlapping<'a, K, V> = map.overlapping(range);
+    let _: Gaps<'a, K, V> = map.gaps(range);
+    let _: &'a A = map.allocator();
+}
+
+pub fn from<K: Ord + Clone, V: Eq + Clone, A: Allocator + Clone, const N: usize>(
+    alloc: A,
+    value: [(Range<K>, V); N],
+) -> Result<(RangeMap<K, V, A>, RangeMap<K, V, A>), AllocError>
+    requires non_empty { AreNonEmpty (half_open K.cmp) value }
+    requires faithful_keys { KeysCloneFaithfully K.is_clone K.cmp }
+    requires faithful_values { ValuesCloneFaithfully V.is_clone V.eq }
+{
+    let map = RangeMap::from(alloc, value)?;
+    let copy = map.clone()?;
+    Ok((map, copy))
+}
+
+pub fn collect_and_change<
+    K: Ord + Clone,
+    V: Eq + Clone,
+    A: Allocator + Clone,
+    I: IntoIterator<Item = (Range<K>, V)>,
+>(
+    alloc: A,
+    other: A,
+    iter: I,
+    more: I,
+    given: Range<K>,
+    value: V,
+    taken: Range<K>,
+) -> Result<(IntoIter<K, V, A>, RangeMap<K, V, A>), AllocError>
+    requires given_non_empty { (half_open K.cmp).IsNonEmpty given }
+    requires taken_non_empty { (half_open K.cmp).IsNonEmpty taken }
+    requires ends { IsFiniteIterable I.into_iter_gives I.IntoIter.can_next I.IntoIter.remaining iter }
+    requires non_empty { (it : I.IntoIter) → I.into_iter_gives iter it → GivesNonEmpty (half_open K.cmp) I.IntoIter.next_gives it }
+    requires more_ends { IsFiniteIterable I.into_iter_gives I.IntoIter.can_next I.IntoIter.remaining more }
+    requires more_non_empty { (it : I.IntoIter) → I.into_iter_gives more it → GivesNonEmpty (half_open K.cmp) I.IntoIter.next_gives it }
+    requires faithful_keys { KeysCloneFaithfully K.is_clone K.cmp }
+    requires faithful_values { ValuesCloneFaithfully V.is_clone V.eq }
+{
+    let mut changed: RangeMap<K, V, A> = RangeMap::new(other);
+    let answer = changed.extend(more);
+    let collected = RangeMap::from_iter(alloc, iter)?;
+    answer?;
+    changed.insert(given, value)?;
+    changed.remove(taken)?;
+    changed.clear();
+    Ok((collected.into_iter(), changed))
+}
+
+pub fn compare_and_print<
+    K: Ord + Clone + Hash + Debug,
+    V: Ord + Clone + Hash + Debug,
+    A: Allocator + Clone,
+    H: Hasher,
+>(
+    alloc: Global,
+    left: &RangeMap<K, V, A>,
+    right: &RangeMap<K, V, A>,
+    state: &mut H,
+) -> Result<(bool, String), AllocError> {
+    let answer = root::compare(left, right, state);
+    Ok((answer, root::text(alloc, left)?))
+}
+
+pub fn write_and_read<
+    K: Ord + Clone,
+    V: Eq + Clone,
+    A: Allocator + Clone,
+    E,
+    WK: Fn(&K) -> Result<Value, E>,
+    WV: Fn(&V) -> Result<Value, E>,
+    RK: Fn(&Value) -> Result<K, E>,
+    RV: Fn(&Value) -> Result<V, E>,
+>(
+    map: &RangeMap<K, V, A>,
+    alloc: Global,
+    write: (WK, WV),
+    other: A,
+    form: Form,
+    value: &Value,
+    read: (RK, RV),
+) -> (
+    Result<Value, WriteError<E>>,
+    Result<RangeMap<K, V, A>, ReadError<E>>,
+)
+    requires write_keys { WK.IsAlwaysCallable write.0 }
+    requires write_values { WV.IsAlwaysCallable write.1 }
+    requires read_keys { RK.IsAlwaysCallable read.0 }
+    requires read_values { RV.IsAlwaysCallable read.1 }
+    requires faithful_keys { KeysCloneFaithfully K.is_clone K.cmp }
+    requires faithful_values { ValuesCloneFaithfully V.is_clone V.eq }
+{
+    let written = map.to_value(alloc, write.0, write.1);
+    (
+        written,
+        RangeMap::from_value(other, form, value, read.0, read.1),
+    )
+}

@@ -1,0 +1,6 @@
+use Rattle.std.specs.List.{AllByRecursion}
+use Rattle.rangemap_replay.specs.Histories.{HasNonEmptyRanges}
+use Rattle.tests_support.proofs.replays.calls_of.Given as goal
+
+abbrev pub invariant-loop-call : goal.invariant-loop-call
+invariant-loop-call g l = AllByRecursion (HasNonEmptyRanges g.M.Kind.Kind.kind) l.all.items

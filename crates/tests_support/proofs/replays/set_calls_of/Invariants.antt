@@ -1,0 +1,6 @@
+use Rattle.std.specs.List.{AllByRecursion}
+use Rattle.rangemap_replay.specs.SetHistories.{SetHasNonEmptyRanges}
+use Rattle.tests_support.proofs.replays.set_calls_of.Given as goal
+
+abbrev pub invariant-loop-call : goal.invariant-loop-call
+invariant-loop-call g l = AllByRecursion (SetHasNonEmptyRanges g.S.Kind.Kind.kind) l.all.items

@@ -1,0 +1,38 @@
+//! Test support: what the libraries of tests stand on.
+//!
+//! `words`, `grammar` and `in_rows` say what the text of a row means, and `calls`, `replays` and
+//! `compared` make containers and calls of it and compare what a container holds. `readers` tells
+//! what a container's own iterators give, `refusing` is an allocator that refuses memory, and beside
+//! them stand keys, values and steps of the tests' own.
+#![tactic(auto)]
+
+mod calls;
+mod compared;
+mod costly;
+mod grammar;
+mod heaps;
+mod in_rows;
+mod ranges;
+mod readers;
+mod refusing;
+mod replays;
+mod same;
+mod signed;
+mod told;
+mod tries;
+mod words;
+
+pub use calls::{insert_all, made_of, make, pair_of, read_change};
+pub use compared::{Compared, check_row, holds, is_pair};
+pub use costly::{Costly, CostlyMap, CostlySet, CostlyTree, CostlyTreeSet, HalfOpenCostlySet};
+pub use grammar::{first_word, lists, parts, rows, take_item, two_lists, two_parts};
+pub use heaps::{Heap, MANY, Text, Texts};
+pub use in_rows::{FromEnds, InRows};
+pub use ranges::filled;
+pub use readers::{ReadsGaps, ReadsPairs, Told, tell_gaps, tell_pairs, tell_ranges};
+pub use refusing::Refusing;
+pub use replays::{calls_of, changes_of, pairs_of, ranges_of, set_calls_of};
+pub use same::{check_same, check_text, check_that};
+pub use signed::SignedSteps;
+pub use tries::Tries;
+pub use words::{Plain, Word};

@@ -1,0 +1,170 @@
+//! The calls of a replay.
+//!
+//! Before a call may stand the place of the container that it is made on, as in `1: clear`. The
+//! ranges that a call takes have a plus between them.
+ghost use Rattle.std.specs.Prelude.{IfOk};
+ghost use Rattle.std.specs.List.{AllByRecursion};
+ghost use Rattle.rangemap_replay.specs.Histories.{HasNonEmptyRange, HasNonEmptyRanges};
+ghost use Rattle.rangemap.specs.Ranges.{AreNonEmpty};
+ghost use Rattle.rangemap_replay.specs.SetHistories.{SetHasNonEmptyRanges};
+ghost use Rattle.rangemap.specs.Sets.{AreNonEmptyRanges};
+
+use crate::calls::{pair_of, read_change};
+use crate::grammar::first_word;
+use crate::in_rows::InRows;
+use rangemap_replay::calls::sets::SetCall;
+use rangemap_replay::calls::{Call, Change};
+use std::test::Fail;
+
+/// Divides the place from a call.
+fn place(text: &str) -> Result<(usize, &str), Fail> {
+    match text.split_once(": ") {
+        Some((at, call)) => Ok((at.parse()?, call)),
+        None => Ok((0, text)),
+    }
+}
+
+/// Makes the pairs that a text names.
+#[tactic(auto, using(crate::proofs::OneMore::pairs_and_one))]
+pub fn pairs_of<M: InRows>(
+    alloc: M::Alloc,
+    pairs: &str,
+) -> Result<Vec<(M::Range, M::Value), M::Alloc>, Fail>
+    ensures { IfOk result (λ all. AreNonEmpty M.Kind.kind all.items) }
+{
+    let mut all = Vec::new(alloc);
+    for pair in pairs.split(" + ") {
+        all.push(pair_of::<M>(alloc, pair)?)?;
+    }
+    Ok(all)
+}
+
+/// Makes the ranges that a text names.
+#[tactic(auto, using(crate::proofs::OneMore::all_and_one))]
+pub fn ranges_of<M: InRows>(alloc: M::Alloc, ranges: &str) -> Result<Vec<M::Range, M::Alloc>, Fail>
+    ensures { IfOk result (λ all. AreNonEmptyRanges M.Kind.kind all.items) }
+{
+    let mut all = Vec::new(alloc);
+    for range in ranges.split(" + ") {
+        all.push(M::range(alloc, range)?)?;
+    }
+    Ok(all)
+}
+
+/// Makes the calls of a list that take no pairs, and one range at most.
+#[tactic(auto, using(crate::proofs::OneMore::all_and_one))]
+pub fn changes_of<M: InRows>(
+    alloc: M::Alloc,
+    calls: &str,
+) -> Result<Vec<Change<M::Range, M::Value>, M::Alloc>, Fail>
+    ensures { IfOk result (λ all. AllByRecursion (HasNonEmptyRange M.Kind.kind) all.items) }
+{
+    let mut all = Vec::new(alloc);
+    for call in calls.split(", ") {
+        let (at, call) = place(call)?;
+        all.push(read_change::<M>(alloc, at, call)?)?;
+    }
+    Ok(all)
+}
+
+/// Makes the calls of a list on maps.
+#[tactic(auto, using(crate::proofs::OneMore::all_and_one))]
+pub fn calls_of<M: InRows>(
+    alloc: M::Alloc,
+    calls: &str,
+) -> Result<Vec<Call<M::Range, M::Value, M::Alloc>, M::Alloc>, Fail>
+    ensures { IfOk result (λ all. AllByRecursion (HasNonEmptyRanges M.Kind.kind) all.items) }
+{
+    let mut all = Vec::new(alloc);
+    for call in calls.split(", ") {
+        all.push(read_call::<M>(alloc, call)?)?;
+    }
+    Ok(all)
+}
+
+/// Makes the call on maps that a text names.
+fn read_call<M: InRows>(
+    alloc: M::Alloc,
+    call: &str,
+) -> Result<Call<M::Range, M::Value, M::Alloc>, Fail>
+    ensures { IfOk result (HasNonEmptyRanges M.Kind.kind) }
+{
+    let (at, call) = place(call)?;
+    let (name, operands) = first_word(call);
+    match name {
+        "from" => {
+            let pairs = pairs_of::<M>(alloc, operands)?;
+            Ok(Call::FromIter { pairs })
+        }
+        "extend" => {
+            let pairs = pairs_of::<M>(alloc, operands)?;
+            Ok(Call::Extend { at, pairs })
+        }
+        _ => Ok(Call::Change(read_change::<M>(alloc, at, call)?)),
+    }
+}
+
+/// Makes the calls of a list on sets.
+#[tactic(auto, using(crate::proofs::OneMore::all_and_one))]
+pub fn set_calls_of<S: InRows<Value = ()>>(
+    alloc: S::Alloc,
+    calls: &str,
+) -> Result<Vec<SetCall<S::Range, S::Alloc>, S::Alloc>, Fail>
+    ensures { IfOk result (λ all. AllByRecursion (SetHasNonEmptyRanges S.Kind.kind) all.items) }
+{
+    let mut all = Vec::new(alloc);
+    for call in calls.split(", ") {
+        all.push(read_set_call::<S>(alloc, call)?)?;
+    }
+    Ok(all)
+}
+
+/// Makes the call on sets that a text names.
+fn read_set_call<S: InRows<Value = ()>>(
+    alloc: S::Alloc,
+    call: &str,
+) -> Result<SetCall<S::Range, S::Alloc>, Fail>
+    ensures { IfOk result (SetHasNonEmptyRanges S.Kind.kind) }
+{
+    let (at, call) = place(call)?;
+    let (name, operands) = first_word(call);
+    match name {
+        "from" => {
+            let ranges = ranges_of::<S>(alloc, operands)?;
+            Ok(SetCall::FromIter { ranges })
+        }
+        "extend" => {
+            let ranges = ranges_of::<S>(alloc, operands)?;
+            Ok(SetCall::Extend { at, ranges })
+        }
+        "union" => {
+            let (left, right) = places(operands)?;
+            Ok(SetCall::Union { left, right })
+        }
+        "intersection" => {
+            let (left, right) = places(operands)?;
+            Ok(SetCall::Intersection { left, right })
+        }
+        _ => Ok(set_call::<S>(read_change::<S>(alloc, at, call)?)),
+    }
+}
+
+/// The two places that an operator takes its sets from.
+fn places(operands: &str) -> Result<(usize, usize), Fail> {
+    let (left, right) = first_word(operands);
+    Ok((left.parse()?, right.parse()?))
+}
+
+/// The call on a set that a change is.
+fn set_call<S: InRows<Value = ()>>(change: Change<S::Range, ()>) -> SetCall<S::Range, S::Alloc>
+    requires { HasNonEmptyRange S.Kind.kind change }
+    ensures { SetHasNonEmptyRanges S.Kind.kind result }
+{
+    match change {
+        Change::New => SetCall::New,
+        Change::Insert { at, range, .. } => SetCall::Insert { at, range },
+        Change::Remove { at, range } => SetCall::Remove { at, range },
+        Change::Clear { at } => SetCall::Clear { at },
+        Change::Clone { at } => SetCall::Clone { at },
+    }
+}

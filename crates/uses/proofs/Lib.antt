@@ -1,4 +1,0 @@
-mod CidrLemmas
-mod ExtentLemmas
-mod RingLemmas
-mod WordLemmas

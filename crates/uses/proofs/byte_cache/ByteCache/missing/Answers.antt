@@ -1,6 +1,0 @@
-use Rattle.rangemap.proofs.NumberKinds.{placed_half_open}
-use Rattle.rangemap.proofs.SetCallerLemmas.{set_gaps_collected}
-use Rattle.uses.proofs.byte_cache.ByteCache.missing.Goals as goal
-
-pub returns : goal.returns
-returns c = search (set_gaps_collected placed_half_open)

@@ -1,7 +1,0 @@
-use Rattle.std.proofs.Common.{◌∙◌}
-use Rattle.rangemap.proofs.NumberKinds.{placed_half_open}
-use Rattle.rangemap.proofs.SetCallerLemmas.{equal_sets}
-use Rattle.uses.proofs.calling.are_equal.Goals as goal
-
-pub returns : goal.returns
-returns c = c.eq.ensures ∙ equal_sets placed_half_open c.args.left.now c.args.right.now c.iter.ensures.canonical c.iter-2.ensures.canonical (λ key is. c.requires key)

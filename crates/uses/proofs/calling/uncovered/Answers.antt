@@ -1,7 +1,0 @@
-use Rattle.std.proofs.Common.{ℕ}
-use Rattle.rangemap.proofs.GapLoopLemmas.{gaps_collected}
-use Rattle.rangemap.proofs.NumberKinds.{placed_half_open}
-use Rattle.uses.proofs.calling.uncovered.Goals as goal
-
-pub returns : goal.returns
-returns c = search (gaps_collected {V = ℕ} placed_half_open)

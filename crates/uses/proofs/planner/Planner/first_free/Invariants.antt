@@ -1,7 +1,0 @@
-use Rattle.std.proofs.Common.{◌+◌, ◌<◌, All, IsOkAnd}
-use Rattle.std.specs.Range.{range_inclusive_start, range_inclusive_end}
-use Rattle.uses.proofs.planner.Planner.first_free.Given as goal
-
--- each gap so far is too short
-abbrev pub invariant-loop-gap : goal.invariant-loop-gap
-invariant-loop-gap l = All (λ item. IsOkAnd item (λ gap. range_inclusive_end gap + 1 < range_inclusive_start gap + l.size)) l.yielded

@@ -1,6 +1,0 @@
-pub mod Blocks
-pub mod Characters
-pub mod Cidr
-pub mod Duty
-pub mod Numbers
-pub mod Places
