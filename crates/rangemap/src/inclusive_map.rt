@@ -1,10 +1,11 @@
 //! The map over closed ranges, and the runs of any calls that make or change such maps.
 
 use rangemap_core::closed::Closed;
+use rangemap_core::gaps;
 pub use rangemap_maps::range_map::Map;
 use rangemap_replay::calls;
 pub use rangemap_replay::replay::{replay, replay as replay_with_step_fns};
-use rangemap_sorted::{SortedVec, gaps, into_iter, iter, overlapping};
+use rangemap_sorted::{SortedVec, into_iter, iter, overlapping};
 use std::alloc::Global;
 use std::ops::RangeInclusive;
 
@@ -74,7 +75,12 @@ pub type IntoIter<K, V, A = Global> = into_iter::IntoIter<RangeInclusive<K>, V, 
 pub type Overlapping<'a, K, V> = overlapping::Overlapping<'a, RangeInclusive<K>, V>;
 
 /// The parts of a range that a map does not cover, in order.
-pub type Gaps<'a, K, V, StepFnsT = K> = gaps::Gaps<'a, Closed<StepFnsT>, RangeInclusive<K>, V>;
+pub type Gaps<'a, K, V, StepFnsT = K> = gaps::Gaps<
+    'a,
+    Closed<StepFnsT>,
+    RangeInclusive<K>,
+    Overlapping<'a, K, V>,
+>;
 
 /// A call that makes a map or changes the one at a place of a list.
 pub type Call<K, V, A = Global> = calls::Call<RangeInclusive<K>, V, A>;

@@ -2,9 +2,10 @@
 
 use crate::range_set::Set;
 use rangemap_core::closed::Closed;
+use rangemap_core::gaps;
 use rangemap_replay::calls::{self, sets};
 pub use rangemap_replay::replay::{replay, replay as replay_with_step_fns};
-use rangemap_sorted::{SortedVec, gaps, iter, overlapping};
+use rangemap_sorted::{SortedVec, into_iter, iter, overlapping};
 use rangemap_unions::{self as unions, IntoRanges, Ranges};
 use std::alloc::Global;
 use std::ops::RangeInclusive;
@@ -66,14 +67,19 @@ pub type RangeInclusiveSet<T, StepFnsT = T, A = Global> = Set<
 pub type Iter<'a, T> = Ranges<iter::Iter<'a, RangeInclusive<T>, ()>>;
 
 /// The ranges that a set hands over, in order and from both ends.
-pub type IntoIter<T, A = Global> = IntoRanges<SortedVec<Closed<T>, RangeInclusive<T>, (), A>>;
+pub type IntoIter<T, A = Global> = IntoRanges<into_iter::IntoIter<RangeInclusive<T>, (), A>>;
 
 /// The ranges of a set that overlap a range, in order and from both ends. The first `next_back`
 /// searches for the end, in *O*(log *n*).
 pub type Overlapping<'a, T> = Ranges<overlapping::Overlapping<'a, RangeInclusive<T>, ()>>;
 
 /// The parts of a range that a set does not cover, in order.
-pub type Gaps<'a, T, StepFnsT = T> = gaps::Gaps<'a, Closed<StepFnsT>, RangeInclusive<T>, ()>;
+pub type Gaps<'a, T, StepFnsT = T> = gaps::Gaps<
+    'a,
+    Closed<StepFnsT>,
+    RangeInclusive<T>,
+    overlapping::Overlapping<'a, RangeInclusive<T>, ()>,
+>;
 
 /// The ranges of two sets, joined where they overlap, in order.
 ///

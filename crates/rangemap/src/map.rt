@@ -1,10 +1,11 @@
 //! The map over half-open ranges, and the run of any calls that make or change such maps.
 
+use rangemap_core::gaps;
 use rangemap_core::half_open::HalfOpen;
 pub use rangemap_maps::range_map::Map;
 use rangemap_replay::calls;
 pub use rangemap_replay::replay::replay;
-use rangemap_sorted::{SortedVec, gaps, into_iter, iter, overlapping};
+use rangemap_sorted::{SortedVec, into_iter, iter, overlapping};
 use std::alloc::Global;
 use std::ops::Range;
 
@@ -63,7 +64,7 @@ pub type IntoIter<K, V, A = Global> = into_iter::IntoIter<Range<K>, V, A>;
 pub type Overlapping<'a, K, V> = overlapping::Overlapping<'a, Range<K>, V>;
 
 /// The parts of a range that a map does not cover, in order.
-pub type Gaps<'a, K, V> = gaps::Gaps<'a, HalfOpen, Range<K>, V>;
+pub type Gaps<'a, K, V> = gaps::Gaps<'a, HalfOpen, Range<K>, Overlapping<'a, K, V>>;
 
 /// A call that makes a map or changes the one at a place of a list.
 pub type Call<K, V, A = Global> = calls::Call<Range<K>, V, A>;

@@ -5,6 +5,7 @@ ghost use Rattle.rangemap.specs.Clones.{KeysCloneFaithfully};
 ghost use Rattle.rangemap.specs.Ranges.{AreGaps, covers};
 ghost use Rattle.rangemap.specs.Sets.{Adds, IsCanonicalSet, TakesOut, met, range_at};
 
+use rangemap_core::gaps::{Gaps, gaps_of};
 use rangemap_core::key_range::KeyRange;
 use rangemap_core::kind::{Kind, OwnSteps};
 use rangemap_core::store::{Lends, Store};
@@ -264,9 +265,9 @@ where
     /// {1..3, 5..7}.gaps(&(0..8)): 0..1, 3..5, 7..8
     /// {1..=2, 5..=6}.gaps(&(0..=7)): 0..=0, 3..=4, 7..=7
     /// ```
-    pub fn gaps(&'a self, outer_range: &'a S::Range) -> S::Gaps
-        ensures { AreGaps S.Kind.kind self.now outer_range.now (S.between result) }
+    pub fn gaps(&'a self, outer_range: &'a S::Range) -> Gaps<'a, S::Kind, S::Range, S::Overlapping>
+        ensures { AreGaps S.Kind.kind self.now outer_range.now result }
     {
-        self.stored.gaps(outer_range)
+        gaps_of(&self.stored, outer_range)
     }
 }

@@ -1,10 +1,11 @@
 //! The set over half-open ranges, and the run of any calls that make or change such sets.
 
 use crate::range_set::Set;
+use rangemap_core::gaps;
 use rangemap_core::half_open::HalfOpen;
 use rangemap_replay::calls::sets;
 pub use rangemap_replay::replay::replay;
-use rangemap_sorted::{SortedVec, gaps, iter, overlapping};
+use rangemap_sorted::{SortedVec, into_iter, iter, overlapping};
 use rangemap_unions::{self as unions, IntoRanges, Ranges};
 use std::alloc::Global;
 use std::ops::Range;
@@ -61,14 +62,19 @@ pub type RangeSet<T, A = Global> = Set<SortedVec<HalfOpen, Range<T>, (), A>>;
 pub type Iter<'a, T> = Ranges<iter::Iter<'a, Range<T>, ()>>;
 
 /// The ranges that a set hands over, in order and from both ends.
-pub type IntoIter<T, A = Global> = IntoRanges<SortedVec<HalfOpen, Range<T>, (), A>>;
+pub type IntoIter<T, A = Global> = IntoRanges<into_iter::IntoIter<Range<T>, (), A>>;
 
 /// The ranges of a set that overlap a range, in order and from both ends. The first `next_back`
 /// searches for the end, in *O*(log *n*).
 pub type Overlapping<'a, T> = Ranges<overlapping::Overlapping<'a, Range<T>, ()>>;
 
 /// The parts of a range that a set does not cover, in order.
-pub type Gaps<'a, T> = gaps::Gaps<'a, HalfOpen, Range<T>, ()>;
+pub type Gaps<'a, T> = gaps::Gaps<
+    'a,
+    HalfOpen,
+    Range<T>,
+    overlapping::Overlapping<'a, Range<T>, ()>,
+>;
 
 /// The ranges of two sets, joined where they overlap, in order.
 pub type Union<'a, T> = unions::Union<iter::Iter<'a, Range<T>, ()>>;

@@ -2,11 +2,13 @@
 //! change such maps, and the run of commands on any map, in a tree or not.
 
 pub use crate::container::Container;
+use rangemap_core::gaps;
+use rangemap_core::half_open::HalfOpen;
 pub use rangemap_laws::commands::{Answer, Command, Outcome, run};
 pub use rangemap_maps::range_map::Map;
 use rangemap_replay::calls;
 pub use rangemap_replay::replay::replay;
-use rangemap_tree::{Tree, gaps, into_iter, iter, overlapping};
+use rangemap_tree::{Tree, into_iter, iter, overlapping};
 use std::alloc::Global;
 use std::ops::Range;
 
@@ -66,7 +68,7 @@ pub type IntoIter<K, V, A = Global> = into_iter::IntoIter<K, V, A>;
 pub type Overlapping<'a, K, V> = overlapping::Overlapping<'a, K, V>;
 
 /// The parts of a range that a map does not cover, in order.
-pub type Gaps<'a, K, V> = gaps::Gaps<'a, K, V>;
+pub type Gaps<'a, K, V> = gaps::Gaps<'a, HalfOpen, Range<K>, Overlapping<'a, K, V>>;
 
 /// A call that makes a map or changes the one at a place of a list.
 pub type Call<K, V, A = Global> = calls::Call<Range<K>, V, A>;

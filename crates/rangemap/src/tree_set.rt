@@ -2,9 +2,11 @@
 //! change such sets.
 
 use crate::range_set::Set;
+use rangemap_core::gaps;
+use rangemap_core::half_open::HalfOpen;
 use rangemap_replay::calls::sets;
 pub use rangemap_replay::replay::replay;
-use rangemap_tree::{Tree, gaps, iter, overlapping};
+use rangemap_tree::{Tree, into_iter, iter, overlapping};
 use rangemap_unions::{self as unions, IntoRanges, Ranges};
 use std::alloc::Global;
 use std::ops::Range;
@@ -56,13 +58,13 @@ pub type RangeSet<T, A = Global> = Set<Tree<T, (), A>>;
 pub type Iter<'a, T> = Ranges<iter::Iter<'a, T, ()>>;
 
 /// The ranges that a set hands over, in order and from both ends.
-pub type IntoIter<T, A = Global> = IntoRanges<Tree<T, (), A>>;
+pub type IntoIter<T, A = Global> = IntoRanges<into_iter::IntoIter<T, (), A>>;
 
 /// The ranges of a set that overlap a range, in order and from both ends.
 pub type Overlapping<'a, T> = Ranges<overlapping::Overlapping<'a, T, ()>>;
 
 /// The parts of a range that a set does not cover, in order.
-pub type Gaps<'a, T> = gaps::Gaps<'a, T, ()>;
+pub type Gaps<'a, T> = gaps::Gaps<'a, HalfOpen, Range<T>, overlapping::Overlapping<'a, T, ()>>;
 
 /// The ranges of two sets, joined where they overlap, in order.
 pub type Union<'a, T> = unions::Union<iter::Iter<'a, T, ()>>;

@@ -1,13 +1,11 @@
 -- Iterators that hand items over give those of the list that is left.
-use Rattle.std.proofs.Common.{◌≡◌, ℕ, zero, suc, Bool, List, [], ◌∷◌, Option, Some, None, MatchOption, ap, subst, sym}
+use Rattle.std.proofs.Common.{◌≡◌, ℕ, zero, suc, List, [], ◌∷◌, Option, Some, None, MatchOption, ap, subst, sym}
 use Rattle.std.specs.List.{slice_get}
 use Rattle.std.specs.Iterator.{Drains, Yields}
-use Rattle.std.specs.Iterator.Runs.{Run}
 use Rattle.std.proofs.iter.runs.Made.{each, took}
 use Rattle.std.specs.Map.Iter.{TakesFirst}
 use Rattle.rangemap_core.specs.NonEmptyPairs.{GivesNonEmpty}
 use Rattle.rangemap_core.specs.Ranges.{RangeKind, AreNonEmpty}
-use Rattle.rangemap_core.proofs.OwnPairLemmas.{drained}
 
 module _ {A S : Type 0} (left : S → List A) {steps : S → Option A → S → Type 0} (takes : (it : S) (taken : Option A) (rest : S) → steps it taken rest → TakesFirst (λ item. item) (left it) taken (left rest)) where
   shown : (s : S) (ys : List A) (t : S) → Yields steps s ys t → Yields (TakesFirst (λ item. item)) (left s) ys (left t)

@@ -1,8 +1,6 @@
 -- What a set does, as a map with the value that says nothing.
-use Rattle.std.proofs.Common.{◌≡◌, suc, Bool, true, false, not, cond, ◌&&◌, ◌||◌, List, [], ◌∷◌, Option, Some, None, option_map, length, is_some, refl, subst, sym, ap, ◌∙◌, Result, Ok, Err, true≢false}
+use Rattle.std.proofs.Common.{◌≡◌, suc, Bool, true, false, not, cond, ◌&&◌, ◌||◌, List, [], ◌∷◌, Option, Some, None, option_map, length, is_some, refl, subst, sym, ap, ◌∙◌}
 use Rattle.std.proofs.Math.Bool.{or-false}
-use Rattle.std.specs.Prelude.{MatchResult}
-use Rattle.std.specs.Result.{IsErr}
 use Rattle.std.specs.Bool.{⊤}
 use Rattle.rangemap_core.specs.Ranges.{RangeKind, IsCanonOf, IsCanonOfPoints, covering, covers, erase, nothing, overlapped, override, override_all, Overrides, unit_eq, value_at, with_unit}
 use Rattle.rangemap_core.specs.Operators.{common, either}

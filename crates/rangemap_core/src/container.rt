@@ -5,8 +5,8 @@
 //! `specs/Ranges.antt`; of a set the values are `()`. The JSON form, the laws, the replays, the
 //! program and the tests ask for no more.
 //!
-//! A call that every container has is added here, and in the file `container.rt` of the map, of the
-//! map in a tree and of the set.
+//! A call that every container has is added here, and in the file `container.rt` of the map and of
+//! the set.
 ghost use Rattle.std.specs.Prelude.{◌≡◌, ◌-◌, List, [], IfOk, IsOk, OnErr, OnOk, is_some, length, map, nat_eq, nat_lt, slice_get, true};
 ghost use Rattle.std.specs.Iterator.{Drains, ExtendsWithItems, IsFiniteIterable};
 ghost use Rattle.std.specs.Option.{option_copied, option_map};

@@ -8,11 +8,13 @@
 pub mod closed;
 pub mod common;
 pub mod container;
+pub mod gaps;
 pub mod half_open;
 pub mod key_range;
 pub mod kind;
 pub mod pair_iter;
 pub mod pairs;
 pub mod reader;
+pub mod reference;
 pub mod std_ext;
 pub mod store;

@@ -3,8 +3,6 @@
 //! `Store` is all that a representation has to do. `Map` and `Set` make every public call of it, so
 //! a store has no `extend`, no comparison, no text and no JSON form of its own.
 ghost use Rattle.std.specs.Prelude.{◌≡◌, ◌-◌, ◌+◌, ◌≤◌, List, [], IfOk, IsOk, OnErr, OnOk, length, map, slice_get, true};
-ghost use Rattle.std.specs.Iterator.{at_most};
-ghost use Rattle.std.specs.Map.Iter.{TakesFirst, TakesLast};
 ghost use Rattle.std.specs.Option.{option_map};
 ghost use Rattle.rangemap_core.specs.Appends.{AppendsGaps};
 ghost use Rattle.rangemap_core.specs.Clones.{KeysCloneFaithfully, ValuesCloneFaithfully};
@@ -12,10 +10,10 @@ ghost use Rattle.rangemap_core.specs.Ranges.{AreGaps, IsCanonOf, IsCanonical, co
 
 use crate::key_range::KeyRange;
 use crate::kind::Kind;
-use crate::pair_iter::PairIter;
+use crate::pair_iter::{OwnedPairs, PairIter};
 use crate::reader::{Reader, ReaderOfBoth};
 use std::alloc::{AllocError, Allocator};
-use std::iter::{DoubleEndedIterator, ExactSizeIterator, Iterator};
+use std::iter::Iterator;
 
 /// What keeps pairs of a range and a value, as a canonical list.
 ///
@@ -153,32 +151,12 @@ pub trait Store {
 /// have to prove how its pairs are dropped.
 pub trait HandsOver: Store {
     /// The pairs that are handed over, in order and from both ends.
-    type IntoIter: DoubleEndedIterator<Item = (Self::Range, Self::Value)>
-        + ExactSizeIterator
-        + Drop;
-
-    /// The pairs that are still to come.
-    ghost owned: { Self.IntoIter → List (Self.Range × Self.Value) };
+    type IntoIter: OwnedPairs<Range = Self::Range, Value = Self::Value>;
 
     /// Hands all pairs over.
     fn into_pairs(self) -> Self::IntoIter
-        ensures pairs { owned result ≡ Self.pairs self }
+        ensures pairs { Self.IntoIter.left result ≡ Self.pairs self }
         ensures canonical { IsCanonical Self.Kind.kind Self.Value.eq (Self.pairs self) };
-
-    /// The iterator may always be asked.
-    ghost asks: { (it : Self.IntoIter) → Self.IntoIter.can_next it };
-
-    /// At its back, too.
-    ghost asks_back: { (it : Self.IntoIter) → Self.IntoIter.can_next_back it };
-
-    /// It gives the pairs from the front.
-    ghost takes: { (it : Self.IntoIter) (taken : _) (rest : Self.IntoIter) → Self.IntoIter.next_gives it taken rest → TakesFirst (λ pair. pair) (owned it) taken (owned rest) };
-
-    /// And from the back.
-    ghost takes_back: { (it : Self.IntoIter) (taken : _) (rest : Self.IntoIter) → Self.IntoIter.next_back_gives it taken rest → TakesLast (λ pair. pair) (owned it) taken (owned rest) };
-
-    /// As many come as are left.
-    ghost counts: { (it : Self.IntoIter) → Self.IntoIter.remaining it ≡ at_most (length (owned it)) };
 }
 
 /// A store that lends its pairs for `'a`.
@@ -188,18 +166,20 @@ where
     Self::Value: 'a,
 {
     /// The pairs, in order and from both ends.
-    type Iter: PairIter<Range = Self::Range, Value = Self::Value, Lent = &'a Self::Range>
-        + DoubleEndedIterator<Item = (&'a Self::Range, &'a Self::Value)>;
+    type Iter: PairIter<
+        Range = Self::Range,
+        Value = Self::Value,
+        Lent = &'a Self::Range,
+        LentValue = &'a Self::Value,
+    >;
 
     /// The pairs that overlap a range, in order and from both ends.
-    type Overlapping: PairIter<Range = Self::Range, Value = Self::Value, Lent = &'a Self::Range>
-        + DoubleEndedIterator<Item = (&'a Self::Range, &'a Self::Value)>;
-
-    /// The parts of a range that no stored range covers, in order.
-    type Gaps: Iterator<Item = Result<Self::Range, AllocError>> + Drop;
-
-    /// The parts that are still to come.
-    ghost between: { Self.Gaps → List Self.Range };
+    type Overlapping: PairIter<
+        Range = Self::Range,
+        Value = Self::Value,
+        Lent = &'a Self::Range,
+        LentValue = &'a Self::Value,
+    >;
 
     /// Returns all pairs.
     fn iter(&'a self) -> Self::Iter
@@ -208,9 +188,4 @@ where
     /// Returns the pairs that overlap `range`, of which nothing is asked.
     fn overlapping(&'a self, range: &'a Self::Range) -> Self::Overlapping
         ensures { Self.Overlapping.left result ≡ overlapped Self.Kind.kind (Self.pairs self.now) range.now };
-
-    /// Returns the parts of `outer_range` that no stored range covers. Nothing is asked of
-    /// `outer_range`.
-    fn gaps(&'a self, outer_range: &'a Self::Range) -> Self::Gaps
-        ensures { AreGaps Self.Kind.kind (map (λ pair. pair.0) (Self.pairs self.now)) outer_range.now (between result) };
 }

@@ -9,6 +9,7 @@ use rangemap_core::kind::Kind;
 use rangemap_core::pair_iter::PairIter;
 use rangemap_core::pairs::is_same;
 use rangemap_core::reader::ReaderOfBoth;
+use rangemap_core::reference::Reference;
 use rangemap_core::store::Store;
 use std::cmp::Ordering;
 use std::iter::Iterator;
@@ -49,8 +50,9 @@ impl<Q: Kind<R>, R: KeyRange, V: Eq> ReaderOfBoth<R, V> for Same<Q> {
             let Some(their) = theirs.next() else {
                 return false;
             };
-            let (range, value) = (I::range_of(&their), I::value_of(&their));
-            if !is_same::<Q, R, V>(I::range_of(&our), I::value_of(&our), range, value) {
+            let (range, value) = (our.0.get(), our.1.get());
+            let (other, other_value) = (their.0.get(), their.1.get());
+            if !is_same::<Q, R, V>(range, value, other, other_value) {
                 return false;
             }
         }
@@ -77,13 +79,9 @@ impl<Q: Kind<R>, R: KeyRange, V: Ord> ReaderOfBoth<R, V> for Compared<Q> {
             let Some(their) = theirs.next() else {
                 return Ordering::Greater;
             };
-            let (range, value) = (I::range_of(&their), I::value_of(&their));
-            let found = compare_pairs::<Q, R, V>(
-                I::range_of(&our),
-                I::value_of(&our),
-                range,
-                value,
-            );
+            let (range, value) = (our.0.get(), our.1.get());
+            let (other, other_value) = (their.0.get(), their.1.get());
+            let found = compare_pairs::<Q, R, V>(range, value, other, other_value);
             if found.is_ne() {
                 return found;
             }

@@ -6,6 +6,7 @@ use rangemap_core::key_range::KeyRange;
 use rangemap_core::kind::Kind;
 use rangemap_core::pair_iter::PairIter;
 use rangemap_core::reader::Reader;
+use rangemap_core::reference::Reference;
 use rangemap_core::store::Store;
 use std::hash::{Hash, Hasher};
 use std::iter::Iterator;
@@ -43,10 +44,10 @@ where
     fn read<I: PairIter<Range = R, Value = V>>(pairs: I, state: &mut H) {
         let mut rest = pairs;
         'pairs: while let Some(pair) = rest.next() {
-            let range = I::range_of(&pair);
+            let range = pair.0.get();
             range.start().hash(state);
             range.end().hash(state);
-            I::value_of(&pair).hash(state);
+            pair.1.get().hash(state);
         }
     }
 }

@@ -11,6 +11,7 @@ use rangemap_core::key_range::KeyRange;
 use rangemap_core::kind::Kind;
 use rangemap_core::pair_iter::PairIter;
 use rangemap_core::reader::Reader;
+use rangemap_core::reference::Reference;
 use rangemap_core::store::Store;
 use std::fmt;
 use std::fmt::{Debug, Formatter};
@@ -64,7 +65,7 @@ impl<R: KeyRange + Debug, V: Debug, W: fmt::Write> Reader<R, V> for MapOnLines<W
         let mut rest = pairs;
         let mut map = f.debug_map();
         while let Some(pair) = rest.next() {
-            map.entry(I::range_of(&pair), I::value_of(&pair));
+            map.entry(pair.0.get(), pair.1.get());
         }
         map.finish()
     }
@@ -86,7 +87,7 @@ impl<R: KeyRange + Debug, V, W: fmt::Write> Reader<R, V> for SetOnLines<W> {
         let mut rest = pairs;
         let mut set = f.debug_set();
         while let Some(pair) = rest.next() {
-            set.entry(I::range_of(&pair));
+            set.entry(pair.0.get());
         }
         set.finish()
     }
@@ -165,7 +166,8 @@ impl<T: PairText<R, V>, R: KeyRange, V, W: fmt::Write> Reader<R, V> for Items<T,
         let Some(first) = rest.next() else {
             return Ok(());
         };
-        T::write_pair(I::range_of(&first), I::value_of(&first), f)?;
+        let (range, value) = (first.0.get(), first.1.get());
+        T::write_pair(range, value, f)?;
         write_others::<T, I, W>(rest, f)
     }
 }
@@ -180,7 +182,8 @@ fn write_others<T: PairText<I::Range, I::Value>, I: PairIter, W: fmt::Write>(
     let mut rest = pairs;
     'pairs: while let Some(pair) = rest.next() {
         f.write_str(", ")?;
-        T::write_pair(I::range_of(&pair), I::value_of(&pair), f)?;
+        let (range, value) = (pair.0.get(), pair.1.get());
+        T::write_pair(range, value, f)?;
     }
     Ok(())
 }

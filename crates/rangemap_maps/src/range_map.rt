@@ -4,6 +4,7 @@ ghost use Rattle.std.specs.Option.{option_copied, option_map};
 ghost use Rattle.rangemap_core.specs.Ranges.{AreGaps, IsCanonical, covering, overlapped, value_at};
 
 use crate::readers::IsAny;
+use rangemap_core::gaps::{Gaps, gaps_of};
 use rangemap_core::key_range::KeyRange;
 use rangemap_core::kind::{Kind, OwnSteps};
 use rangemap_core::store::{Lends, Store};
@@ -198,9 +199,9 @@ where
     /// let mut gaps = map.gaps(&(0..6));
     /// // gaps.try_next()? is Some(0..1), then Some(3..5), then None
     /// ```
-    pub fn gaps(&'a self, outer_range: &'a S::Range) -> S::Gaps
-        ensures { AreGaps S.Kind.kind (map (λ pair. pair.0) self.now) outer_range.now (S.between result) }
+    pub fn gaps(&'a self, outer_range: &'a S::Range) -> Gaps<'a, S::Kind, S::Range, S::Overlapping>
+        ensures { AreGaps S.Kind.kind (map (λ pair. pair.0) self.now) outer_range.now result }
     {
-        self.stored.gaps(outer_range)
+        gaps_of(&self.stored, outer_range)
     }
 }

@@ -4,6 +4,8 @@ ghost use Rattle.std.specs.Iterator.{UpTo, at_most};
 ghost use Rattle.std.specs.Iterator.SizeHint.{IsWithinCount};
 ghost use Rattle.std.specs.Map.Iter.{TakesFirst, TakesLast};
 
+use rangemap_core::key_range::KeyRange;
+use rangemap_core::pair_iter::OwnedPairs;
 use std::alloc::Allocator;
 use std::iter::{DoubleEndedIterator, ExactSizeIterator, Iterator};
 use std::marker::Model;
@@ -70,4 +72,16 @@ impl<R: Drop, V: Drop, A: Allocator> ExactSizeIterator for IntoIter<R, V, A> {
     fn len(&self) -> usize {
         self.pairs.len()
     }
+}
+
+impl<R: KeyRange, V: Drop, A: Allocator> OwnedPairs for IntoIter<R, V, A> {
+    ghost use Rattle.rangemap_core.specs.Ends.{by_definition};
+
+    type Range = R;
+
+    type Value = V;
+
+    ghost left = { λ it. it };
+
+    ghost ends = { by_definition _ _ };
 }

@@ -5,7 +5,7 @@ ghost use Rattle.std.specs.Iterator.SizeHint.{IsWithinCount};
 ghost use Rattle.std.specs.Map.Iter.{TakesFirst, TakesLast, deref_pair};
 
 use rangemap_core::key_range::KeyRange;
-use rangemap_core::pair_iter::PairIter;
+use rangemap_core::pair_iter::{LentPairs, PairIter};
 use std::iter::{DoubleEndedIterator, ExactSizeIterator, Iterator};
 use std::marker::Model;
 use std::slice;
@@ -85,11 +85,7 @@ impl<'a, R, V> ExactSizeIterator for Iter<'a, R, V> {
     }
 }
 
-impl<'a, R: KeyRange, V> PairIter for Iter<'a, R, V> {
-    ghost use Rattle.std.specs.Map.Iter.{deref, deref_pair};
-    ghost use Rattle.std.specs.Prelude.{Some as SomeWord, refl};
-    ghost use Rattle.rangemap_core.specs.laws.Hints.{exact_within};
-
+impl<'a, R: KeyRange, V> LentPairs for Iter<'a, R, V> {
     type Range = R;
 
     type Value = V;
@@ -97,30 +93,18 @@ impl<'a, R: KeyRange, V> PairIter for Iter<'a, R, V> {
     type Lent = &'a R;
 
     ghost left = { λ it. it };
+}
 
-    ghost shows = { deref_pair };
+impl<'a, R: KeyRange, V> PairIter for Iter<'a, R, V> {
+    ghost use Rattle.std.specs.Prelude.{Some as SomeWord};
+    ghost use Rattle.rangemap_core.specs.Ends.{by_definition};
+    ghost use Rattle.rangemap_core.specs.laws.Hints.{exact_within};
 
-    ghost lent = { deref };
+    type LentValue = &'a V;
 
     ghost hinted = { λ count. (count, SomeWord count) };
 
     ghost hinted_within = { exact_within };
-
-    fn lend(item: (&'a R, &'a V)) -> &'a R {
-        item.0
-    }
-
-    fn range_of<'b>(item: &'b (&'a R, &'a V)) -> &'b R {
-        item.0
-    }
-
-    fn value_of<'b>(item: &'b (&'a R, &'a V)) -> &'b V {
-        item.1
-    }
-
-    fn range<'b>(reference: &'b &'a R) -> &'b R {
-        reference
-    }
 
     fn peek(&mut self) -> Option<&'a R> {
         let (pair, _) = self.as_slice().split_first()?;
@@ -131,15 +115,5 @@ impl<'a, R: KeyRange, V> PairIter for Iter<'a, R, V> {
         self.size_hint()
     }
 
-    ghost asks = { λ it. tt };
-
-    ghost asks_back = { λ it. tt };
-
-    ghost ends = { λ it. tt };
-
-    ghost counts = { λ it. refl };
-
-    ghost takes = { λ it taken rest h. h };
-
-    ghost takes_back = { λ it taken rest h. h };
+    ghost ends = { by_definition _ _ };
 }

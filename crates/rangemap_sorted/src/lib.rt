@@ -6,7 +6,6 @@
 #![tactic(auto)]
 
 pub mod entries;
-pub mod gaps;
 pub mod into_iter;
 pub mod iter;
 pub mod overlapping;

@@ -17,7 +17,7 @@ ghost use Rattle.rangemap_core.specs.engine.Stretch.{IsOverlap, ends_by, starts_
 use crate::search::starts_up_to;
 use rangemap_core::key_range::KeyRange;
 use rangemap_core::kind::{Endpoint, Kind, known_ends};
-use rangemap_core::pair_iter::PairIter;
+use rangemap_core::pair_iter::{LentPairs, PairIter};
 use std::iter::{DoubleEndedIterator, Iterator};
 use std::marker::Model;
 use std::ops::Range;
@@ -56,8 +56,18 @@ impl<'a, R: KeyRange, V: Eq> Overlapping<'a, R, V> {
         requires { IsCanonical Q.kind V.eq pairs.now }
         ensures { result ≡ overlapped Q.kind pairs.now query.now }
     {
+        Overlapping::over(overlapping_tail::<Q, R, V>(pairs, query), query)
+    }
+}
+
+impl<'a, R: KeyRange, V> Overlapping<'a, R, V> {
+    /// Returns the pairs that start before the query ends, of a list in which these come first.
+    pub fn over(pairs: &'a [(R, V)], query: &'a R) -> Self
+        requires { IsPartitionedBy (is_begun R.read R.has_end query.now) pairs.now }
+        ensures { result ≡ take_while (is_begun R.read R.has_end query.now) pairs.now }
+    {
         Overlapping {
-            pairs: overlapping_tail::<Q, R, V>(pairs, query),
+            pairs,
             query,
             is_bounded: false,
         }
@@ -104,11 +114,7 @@ impl<'a, R: KeyRange, V> DoubleEndedIterator for Overlapping<'a, R, V> {
     }
 }
 
-impl<'a, R: KeyRange, V> PairIter for Overlapping<'a, R, V> {
-    ghost use Rattle.std.specs.Map.Iter.{deref, deref_pair};
-    ghost use Rattle.std.specs.Prelude.{None as NoneWord, refl};
-    ghost use Rattle.rangemap_core.specs.laws.Hints.{none_within};
-
+impl<'a, R: KeyRange, V> LentPairs for Overlapping<'a, R, V> {
     type Range = R;
 
     type Value = V;
@@ -116,30 +122,18 @@ impl<'a, R: KeyRange, V> PairIter for Overlapping<'a, R, V> {
     type Lent = &'a R;
 
     ghost left = { λ it. it };
+}
 
-    ghost shows = { deref_pair };
+impl<'a, R: KeyRange, V> PairIter for Overlapping<'a, R, V> {
+    ghost use Rattle.std.specs.Prelude.{None as NoneWord};
+    ghost use Rattle.rangemap_core.specs.Ends.{by_definition};
+    ghost use Rattle.rangemap_core.specs.laws.Hints.{none_within};
 
-    ghost lent = { deref };
+    type LentValue = &'a V;
 
     ghost hinted = { λ _. (0, NoneWord) };
 
     ghost hinted_within = { none_within };
-
-    fn lend(item: (&'a R, &'a V)) -> &'a R {
-        item.0
-    }
-
-    fn range_of<'b>(item: &'b (&'a R, &'a V)) -> &'b R {
-        item.0
-    }
-
-    fn value_of<'b>(item: &'b (&'a R, &'a V)) -> &'b V {
-        item.1
-    }
-
-    fn range<'b>(reference: &'b &'a R) -> &'b R {
-        reference
-    }
 
     fn peek(&mut self) -> Option<&'a R> {
         if self.is_bounded {
@@ -154,22 +148,12 @@ impl<'a, R: KeyRange, V> PairIter for Overlapping<'a, R, V> {
         self.size_hint()
     }
 
-    ghost asks = { λ it. tt };
-
-    ghost asks_back = { λ it. tt };
-
-    ghost ends = { λ it. tt };
-
-    ghost counts = { λ it. refl };
-
-    ghost takes = { λ it taken rest h. h };
-
-    ghost takes_back = { λ it taken rest h. h };
+    ghost ends = { by_definition _ _ };
 }
 
 // The pairs of a canonical list from the first that overlaps the query on. Of these the ones that
 // overlap it come first: those that start before it ends.
-pub(crate) fn overlapping_tail<'a, Q: Kind<R>, R: KeyRange, V: Eq>(
+fn overlapping_tail<'a, Q: Kind<R>, R: KeyRange, V: Eq>(
     pairs: &'a [(R, V)],
     query: &R,
 ) -> &'a [(R, V)]
@@ -182,7 +166,7 @@ pub(crate) fn overlapping_tail<'a, Q: Kind<R>, R: KeyRange, V: Eq>(
 }
 
 // The first pair and those behind it, if it starts before the query ends.
-pub(crate) fn split_begun<'a, R: KeyRange, V>(
+fn split_begun<'a, R: KeyRange, V>(
     pairs: &'a [(R, V)],
     query: &R,
 ) -> Option<(&'a (R, V), &'a [(R, V)])>

@@ -2,13 +2,12 @@
 ghost use Rattle.std.specs.Prelude.{◌≡◌};
 
 use crate::entries::{changes, covering};
-use crate::gaps::Gaps;
 use crate::into_iter::IntoIter;
 use crate::iter::Iter;
 use crate::overlapping::Overlapping;
 use rangemap_core::container::append_gaps;
 use rangemap_core::key_range::KeyRange;
-use rangemap_core::kind::Kind;
+use rangemap_core::kind::{Kind, known_ends};
 use rangemap_core::pairs::clone_pair;
 use rangemap_core::reader::{Reader, ReaderOfBoth};
 use rangemap_core::store::{HandsOver, Lends, Store};
@@ -121,32 +120,19 @@ impl<Q: Kind<R>, R: KeyRange, V: Eq + Clone, A: Allocator> Store for SortedVec<Q
         outer_range: &R,
         out: &mut Vec<R, B>,
     ) -> Result<(), AllocError> {
-        let gaps: Gaps<'_, Q, R, V> = Gaps::new(&self.pairs, outer_range);
-        append_gaps(gaps, out)
+        known_ends::<Q, R>(outer_range);
+        let pairs = Overlapping::new::<Q>(&self.pairs, outer_range);
+        append_gaps::<Q, R, Overlapping<'_, R, V>, B>(pairs, outer_range, out)
     }
 }
 
 impl<Q: Kind<R>, R: KeyRange, V: Eq + Clone, A: Allocator> HandsOver for SortedVec<Q, R, V, A> {
-    ghost use Rattle.std.specs.Prelude.{refl};
-
     type IntoIter = IntoIter<R, V, A>;
-
-    ghost owned = { λ it. it };
 
     fn into_pairs(self) -> IntoIter<R, V, A> {
         let SortedVec { pairs, kind: _ } = self;
         IntoIter::over(pairs)
     }
-
-    ghost asks = { λ it. tt };
-
-    ghost asks_back = { λ it. tt };
-
-    ghost takes = { λ it taken rest h. h };
-
-    ghost takes_back = { λ it taken rest h. h };
-
-    ghost counts = { λ it. refl };
 }
 
 impl<'a, Q: Kind<R>, R: KeyRange, V: Eq + Clone, A: Allocator> Lends<'a> for SortedVec<Q, R, V, A>
@@ -160,19 +146,11 @@ where
 
     type Overlapping = Overlapping<'a, R, V>;
 
-    type Gaps = Gaps<'a, Q, R, V>;
-
-    ghost between = { λ it. it };
-
     fn iter(&'a self) -> Iter<'a, R, V> {
         Iter::over(&self.pairs)
     }
 
     fn overlapping(&'a self, range: &'a R) -> Overlapping<'a, R, V> {
         Overlapping::new::<Q>(&self.pairs, range)
-    }
-
-    fn gaps(&'a self, outer_range: &'a R) -> Gaps<'a, Q, R, V> {
-        Gaps::new(&self.pairs, outer_range)
     }
 }

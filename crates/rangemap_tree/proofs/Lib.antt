@@ -11,4 +11,3 @@ pub mod InsertSideLemmas
 pub mod RemoveSideLemmas
 pub mod ChangeLemmas
 pub mod OverlapLemmas
-pub mod GapLemmas

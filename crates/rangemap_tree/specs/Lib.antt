@@ -1,4 +1,3 @@
 pub mod Starts
 pub mod Ahead
 pub mod Sides
-pub mod Gaps

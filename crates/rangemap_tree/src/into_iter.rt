@@ -4,6 +4,7 @@ ghost use Rattle.std.specs.Iterator.{UpTo, at_most};
 ghost use Rattle.std.specs.Iterator.SizeHint.{IsWithinCount};
 ghost use Rattle.std.specs.Map.Iter.{TakesFirst, TakesLast};
 
+use rangemap_core::pair_iter::OwnedPairs;
 use std::alloc::Allocator;
 use std::collections::btree_map;
 use std::iter::{DoubleEndedIterator, ExactSizeIterator, Iterator};
@@ -74,4 +75,16 @@ impl<K: Drop, V: Drop, A: Allocator> ExactSizeIterator for IntoIter<K, V, A> {
             None => 0,
         }
     }
+}
+
+impl<K: Ord + Clone, V: Drop, A: Allocator> OwnedPairs for IntoIter<K, V, A> {
+    ghost use Rattle.rangemap_core.specs.Ends.{by_definition};
+
+    type Range = Range<K>;
+
+    type Value = V;
+
+    ghost left = { λ it. it };
+
+    ghost ends = { by_definition _ _ };
 }

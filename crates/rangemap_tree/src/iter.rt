@@ -4,7 +4,7 @@ ghost use Rattle.std.specs.Iterator.{UpTo, at_most};
 ghost use Rattle.std.specs.Iterator.SizeHint.{IsWithinCount};
 ghost use Rattle.std.specs.Map.Iter.{TakesFirst, TakesLast, deref_pair};
 
-use rangemap_core::pair_iter::PairIter;
+use rangemap_core::pair_iter::{LentPairs, PairIter};
 use std::collections::btree_map;
 use std::iter::{DoubleEndedIterator, ExactSizeIterator, Iterator};
 use std::marker::Model;
@@ -91,11 +91,7 @@ impl<'a, K, V> ExactSizeIterator for Iter<'a, K, V> {
     }
 }
 
-impl<'a, K: Ord + Clone, V> PairIter for Iter<'a, K, V> {
-    ghost use Rattle.std.specs.Map.Iter.{deref, deref_pair};
-    ghost use Rattle.std.specs.Prelude.{Some as SomeWord, refl};
-    ghost use Rattle.rangemap_core.specs.laws.Hints.{exact_within};
-
+impl<'a, K: Ord + Clone, V> LentPairs for Iter<'a, K, V> {
     type Range = Range<K>;
 
     type Value = V;
@@ -103,30 +99,18 @@ impl<'a, K: Ord + Clone, V> PairIter for Iter<'a, K, V> {
     type Lent = &'a Range<K>;
 
     ghost left = { λ it. it };
+}
 
-    ghost shows = { deref_pair };
+impl<'a, K: Ord + Clone, V> PairIter for Iter<'a, K, V> {
+    ghost use Rattle.std.specs.Prelude.{Some as SomeWord};
+    ghost use Rattle.rangemap_core.specs.Ends.{by_definition};
+    ghost use Rattle.rangemap_core.specs.laws.Hints.{exact_within};
 
-    ghost lent = { deref };
+    type LentValue = &'a V;
 
     ghost hinted = { λ count. (count, SomeWord count) };
 
     ghost hinted_within = { exact_within };
-
-    fn lend(item: (&'a Range<K>, &'a V)) -> &'a Range<K> {
-        item.0
-    }
-
-    fn range_of<'b>(item: &'b (&'a Range<K>, &'a V)) -> &'b Range<K> {
-        item.0
-    }
-
-    fn value_of<'b>(item: &'b (&'a Range<K>, &'a V)) -> &'b V {
-        item.1
-    }
-
-    fn range<'b>(reference: &'b &'a Range<K>) -> &'b Range<K> {
-        reference
-    }
 
     fn peek(&mut self) -> Option<&'a Range<K>> {
         if self.ahead.is_none() {
@@ -140,17 +124,7 @@ impl<'a, K: Ord + Clone, V> PairIter for Iter<'a, K, V> {
         self.size_hint()
     }
 
-    ghost asks = { λ it. tt };
-
-    ghost asks_back = { λ it. tt };
-
-    ghost ends = { λ it. tt };
-
-    ghost counts = { λ it. refl };
-
-    ghost takes = { λ it taken rest h. h };
-
-    ghost takes_back = { λ it taken rest h. h };
+    ghost ends = { by_definition _ _ };
 }
 
 // Takes the first pair out of those of a tree, if there is one. What is left can then be counted

@@ -6,7 +6,6 @@
 #![tactic(auto)]
 
 pub mod by_start;
-pub mod gaps;
 pub mod insert;
 pub mod into_iter;
 pub mod iter;

@@ -10,7 +10,7 @@ ghost use Rattle.std.specs.declared.ops.Bound.TheVariants.{Excluded};
 ghost use Rattle.rangemap_core.specs.Ranges.{IsCanonical, covering, half_open, overlapped};
 
 use crate::by_start::ByStart;
-use rangemap_core::pair_iter::PairIter;
+use rangemap_core::pair_iter::{LentPairs, PairIter};
 use std::alloc::Allocator;
 use std::collections::btree_map;
 use std::iter::{DoubleEndedIterator, Iterator};
@@ -89,11 +89,7 @@ impl<'a, K, V> DoubleEndedIterator for Overlapping<'a, K, V> {
     }
 }
 
-impl<'a, K: Ord + Clone, V> PairIter for Overlapping<'a, K, V> {
-    ghost use Rattle.std.specs.Map.Iter.{deref, deref_pair};
-    ghost use Rattle.std.specs.Prelude.{None as NoneWord, refl};
-    ghost use Rattle.rangemap_core.specs.laws.Hints.{none_within};
-
+impl<'a, K: Ord + Clone, V> LentPairs for Overlapping<'a, K, V> {
     type Range = Range<K>;
 
     type Value = V;
@@ -101,30 +97,18 @@ impl<'a, K: Ord + Clone, V> PairIter for Overlapping<'a, K, V> {
     type Lent = &'a Range<K>;
 
     ghost left = { λ it. it };
+}
 
-    ghost shows = { deref_pair };
+impl<'a, K: Ord + Clone, V> PairIter for Overlapping<'a, K, V> {
+    ghost use Rattle.std.specs.Prelude.{None as NoneWord};
+    ghost use Rattle.rangemap_core.specs.Ends.{by_definition};
+    ghost use Rattle.rangemap_core.specs.laws.Hints.{none_within};
 
-    ghost lent = { deref };
+    type LentValue = &'a V;
 
     ghost hinted = { λ _. (0, NoneWord) };
 
     ghost hinted_within = { none_within };
-
-    fn lend(item: (&'a Range<K>, &'a V)) -> &'a Range<K> {
-        item.0
-    }
-
-    fn range_of<'b>(item: &'b (&'a Range<K>, &'a V)) -> &'b Range<K> {
-        item.0
-    }
-
-    fn value_of<'b>(item: &'b (&'a Range<K>, &'a V)) -> &'b V {
-        item.1
-    }
-
-    fn range<'b>(reference: &'b &'a Range<K>) -> &'b Range<K> {
-        reference
-    }
 
     fn peek(&mut self) -> Option<&'a Range<K>> {
         if self.ahead.is_none() {
@@ -138,17 +122,7 @@ impl<'a, K: Ord + Clone, V> PairIter for Overlapping<'a, K, V> {
         self.size_hint()
     }
 
-    ghost asks = { λ it. tt };
-
-    ghost asks_back = { λ it. tt };
-
-    ghost ends = { λ it. tt };
-
-    ghost counts = { λ it. refl };
-
-    ghost takes = { λ it taken rest h. h };
-
-    ghost takes_back = { λ it taken rest h. h };
+    ghost ends = { by_definition _ _ };
 }
 
 // Takes the first pair out of the entries of a tree, if there is one.

@@ -2,7 +2,6 @@
 ghost use Rattle.std.specs.Prelude.{◌≡◌};
 
 use crate::by_start::ByStart;
-use crate::gaps::Gaps;
 use crate::insert::insert;
 use crate::into_iter::IntoIter;
 use crate::iter::Iter;
@@ -135,32 +134,18 @@ impl<K: Ord + Clone, V: Eq + Clone, A: Allocator + Clone> Store for Tree<K, V, A
         outer_range: &Range<K>,
         out: &mut Vec<Range<K>, B>,
     ) -> Result<(), AllocError> {
-        let gaps = Gaps::new(&self.pairs, outer_range);
-        append_gaps(gaps, out)
+        let pairs = overlapping_pairs(&self.pairs, outer_range);
+        append_gaps::<HalfOpen, Range<K>, Overlapping<'_, K, V>, B>(pairs, outer_range, out)
     }
 }
 
 impl<K: Ord + Clone, V: Eq + Clone, A: Allocator + Clone> HandsOver for Tree<K, V, A> {
-    ghost use Rattle.std.specs.Prelude.{refl};
-
     type IntoIter = IntoIter<K, V, A>;
-
-    ghost owned = { λ it. it };
 
     fn into_pairs(self) -> IntoIter<K, V, A> {
         let Tree { pairs } = self;
         pairs.into_iter()
     }
-
-    ghost asks = { λ it. tt };
-
-    ghost asks_back = { λ it. tt };
-
-    ghost takes = { λ it taken rest h. h };
-
-    ghost takes_back = { λ it taken rest h. h };
-
-    ghost counts = { λ it. refl };
 }
 
 impl<'a, K: Ord + Clone, V: Eq + Clone, A: Allocator + Clone> Lends<'a> for Tree<K, V, A>
@@ -174,19 +159,11 @@ where
 
     type Overlapping = Overlapping<'a, K, V>;
 
-    type Gaps = Gaps<'a, K, V>;
-
-    ghost between = { λ it. it };
-
     fn iter(&'a self) -> Iter<'a, K, V> {
         self.pairs.iter()
     }
 
     fn overlapping(&'a self, range: &'a Range<K>) -> Overlapping<'a, K, V> {
         overlapping_pairs(&self.pairs, range)
-    }
-
-    fn gaps(&'a self, outer_range: &'a Range<K>) -> Gaps<'a, K, V> {
-        Gaps::new(&self.pairs, outer_range)
     }
 }

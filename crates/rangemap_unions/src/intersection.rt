@@ -13,7 +13,8 @@ use crate::item::{between, compare_ends, compare_starts, overlap};
 use crate::ranges::Ranges;
 use crate::side::take;
 use rangemap_core::key_range::KeyRange;
-use rangemap_core::pair_iter::PairIter;
+use rangemap_core::pair_iter::{LentPairs, PairIter};
+use rangemap_core::reference::Reference;
 use std::alloc::AllocError;
 use std::iter::Iterator;
 use std::marker::Model;
@@ -24,13 +25,13 @@ use std::marker::Model;
 /// since it knows no steps. `laws::sets::closed_operations` tells the same items by the steps' keys,
 /// and so does a set's own `intersection`.
 #[derive(Drop)]
-pub struct Intersection<I: PairIter> {
+pub struct Intersection<I: LentPairs> {
     sides: Sides<I>,
     // Whether a clone was refused to `next`, after which nothing comes.
     is_done: bool,
 }
 
-impl<I: PairIter> Model for Intersection<I> {
+impl<I: LentPairs> Model for Intersection<I> {
     ghost use Rattle.std.specs.Prelude.{List, [], if◌then◌else◌};
     ghost use Rattle.rangemap_core.specs.Sets.{AreNonEmptyRanges, ranges};
     ghost use Rattle.rangemap_unions.specs.Items.{intersection_items};
@@ -133,7 +134,7 @@ fn common<R: KeyRange>(left: &R, right: &R, left_ends_first: bool) -> Result<Opt
 
 // What is left of both lists.
 #[derive(Drop)]
-struct Sides<I: PairIter> {
+struct Sides<I: LentPairs> {
     left: I,
     right: I,
 }
@@ -149,7 +150,7 @@ impl<I: PairIter> Sides<I> {
         ensures refused { OnErr result (intersection_items I.Range.places (ranges (I.left self.old.left)) (ranges (I.left self.old.right)) ≢ []) }
     {
         'both: while let (Some(p), Some(q)) = (self.left.peek(), self.right.peek()) {
-            let (left, right) = (I::range(&p), I::range(&q));
+            let (left, right) = (p.get(), q.get());
             let ends_first = compare_ends(left, right).is_lt();
             let part = common(left, right, ends_first)?;
             if ends_first {

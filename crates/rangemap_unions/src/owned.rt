@@ -4,42 +4,42 @@ ghost use Rattle.std.specs.Iterator.{UpTo, at_most};
 ghost use Rattle.std.specs.Iterator.SizeHint.{IsWithinCount};
 ghost use Rattle.std.specs.Map.Iter.{TakesFirst, TakesLast};
 
-use rangemap_core::store::HandsOver;
+use rangemap_core::pair_iter::OwnedPairs;
 use std::iter::{DoubleEndedIterator, ExactSizeIterator, Iterator};
 use std::marker::Model;
 
 /// The ranges that a set hands over, in order and from both ends. Those that are not taken are
 /// dropped with it.
 #[derive(Drop)]
-pub struct IntoRanges<S: HandsOver<Value = ()>> {
-    pairs: S::IntoIter,
+pub struct IntoRanges<I: OwnedPairs<Value = ()>> {
+    pairs: I,
 }
 
-impl<S: HandsOver<Value = ()>> Model for IntoRanges<S> {
+impl<I: OwnedPairs<Value = ()>> Model for IntoRanges<I> {
     ghost use Rattle.std.specs.Prelude.{List, map};
 
-    ghost Value = { List S.Range };
+    ghost Value = { List I.Range };
 
-    ghost view = { λ s. map (λ p. p.0) (S.owned s.pairs) };
+    ghost view = { λ s. map (λ p. p.0) (I.left s.pairs) };
 }
 
-impl<S: HandsOver<Value = ()>> IntoRanges<S> {
-    /// Returns the ranges of the pairs that a store hands over.
-    pub fn over(pairs: S::IntoIter) -> Self
-        ensures { result ≡ map (λ p. p.0) (S.owned pairs) }
+impl<I: OwnedPairs<Value = ()>> IntoRanges<I> {
+    /// Returns the ranges of pairs that a store hands over.
+    pub fn over(pairs: I) -> Self
+        ensures { result ≡ map (λ p. p.0) (I.left pairs) }
     {
         IntoRanges { pairs }
     }
 }
 
-impl<S: HandsOver<Value = ()>> Iterator for IntoRanges<S> {
-    type Item = S::Range;
+impl<I: OwnedPairs<Value = ()>> Iterator for IntoRanges<I> {
+    type Item = I::Range;
 
     ghost next_gives = { TakesFirst (λ range. range) };
 
     ghost remaining = { λ s. at_most (length s) };
 
-    fn next(&mut self) -> Option<S::Range> {
+    fn next(&mut self) -> Option<I::Range> {
         match self.pairs.next() {
             Some((range, ())) => Some(range),
             None => None,
@@ -56,10 +56,10 @@ impl<S: HandsOver<Value = ()>> Iterator for IntoRanges<S> {
     }
 }
 
-impl<S: HandsOver<Value = ()>> DoubleEndedIterator for IntoRanges<S> {
+impl<I: OwnedPairs<Value = ()>> DoubleEndedIterator for IntoRanges<I> {
     ghost next_back_gives = { TakesLast (λ range. range) };
 
-    fn next_back(&mut self) -> Option<S::Range> {
+    fn next_back(&mut self) -> Option<I::Range> {
         match self.pairs.next_back() {
             Some((range, ())) => Some(range),
             None => None,
@@ -67,7 +67,7 @@ impl<S: HandsOver<Value = ()>> DoubleEndedIterator for IntoRanges<S> {
     }
 }
 
-impl<S: HandsOver<Value = ()>> ExactSizeIterator for IntoRanges<S> {
+impl<I: OwnedPairs<Value = ()>> ExactSizeIterator for IntoRanges<I> {
     /// Returns how many ranges are still to come.
     fn len(&self) -> usize {
         self.pairs.len()

@@ -5,18 +5,18 @@ ghost use Rattle.std.specs.Iterator.SizeHint.{IsWithinCount};
 ghost use Rattle.std.specs.Map.Iter.{TakesFirst, TakesLast};
 ghost use Rattle.rangemap_core.specs.Sets.{IsCanonicalSet};
 
-use rangemap_core::pair_iter::PairIter;
+use rangemap_core::pair_iter::{LentPairs, PairIter};
 use std::iter::{DoubleEndedIterator, ExactSizeIterator, Iterator};
 use std::marker::Model;
 
 /// The ranges that are still to come, in order and from both ends. What is left of a set is a
 /// canonical list too.
 #[derive(Drop)]
-pub struct Ranges<I: PairIter> {
+pub struct Ranges<I: LentPairs> {
     pairs: I,
 }
 
-impl<I: PairIter> Model for Ranges<I> {
+impl<I: LentPairs> Model for Ranges<I> {
     ghost use Rattle.std.specs.Prelude.{List, map};
     ghost use Rattle.rangemap_core.specs.Sets.{IsCanonicalSet};
 
@@ -27,7 +27,7 @@ impl<I: PairIter> Model for Ranges<I> {
     ghost invariant = { λ s. IsCanonicalSet I.Range.read (map (λ p. p.0) (I.left s.pairs)) };
 }
 
-impl<I: PairIter> Ranges<I> {
+impl<I: LentPairs> Ranges<I> {
     /// Returns the ranges of what is left of pairs.
     pub fn over(pairs: I) -> Ranges<I>
         requires { IsCanonicalSet I.Range.read (map (λ p. p.0) (I.left pairs)) }
@@ -49,13 +49,13 @@ impl<I: PairIter> Ranges<I> {
 impl<I: PairIter> Iterator for Ranges<I> {
     type Item = I::Lent;
 
-    ghost next_gives = { TakesFirst I.lent };
+    ghost next_gives = { TakesFirst I.Lent.target };
 
     ghost remaining = { λ s. at_most (length s) };
 
     fn next(&mut self) -> Option<I::Lent> {
         match self.pairs.next() {
-            Some(pair) => Some(I::lend(pair)),
+            Some((range, _)) => Some(range),
             None => None,
         }
     }
@@ -70,11 +70,11 @@ impl<I: PairIter> Iterator for Ranges<I> {
 }
 
 impl<I: PairIter> DoubleEndedIterator for Ranges<I> {
-    ghost next_back_gives = { TakesLast I.lent };
+    ghost next_back_gives = { TakesLast I.Lent.target };
 
     fn next_back(&mut self) -> Option<I::Lent> {
         match self.pairs.next_back() {
-            Some(pair) => Some(I::lend(pair)),
+            Some((range, _)) => Some(range),
             None => None,
         }
     }

@@ -7,22 +7,24 @@ ghost use Rattle.rangemap_unions.specs.Merged.{IsUnreached};
 
 use crate::item::is_reached;
 use rangemap_core::pair_iter::PairIter;
+use rangemap_core::reference::Reference;
 
-/// Takes the first pair.
-pub fn take<I: PairIter>(pairs: &mut I) -> Option<I::Item>
-    ensures { TakesFirst (λ item. (I.shows item).0) (ranges (I.left pairs.old)) result (ranges (I.left pairs.new)) }
+/// Takes the first pair, and returns its range.
+pub fn take<I: PairIter>(pairs: &mut I) -> Option<I::Lent>
+    ensures { TakesFirst I.Lent.target (ranges (I.left pairs.old)) result (ranges (I.left pairs.new)) }
 {
-    pairs.next()
+    let (range, _) = pairs.next()?;
+    Some(range)
 }
 
-/// Takes the first pair, if its range starts before `last` ends.
-pub fn take_reached<I: PairIter>(last: &I::Range, pairs: &mut I) -> Option<I::Item>
+/// Takes the first pair, and returns its range, if its range starts before `last` ends.
+pub fn take_reached<I: PairIter>(last: &I::Range, pairs: &mut I) -> Option<I::Lent>
     ensures { MatchOption result
         ((I.left pairs.new ≡ I.left pairs.old) × IsUnreached I.Range.places last.now (ranges (I.left pairs.old)))
-        (λ first. (reaches I.Range.places last.now (I.shows first).0 ≡ true) × (ranges (I.left pairs.old) ≡ (I.shows first).0 ∷ ranges (I.left pairs.new))) }
+        (λ first. (reaches I.Range.places last.now (I.Lent.target first) ≡ true) × (ranges (I.left pairs.old) ≡ I.Lent.target first ∷ ranges (I.left pairs.new))) }
 {
     match pairs.peek() {
-        Some(first) if is_reached(last, I::range(&first)) => take(pairs),
+        Some(first) if is_reached(last, first.get()) => take(pairs),
         _ => None,
     }
 }

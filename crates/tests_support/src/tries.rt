@@ -1,14 +1,12 @@
 //! Iterators that make their items out of clones, and are asked for the same item again.
 
+use rangemap_core::gaps::Gaps;
 use rangemap_core::key_range::KeyRange;
 use rangemap_core::kind::Kind;
 use rangemap_core::pair_iter::PairIter;
-use rangemap_sorted::gaps::Gaps;
-use rangemap_tree::gaps::Gaps as TreeGaps;
 use rangemap_unions::{Intersection, Union};
 use std::alloc::AllocError;
 use std::iter::Iterator;
-use std::ops::Range;
 
 /// An iterator whose items are made of clones, which may be refused: gaps, unions, intersections.
 pub trait Tries: Iterator + Drop {
@@ -21,18 +19,10 @@ pub trait Tries: Iterator + Drop {
         ensures { Self.can_next self.new };
 }
 
-impl<'a, Q: Kind<R>, R: KeyRange, V> Tries for Gaps<'a, Q, R, V> {
+impl<'a, Q: Kind<R>, R: KeyRange, I: PairIter<Range = R>> Tries for Gaps<'a, Q, R, I> {
     type Range = R;
 
     fn try_next(&mut self) -> Result<Option<R>, AllocError> {
-        self.try_next()
-    }
-}
-
-impl<'a, K: Ord + Clone, V> Tries for TreeGaps<'a, K, V> {
-    type Range = Range<K>;
-
-    fn try_next(&mut self) -> Result<Option<Range<K>>, AllocError> {
         self.try_next()
     }
 }

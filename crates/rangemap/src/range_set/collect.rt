@@ -128,12 +128,12 @@ where
 
     type Item = S::Range;
 
-    type IntoIter = IntoRanges<S>;
+    type IntoIter = IntoRanges<S::IntoIter>;
 
     ghost into_iter_gives = { λ set it. (it ≡ set) × IsCanonicalSet S.Kind.kind set };
 
     /// Returns the stored ranges in order, which can be taken from both ends.
-    fn into_iter(self) -> IntoRanges<S> {
+    fn into_iter(self) -> IntoRanges<S::IntoIter> {
         IntoRanges::over(self.stored.into_pairs())
     }
 }

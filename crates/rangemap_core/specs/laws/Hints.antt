@@ -1,5 +1,5 @@
 -- What an iterator answers of how many items are left lies within that number.
-use Rattle.std.proofs.Common.{ℕ, Option, Some, None, IfSome, arith}
+use Rattle.std.proofs.Common.{ℕ, Some, None, IfSome, arith}
 use Rattle.std.specs.Iterator.{UpTo, at_most}
 use Rattle.std.specs.Iterator.SizeHint.{IsWithinCount}
 

@@ -6,13 +6,17 @@ ghost use Rattle.std.specs.Prelude.{◌≡◌, ◌++◌, List, OnErr, OnOk, Ok a
 ghost use Rattle.std.specs.Iterator.{Drains, IsFinite};
 ghost use Rattle.rangemap_core.specs.Appends.{AppendsOne};
 ghost use Rattle.rangemap_core.specs.Clones.{KeysCloneFaithfully, ValuesCloneFaithfully};
+ghost use Rattle.rangemap_core.specs.engine.Endpoints.{AtStart, gaps_from};
+ghost use Rattle.rangemap_core.specs.MadeRanges.{GivesRange};
 ghost use Rattle.rangemap_core.specs.Ranges.{IsStorable};
 
+use crate::gaps::Gaps;
 use crate::key_range::KeyRange;
 use crate::kind::Kind;
 use crate::pair_iter::PairIter;
 use crate::pairs::clone_pair;
 use crate::reader::Reader;
+use crate::reference::Reference;
 use std::alloc::{AllocError, Allocator};
 use std::iter::Iterator;
 use std::marker::PhantomData;
@@ -64,7 +68,7 @@ impl<Q: Kind<R>, R: KeyRange, V: Eq + Clone, B: Allocator> Reader<R, V> for Appe
         let len = out.len();
         let mut rest = pairs;
         'pairs: while let Some(pair) = rest.next() {
-            let (range, value) = (I::range_of(&pair), I::value_of(&pair));
+            let (range, value) = (pair.0.get(), pair.1.get());
             if let Err(error) = append_clone::<Q, R, V, B>(range, value, out) {
                 out.truncate(len);
                 return Err(error);
@@ -74,12 +78,26 @@ impl<Q: Kind<R>, R: KeyRange, V: Eq + Clone, B: Allocator> Reader<R, V> for Appe
     }
 }
 
-/// Appends the gaps that are still to come.
+/// Appends the gaps that pairs leave in `outer_range`, where they are those that overlap it.
 ///
 /// # Errors
 ///
-/// A gap, or the growth of the vector, was refused: then the vector is as it was.
-pub fn append_gaps<R: Drop, I: Iterator<Item = Result<R, AllocError>> + Drop, B: Allocator>(
+/// A clone of a key, or the growth of the vector, was refused: then the vector is as it was.
+pub fn append_gaps<Q: Kind<R>, R: KeyRange, I: PairIter<Range = R>, B: Allocator>(
+    pairs: I,
+    outer_range: &R,
+    out: &mut Vec<R, B>,
+) -> Result<(), AllocError>
+    requires { KeysCloneFaithfully R.Key.is_clone R.Key.cmp }
+    ensures ok { OnOk result ((gaps : List _) × Drains (GivesRange Q.kind) (gaps_from Q.kind Q.end_place Q.part_of (AtStart outer_range.now) outer_range.now (I.left pairs)) (map OkWord gaps) × (out.new.items ≡ out.old.items ++ gaps)) }
+    ensures err { OnErr result (out.new.items ≡ out.old.items) }
+{
+    append_items(Gaps::<Q, R, I>::over(pairs, outer_range), out)
+}
+
+// Appends the ranges that are still to come. Where one, or the growth of the vector, is refused, the
+// vector is as it was.
+fn append_items<R: Drop, I: Iterator<Item = Result<R, AllocError>> + Drop, B: Allocator>(
     gaps: I,
     out: &mut Vec<R, B>,
 ) -> Result<(), AllocError>

@@ -2,12 +2,14 @@
 ghost use Rattle.std.specs.Prelude.{Err as ErrWord, IfErr, IfOk, Ok as OkWord};
 ghost use Rattle.serde_json.specs.declared.value.Value.{Value as Json};
 ghost use Rattle.rangemap_formats.specs.Json.{CallerOr, IsForm, IsRefusedIn, IsWritten, RefusesToWrite, Writer};
+ghost use Rattle.rangemap_core.specs.Lent.{shown};
 
 use super::WriteError;
 use rangemap_core::key_range::KeyRange;
 use rangemap_core::kind::Kind;
 use rangemap_core::pair_iter::PairIter;
 use rangemap_core::reader::Reader;
+use rangemap_core::reference::Reference;
 use rangemap_core::store::Store;
 use serde_json::Value;
 use std::alloc::Global;
@@ -89,10 +91,10 @@ fn write_entry<
     W: WritesParts<<I::Range as KeyRange>::Key, I::Value, E>,
 >(pair: &I::Item, writer: &W) -> Result<Value, WriteError<E>>
     requires { W.is_ready writer.now }
-    ensures ok { IfOk result (IsWritten Q.kind (W.writer writer.now) (I.shows pair.now)) }
-    ensures err { IfErr result (CallerOr (IsRefusedIn Q.kind (W.writer writer.now) (I.shows pair.now))) }
+    ensures ok { IfOk result (IsWritten Q.kind (W.writer writer.now) (shown I.Lent.target I.LentValue.target pair.now)) }
+    ensures err { IfErr result (CallerOr (IsRefusedIn Q.kind (W.writer writer.now) (shown I.Lent.target I.LentValue.target pair.now))) }
 {
-    let range = I::range_of(pair);
+    let (range, value) = (pair.0.get(), pair.1.get());
     let start = match writer.key(range.start()) {
         Ok(part) => part,
         Err(fault) => return Err(WriteError::Caller(fault)),
@@ -101,5 +103,5 @@ fn write_entry<
         Ok(part) => part,
         Err(fault) => return Err(WriteError::Caller(fault)),
     };
-    writer.entry((start, end), I::value_of(pair))
+    writer.entry((start, end), value)
 }

@@ -165,7 +165,7 @@ where
 
     type IntoIter = S::IntoIter;
 
-    ghost into_iter_gives = { λ map it. (S.owned it ≡ map) × IsCanonical S.Kind.kind S.Value.eq map };
+    ghost into_iter_gives = { λ map it. (S.IntoIter.left it ≡ map) × IsCanonical S.Kind.kind S.Value.eq map };
 
     /// Returns the stored pairs, in order, from both ends. Those that are not taken are dropped
     /// with it.

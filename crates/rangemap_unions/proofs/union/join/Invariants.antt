@@ -7,10 +7,10 @@ use Rattle.rangemap_unions.proofs.union.join.Given as goal
 abbrev pub invariant-joined : goal.invariant-joined
 invariant-joined g l =
     let places = g.I.Range.KeyRange.places in
-    let shows = g.I.PairIter.shows in
-    let left = g.I.PairIter.left in
-    hulls_from places (shows l.fn.first).0 (shows (unwrap_or l.fn.last l.fn.first)).0 (merged places (ranges (left l.fn.left)) (ranges (left l.fn.right)))
-    ≡ hulls_from places (shows l.fn.first).0 (shows (unwrap_or l.last l.fn.first)).0 (merged places (ranges (left l.left)) (ranges (left l.right)))
+    let target = g.I.Lent.Reference.target in
+    let left = g.I.LentPairs.left in
+    hulls_from places (target l.fn.first) (target (unwrap_or l.fn.last l.fn.first)) (merged places (ranges (left l.fn.left)) (ranges (left l.fn.right)))
+    ≡ hulls_from places (target l.fn.first) (target (unwrap_or l.last l.fn.first)) (merged places (ranges (left l.left)) (ranges (left l.right)))
 
 abbrev pub decreases-joined : goal.decreases-joined
-decreases-joined g l = length (merged g.I.Range.KeyRange.places (ranges (g.I.PairIter.left l.left)) (ranges (g.I.PairIter.left l.right)))
+decreases-joined g l = length (merged g.I.Range.KeyRange.places (ranges (g.I.LentPairs.left l.left)) (ranges (g.I.LentPairs.left l.right)))

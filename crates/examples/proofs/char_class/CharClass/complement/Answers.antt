@@ -1,10 +1,13 @@
-use Rattle.std.proofs.Common.{arith, ap, not, ◌&&◌, ◌∙◌}
+use Rattle.std.proofs.Common.{arith, ap, not, subst, sym, [], ◌&&◌, ◌∙◌}
 use Rattle.rangemap.specs.CharLaws.{IsChar}
 use Rattle.rangemap.proofs.Loops.{asks_for_gaps}
 use Rattle.rangemap.proofs.NumberKinds.{closed_holds, unsigned}
-use Rattle.rangemap.proofs.SetCallerLemmas.{below_last_character, gaps_inserted, one_more_inserted, placed_characters}
-use Rattle.examples.specs.Characters.{has}
+use Rattle.rangemap.proofs.SetCallerLemmas.{AreInserted, below_last_character, gaps_inserted, none_inserted, one_more_inserted, placed_characters}
+use Rattle.examples.specs.Characters.{characters, has}
 use Rattle.examples.proofs.char_class.CharClass.complement.Goals as goal
+
+pub loop-gap-init : goal.loop-gap-init
+loop-gap-init c = subst (AreInserted characters []) (sym c.new-members.ensures) (none_inserted characters)
 
 pub loop-gap-preserved : goal.loop-gap-preserved
 loop-gap-preserved c = one_more_inserted c.loop-gap.invariant c.in_ok-gap.was c.in_ok-insert.ensures.ok

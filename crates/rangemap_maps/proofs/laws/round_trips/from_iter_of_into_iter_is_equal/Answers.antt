@@ -10,7 +10,7 @@ use Rattle.rangemap_maps.proofs.laws.round_trips.from_iter_of_into_iter_is_equal
 pub from_iter-requires-clause-non_empty : goal.from_iter-requires-clause-non_empty
 from_iter-requires-clause-non_empty g c it h =
     let k = g.S.Kind.Kind.kind in
-    handed k g.S.HandsOver.owned g.met.S.HandsOver.takes it c.args.map h.0 (canonical_non_empty k g.S.Value.PartialEq.eq c.args.map h.1)
+    handed k g.S.IntoIter.OwnedPairs.left g.met.S.IntoIter.OwnedPairs.ends.takes it c.args.map h.0 (canonical_non_empty k g.S.Value.PartialEq.eq c.args.map h.1)
 
 pub returns : goal.returns
 returns g c =
@@ -20,5 +20,5 @@ returns g c =
     let e = g.met.S.Value.Eq.laws in
     let list = c.args.map in
     IfOk-weaker c.from_iter.result _ (λ again. same_pairs k eq list again ≡ true)
-    (λ again h. canon_unique k p eq e (override_all k nothing list) list again (own k p eq e list h.2.1) (made_again k eq (g.S.HandsOver.owned h.0) list h.1 again h.2.0 (all_shown g.S.HandsOver.owned g.met.S.HandsOver.takes h.0 h.1 h.3) h.4))
+    (λ again h. canon_unique k p eq e (override_all k nothing list) list again (own k p eq e list h.2.1) (made_again k eq (g.S.IntoIter.OwnedPairs.left h.0) list h.1 again h.2.0 (all_shown g.S.IntoIter.OwnedPairs.left g.met.S.IntoIter.OwnedPairs.ends.takes h.0 h.1 h.3) h.4))
     c.from_iter.ensures

@@ -1,8 +1,13 @@
-use Rattle.std.proofs.Common.{◌∙◌}
+use Rattle.std.proofs.Common.{◌∙◌, subst}
 use Rattle.std.proofs.lemmas.Result.{on_ok_weaker}
+use Rattle.rangemap_core.specs.Ranges.{IsCanonical}
 use Rattle.rangemap_core.proofs.AppendLemmas.{gaps_appended}
+use Rattle.rangemap_core.proofs.GapLemmas.{are_gaps}
 use Rattle.rangemap_sorted.proofs.sorted_vec.SortedVecStore.append_gaps.Goals as goal
 
 pub returns-clause-ok : goal.returns-clause-ok
 returns-clause-ok g c =
-    on_ok_weaker c.append_gaps.result (λ all. gaps_appended g.met.Q.Kind.placed c.args.self.now c.args.outer_range.now c.new-gaps.result c.args.out.now.items c.append_gaps.new.out.items (rw (← (c.deref.ensures.value ∙ c.self.view_is)) c.new-gaps.ensures) all) c.append_gaps.ensures.ok
+    let q = c.args.outer_range.now in
+    let canonical : IsCanonical g.Q.Kind.kind g.V.PartialEq.eq c.args.self.now = subst (IsCanonical g.Q.Kind.kind g.V.PartialEq.eq) c.self.view_is c.self.invariant in
+    let gaps = are_gaps g.met.Q.Kind.placed g.V.PartialEq.eq q c.known_ends.ensures c.args.self.now canonical in
+    on_ok_weaker c.append_gaps.result (λ all. gaps_appended g.met.Q.Kind.placed c.args.self.now q _ c.args.out.now.items c.append_gaps.new.out.items (rw (c.new-pairs.ensures, c.deref.ensures.value ∙ c.self.view_is) gaps) all) c.append_gaps.ensures.ok

@@ -1,8 +1,15 @@
+use Rattle.std.proofs.Common.{subst}
 use Rattle.std.proofs.lemmas.Result.{on_ok_weaker}
+use Rattle.rangemap_core.specs.Ranges.{IsCanonical, half_open}
 use Rattle.rangemap_core.specs.engine.EndpointKinds.{half_open_placed}
 use Rattle.rangemap_core.proofs.AppendLemmas.{gaps_appended}
+use Rattle.rangemap_core.proofs.GapLemmas.{are_gaps}
 use Rattle.rangemap_tree.proofs.tree.TreeStore.append_gaps.Goals as goal
 
 pub returns-clause-ok : goal.returns-clause-ok
 returns-clause-ok g c =
-    on_ok_weaker c.append_gaps.result (λ all. gaps_appended (half_open_placed g.met.K.Ord.total) c.args.self.now c.args.outer_range.now c.new-gaps.result c.args.out.now.items c.append_gaps.new.out.items (rw (← c.self.view_is) c.new-gaps.ensures) all) c.append_gaps.ensures.ok
+    let q = c.args.outer_range.now in
+    let placed = half_open_placed g.met.K.Ord.total in
+    let canonical : IsCanonical (half_open g.K.Ord.cmp) g.V.PartialEq.eq c.args.self.now = subst (IsCanonical (half_open g.K.Ord.cmp) g.V.PartialEq.eq) c.self.view_is c.self.invariant in
+    let gaps = are_gaps placed g.V.PartialEq.eq q (record { start_is_key = tt; end_is_key = tt }) c.args.self.now canonical in
+    on_ok_weaker c.append_gaps.result (λ all. gaps_appended placed c.args.self.now q _ c.args.out.now.items c.append_gaps.new.out.items (rw (c.overlapping_pairs-pairs.ensures, c.self.view_is) gaps) all) c.append_gaps.ensures.ok

@@ -6,6 +6,6 @@ use Rattle.rangemap_unions.proofs.ranges.RangesExactSizeIterator.len.Goals as go
 pub returns-clause-value : goal.returns-clause-value
 returns-clause-value g c =
     c.len.ensures.value
-    ∙ ap size (g.met.I.PairIter.counts c.self.inside.pairs)
-    ∙ sym (length-map (g.I.PairIter.left c.self.inside.pairs) (λ (p : g.row.I-Range.Denot × g.row.I-Value.Denot). p.0))
+    ∙ ap size (g.met.I.PairIter.ends.counts c.self.inside.pairs)
+    ∙ sym (length-map (g.I.LentPairs.left c.self.inside.pairs) (λ (p : g.row.I-Range.Denot × g.row.I-Value.Denot). p.0))
     ∙ ap length c.self.view_is

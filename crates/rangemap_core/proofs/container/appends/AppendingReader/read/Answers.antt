@@ -1,38 +1,39 @@
 use Rattle.std.proofs.Common.{rules, arith, ◌≡◌, ◌<◌, ◌∷◌, ◌∙◌, ap, length, subst, take}
+use Rattle.rangemap_core.specs.Lent.{shown}
 use Rattle.rangemap_core.specs.Appends.{AppendsOne}
 use Rattle.rangemap_core.proofs.AppendLemmas.{cut_back, next_stored, so_far-all, so_far-next, so_far-none}
 use Rattle.rangemap_core.proofs.container.appends.AppendingReader.read.Goals as goal
 
 pub pairs-init : goal.pairs-init
-pairs-init g c = so_far-none g.Q.Kind.kind g.V.PartialEq.eq (g.I.PairIter.left c.args.pairs) c.args.out.now.items c.requires.0
+pairs-init g c = so_far-none g.Q.Kind.kind g.V.PartialEq.eq (g.I.LentPairs.left c.args.pairs) c.args.out.now.items c.requires.0
 
 pub append_clone-requires-clause-stored : goal.append_clone-requires-clause-stored
 append_clone-requires-clause-stored g c =
-    let taken : g.I.PairIter.left c.pairs.rest ≡ g.I.PairIter.shows c.in-Some.pair ∷ g.I.PairIter.left c.next.new.self = rw c.in-Some.is at (g.met.I.PairIter.takes _ _ _ c.next.ensures.steps) in
-    rw c.range_of-range.ensures
-    (next_stored g.Q.Kind.kind g.V.PartialEq.eq (g.I.PairIter.left c.args.pairs) (g.I.PairIter.left c.pairs.rest) c.args.out.now.items c.pairs.out.items (g.I.PairIter.shows c.in-Some.pair) (g.I.PairIter.left c.next.new.self) c.pairs.invariant taken)
+    let taken : g.I.LentPairs.left c.pairs.rest ≡ (shown g.I.Lent.Reference.target g.I.LentValue.Reference.target) c.in-Some.pair ∷ g.I.LentPairs.left c.next.new.self = rw c.in-Some.is at (g.met.I.PairIter.ends.takes _ _ _ c.next.ensures.steps) in
+    rw c.get-range.ensures
+    (next_stored g.Q.Kind.kind g.V.PartialEq.eq (g.I.LentPairs.left c.args.pairs) (g.I.LentPairs.left c.pairs.rest) c.args.out.now.items c.pairs.out.items ((shown g.I.Lent.Reference.target g.I.LentValue.Reference.target) c.in-Some.pair) (g.I.LentPairs.left c.next.new.self) c.pairs.invariant taken)
 
 pub pairs-smaller : goal.pairs-smaller
 pairs-smaller g c =
-    let taken : g.I.PairIter.left c.pairs.rest ≡ g.I.PairIter.shows c.in-Some.pair ∷ g.I.PairIter.left c.next.new.self = rw c.in-Some.is at (g.met.I.PairIter.takes _ _ _ c.next.ensures.steps) in
-    let fewer : length (g.I.PairIter.left c.next.new.self) < length (g.I.PairIter.left c.pairs.rest) = omega (arith, ap length taken) in
+    let taken : g.I.LentPairs.left c.pairs.rest ≡ (shown g.I.Lent.Reference.target g.I.LentValue.Reference.target) c.in-Some.pair ∷ g.I.LentPairs.left c.next.new.self = rw c.in-Some.is at (g.met.I.PairIter.ends.takes _ _ _ c.next.ensures.steps) in
+    let fewer : length (g.I.LentPairs.left c.next.new.self) < length (g.I.LentPairs.left c.pairs.rest) = omega (arith, ap length taken) in
     fewer
 
 pub pairs-preserved : goal.pairs-preserved
 pairs-preserved g c =
     let k = g.Q.Kind.kind in
     let eq = g.V.PartialEq.eq in
-    let pair = g.I.PairIter.shows c.in-Some.pair in
-    let taken : g.I.PairIter.left c.pairs.rest ≡ pair ∷ g.I.PairIter.left c.next.new.self = rw c.in-Some.is at (g.met.I.PairIter.takes _ _ _ c.next.ensures.steps) in
-    let one : AppendsOne k eq (c.range_of-range.result.now, c.value_of-value.result.now) c.pairs.out.items c.append_clone.new.out.items = search rules in
+    let pair = (shown g.I.Lent.Reference.target g.I.LentValue.Reference.target) c.in-Some.pair in
+    let taken : g.I.LentPairs.left c.pairs.rest ≡ pair ∷ g.I.LentPairs.left c.next.new.self = rw c.in-Some.is at (g.met.I.PairIter.ends.takes _ _ _ c.next.ensures.steps) in
+    let one : AppendsOne k eq (c.get-range.result.now, c.get-value.result.now) c.pairs.out.items c.append_clone.new.out.items = search rules in
     let same : AppendsOne k eq pair c.pairs.out.items c.append_clone.new.out.items =
-    subst (λ (p : g.row.R.Denot × g.row.V.Denot). AppendsOne k eq p c.pairs.out.items c.append_clone.new.out.items) (λ i. (c.range_of-range.ensures i, c.value_of-value.ensures i)) one in
-    so_far-next k eq (g.I.PairIter.left c.args.pairs) (g.I.PairIter.left c.pairs.rest) c.args.out.now.items c.pairs.out.items c.append_clone.new.out.items pair (g.I.PairIter.left c.next.new.self) c.pairs.invariant taken same
+    subst (λ (p : g.row.R.Denot × g.row.V.Denot). AppendsOne k eq p c.pairs.out.items c.append_clone.new.out.items) (λ i. (c.get-range.ensures i, c.get-value.ensures i)) one in
+    so_far-next k eq (g.I.LentPairs.left c.args.pairs) (g.I.LentPairs.left c.pairs.rest) c.args.out.now.items c.pairs.out.items c.append_clone.new.out.items pair (g.I.LentPairs.left c.next.new.self) c.pairs.invariant taken same
 
 pub returns : goal.returns
 returns g c =
-    let ended = rw c.in_default.is at (g.met.I.PairIter.takes _ _ _ c.next.ensures.steps) in
-    (so_far-all g.Q.Kind.kind g.V.PartialEq.eq (g.I.PairIter.left c.args.pairs) (g.I.PairIter.left c.pairs.rest) c.args.out.now.items c.pairs.out.items c.pairs.invariant ended.0, tt)
+    let ended = rw c.in_default.is at (g.met.I.PairIter.ends.takes _ _ _ c.next.ensures.steps) in
+    (so_far-all g.Q.Kind.kind g.V.PartialEq.eq (g.I.LentPairs.left c.args.pairs) (g.I.LentPairs.left c.pairs.rest) c.args.out.now.items c.pairs.out.items c.pairs.invariant ended.0, tt)
 
 pub returns-in-Err : goal.returns-in-Err
 returns-in-Err g c =

@@ -1,0 +1,170 @@
+//! The parts of a range that no stored range covers, whatever keeps the ranges.
+ghost use Rattle.std.specs.Prelude.{◌≡◌, ◌≢◌, ◌∷◌, [], false, true, IfOk, IfSome, MatchOption, None as NoneWord, OnErr, length, map};
+ghost use Rattle.std.specs.Iterator.{UpTo, at_most};
+ghost use Rattle.std.specs.Iterator.SizeHint.{IsWithinCount};
+ghost use Rattle.std.specs.Option.{option_map};
+ghost use Rattle.rangemap_core.specs.Clones.{KeysCloneFaithfully};
+ghost use Rattle.rangemap_core.specs.engine.Endpoints.{AtStart, endpoint_of, gaps_from, is_before};
+ghost use Rattle.rangemap_core.specs.engine.GapsAhead.{start_behind};
+ghost use Rattle.rangemap_core.specs.MadeRanges.{GivesRange, IsSame, TakesRange};
+ghost use Rattle.rangemap_core.specs.Ranges.{AreGaps};
+
+use crate::key_range::KeyRange;
+use crate::kind::{Endpoint, Kind, known_ends};
+use crate::pair_iter::{LentPairs, PairIter};
+use crate::reference::Reference;
+use crate::store::Lends;
+use std::alloc::AllocError;
+use std::iter::Iterator;
+use std::marker::{Model, PhantomData};
+
+/// The gaps that stored ranges leave in a range, in order. It reads the pairs that overlap the range.
+#[derive(Drop)]
+pub struct Gaps<'a, Q: Kind<R>, R: KeyRange, I: LentPairs<Range = R>> {
+    // The stored range at whose end the next gap may start. Where there is none it may start with
+    // the outer range.
+    last: Option<I::Lent>,
+    // The range up to which it may go, and the pairs behind that one.
+    next: Option<I::Lent>,
+    pairs: I,
+    outer_range: &'a R,
+    is_done: bool,
+    kind: PhantomData<Q>,
+}
+
+impl<'a, Q: Kind<R>, R: KeyRange, I: LentPairs<Range = R>> Model for Gaps<'a, Q, R, I> {
+    ghost use Rattle.std.specs.Prelude.{List, [], if◌then◌else◌};
+    ghost use Rattle.std.specs.Option.{option_map};
+    ghost use Rattle.rangemap_core.specs.engine.GapsAhead.{gaps_behind, start_behind};
+
+    ghost Value = { List R };
+
+    ghost view = { λ s. if s.is_done then [] else gaps_behind Q.kind Q.end_place Q.part_of (start_behind s.outer_range.now (option_map I.Lent.target s.last)) s.outer_range.now (option_map I.Lent.target s.next) (I.left s.pairs) };
+}
+
+impl<'a, Q: Kind<R>, R: KeyRange, I: PairIter<Range = R>> Gaps<'a, Q, R, I> {
+    /// Returns the gaps that pairs leave in the range, where they are those that overlap it.
+    pub fn over(pairs: I, outer_range: &'a R) -> Self
+        ensures { result ≡ gaps_from Q.kind Q.end_place Q.part_of (AtStart outer_range.now) outer_range.now (I.left pairs) }
+    {
+        let mut rest = pairs;
+        Gaps {
+            last: None,
+            next: next_range(&mut rest),
+            pairs: rest,
+            outer_range,
+            is_done: false,
+            kind: PhantomData,
+        }
+    }
+
+    /// Returns the next gap, made of clones.
+    ///
+    /// # Errors
+    ///
+    /// A clone was refused. Nothing changed then, so the same gap may be asked for again.
+    pub fn try_next(&mut self) -> Result<Option<R>, AllocError>
+        requires { KeysCloneFaithfully R.Key.is_clone R.Key.cmp }
+        ensures ok { IfOk result (λ item. TakesRange Q.kind self.old item self.new) }
+        ensures err { OnErr result (self.new ≡ self.old) }
+        ensures refused { OnErr result (self.old ≢ []) }
+    {
+        if self.is_done {
+            return Ok(None);
+        }
+        while let Some(next) = &self.next {
+            let from = end_of(&self.last, self.outer_range);
+            let gap = part_between::<Q, R>(from, Endpoint::Start(next.get()))?;
+            self.last = self.next.take();
+            self.next = next_range(&mut self.pairs);
+            if gap.is_some() {
+                return Ok(gap);
+            }
+        }
+        let from = end_of(&self.last, self.outer_range);
+        let gap = part_between::<Q, R>(from, Endpoint::End(self.outer_range))?;
+        self.is_done = true;
+        Ok(gap)
+    }
+}
+
+impl<'a, Q: Kind<R>, R: KeyRange, I: PairIter<Range = R>> Iterator for Gaps<'a, Q, R, I> {
+    type Item = Result<R, AllocError>;
+
+    ghost can_next = { λ _. KeysCloneFaithfully R.Key.is_clone R.Key.cmp };
+
+    ghost next_gives = { GivesRange Q.kind };
+
+    ghost remaining = { λ s. at_most (length s) };
+
+    fn next(&mut self) -> Option<Result<R, AllocError>> {
+        match self.try_next() {
+            Ok(None) => None,
+            Ok(Some(gap)) => Some(Ok(gap)),
+            Err(error) => {
+                // A refusal is the last answer.
+                self.is_done = true;
+                Some(Err(error))
+            }
+        }
+    }
+
+    fn size_hint(&self) -> (usize, Option<usize>)
+        ensures lower { IsWithinCount result.0 (at_most (length self.now)) }
+        ensures upper { IfSome result.1 (UpTo (at_most (length self.now))) }
+        ensures exact { result ≡ (0, NoneWord) }
+    {
+        (0, None)
+    }
+}
+
+/// Returns the gaps that what is stored leaves in the range, which may be empty or reversed.
+pub fn gaps_of<'a, S: Lends<'a>>(
+    stored: &'a S,
+    outer_range: &'a S::Range,
+) -> Gaps<'a, S::Kind, S::Range, S::Overlapping>
+where
+    S::Range: 'a,
+    S::Value: 'a,
+    ensures { AreGaps S.Kind.kind (map (λ pair. pair.0) (S.pairs stored.now)) outer_range.now result }
+{
+    known_ends::<S::Kind, S::Range>(outer_range);
+    stored.known();
+    Gaps::over(stored.overlapping(outer_range), outer_range)
+}
+
+// Takes the range of the next pair.
+fn next_range<I: PairIter>(pairs: &mut I) -> Option<I::Lent>
+    ensures { MatchOption result ((I.left pairs.old ≡ []) × (I.left pairs.new ≡ [])) (λ range. (value : I.Value) × (I.left pairs.old ≡ (I.Lent.target range, value) ∷ I.left pairs.new)) }
+{
+    match pairs.next() {
+        Some((range, _)) => Some(range),
+        None => None,
+    }
+}
+
+// Where the next gap may start.
+fn end_of<'b, R, L: Reference<R>>(last: &'b Option<L>, outer_range: &'b R) -> Endpoint<'b, R>
+    ensures { endpoint_of result ≡ start_behind outer_range.now (option_map L.target last.now) }
+{
+    match last {
+        Some(range) => Endpoint::End(range.get()),
+        None => Endpoint::Start(outer_range),
+    }
+}
+
+// The part from one endpoint up to another, if it has a key.
+fn part_between<Q: Kind<R>, R: KeyRange>(
+    from: Endpoint<'_, R>,
+    to: Endpoint<'_, R>,
+) -> Result<Option<R>, AllocError>
+    requires { KeysCloneFaithfully R.Key.is_clone R.Key.cmp }
+    ensures ok { IfOk result (λ gap. MatchOption gap (is_before Q.kind Q.end_place (endpoint_of from.entry) (endpoint_of to.entry) ≡ false) (λ r. (is_before Q.kind Q.end_place (endpoint_of from.entry) (endpoint_of to.entry) ≡ true) × IsSame Q.kind (Q.part_of (endpoint_of from.entry) (endpoint_of to.entry)) r)) }
+    ensures err { OnErr result (is_before Q.kind Q.end_place (endpoint_of from.entry) (endpoint_of to.entry) ≡ true) }
+{
+    if Q::is_before(from, to) {
+        Ok(Some(Q::part(from, to)?))
+    } else {
+        Ok(None)
+    }
+}
