@@ -14,6 +14,10 @@ fn main() {
     link_static("bench_map", &proved);
     link_static("libc_c", &heap);
     make_rust_crate(Path::new(&setting("RANGEMAP_RUST")));
+    // The program that counts bytes has the calls of the C library's allocator led to its own.
+    for call in ["malloc", "realloc", "free"] {
+        println!("cargo:rustc-link-arg-bin=bytes=-Wl,--wrap={call}");
+    }
 }
 
 fn setting(name: &str) -> String {

@@ -14,6 +14,8 @@ pub struct Container<S: 'static> {
     pub workloads: &'static [Workload<S>],
     /// The greatest ratio that is wanted at a size.
     pub target: fn(Kind, usize) -> Option<f64>,
+    /// The greatest size at which changes at random places are timed.
+    pub most_changed: usize,
 }
 
 impl<S> Container<S> {
@@ -21,6 +23,11 @@ impl<S> Container<S> {
     pub fn measure(&self, workload: &Workload<S>, size: usize) -> Measured {
         let both = |run: fn(&S) -> Run| [run(&self.rust), run(&self.rattle)];
         (workload.case)(size).measure(both(self.contents), both(workload.run))
+    }
+
+    /// Whether a workload is timed at a size: not where it would take hours.
+    pub fn is_timed(&self, workload: &Workload<S>, size: usize) -> bool {
+        workload.kind != Kind::RandomChanges || size <= self.most_changed
     }
 }
 
@@ -31,6 +38,7 @@ pub const HALF_OPEN: Container<MapSide> = Container {
     contents: |side| side.contents,
     workloads: OVER_MAPS,
     target: in_a_vector,
+    most_changed: 100_000,
 };
 
 pub const CLOSED: Container<MapSide> = Container {
@@ -44,6 +52,7 @@ pub const TREE: Container<MapSide> = Container {
     name: "tree_map::RangeMap",
     rattle: rattle_side::TREE,
     target: in_a_tree,
+    most_changed: usize::MAX,
     ..HALF_OPEN
 };
 
@@ -62,6 +71,7 @@ pub const SET: Container<SetSide> = Container {
     contents: |side| side.contents,
     workloads: OVER_SETS,
     target: in_a_vector,
+    most_changed: usize::MAX,
 };
 
 pub const CLOSED_SET: Container<SetSide> = Container {
@@ -71,13 +81,52 @@ pub const CLOSED_SET: Container<SetSide> = Container {
     ..SET
 };
 
+pub const CHUNKED: Container<MapSide> = Container {
+    name: "chunked::RangeMap",
+    rattle: rattle_side::CHUNKED,
+    target: in_chunks,
+    most_changed: usize::MAX,
+    ..HALF_OPEN
+};
+
+pub const CLOSED_CHUNKED: Container<MapSide> = Container {
+    name: "chunked::RangeInclusiveMap",
+    rust: rust_side::CLOSED,
+    rattle: rattle_side::CLOSED_CHUNKED,
+    ..CHUNKED
+};
+
+pub const CHUNKED_SET: Container<SetSide> = Container {
+    name: "chunked::RangeSet",
+    rattle: rattle_side::CHUNKED_SET,
+    target: in_chunks,
+    ..SET
+};
+
+pub const CLOSED_CHUNKED_SET: Container<SetSide> = Container {
+    name: "chunked::RangeInclusiveSet",
+    rust: rust_side::CLOSED_SET,
+    rattle: rattle_side::CLOSED_CHUNKED_SET,
+    ..CHUNKED_SET
+};
+
 /// What is wanted where the ranges are in a vector.
 pub const VECTOR_TARGET: f64 = 0.75;
 
 fn in_a_vector(kind: Kind, size: usize) -> Option<f64> {
-    (kind == Kind::Steady || size <= 1_000).then_some(VECTOR_TARGET)
+    (kind != Kind::RandomChanges || size <= 1_000).then_some(VECTOR_TARGET)
 }
 
 fn in_a_tree(kind: Kind, size: usize) -> Option<f64> {
     (kind == Kind::RandomChanges && size >= 1_000).then_some(1.0)
+}
+
+fn in_chunks(kind: Kind, size: usize) -> Option<f64> {
+    Some(match (kind, size) {
+        (Kind::Emptying, _) => 0.1,
+        (Kind::RandomChanges, 1_000_000..) => 1.0,
+        (Kind::Lookups, 1_000_000..) => 1.2,
+        (Kind::Lookups, 1_001..) => 1.0,
+        _ => VECTOR_TARGET,
+    })
 }

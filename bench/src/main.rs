@@ -28,10 +28,11 @@ mod workloads;
 
 use containers::Container;
 use std::fs;
+use std::path::Path;
 use table::{print_ratios, print_times, row};
 use workloads::CHANGES;
 
-const SIZES: [usize; 5] = [10, 100, 1_000, 10_000, 100_000];
+const SIZES: [usize; 6] = [10, 100, 1_000, 10_000, 100_000, 1_000_000];
 
 /// Where changes at random places of one list begin to lose.
 const CROSSING: [usize; 6] = [500, 1_000, 2_000, 3_000, 4_000, 6_000];
@@ -43,9 +44,10 @@ fn main() {
         ["--compare", first, second] => {
             agreement::print_differences(&saved_tables(first), &saved_tables(second));
         }
-        ["--draw", tables, picture] => {
-            let drawn = picture::drawn(&saved_tables(tables));
-            fs::write(picture, drawn).unwrap_or_else(|error| panic!("{picture}: {error}"));
+        ["--draw", tables, folder] => {
+            let tables = saved_tables(tables);
+            write(folder, "speed.svg", picture::containers(&tables));
+            write(folder, "choice.svg", picture::choice(&tables));
         }
         [] => {
             measure("", &SIZES);
@@ -57,13 +59,18 @@ fn main() {
             let sizes: Vec<usize> = SIZES.into_iter().filter(|size| *size <= greatest).collect();
             measure(word, &sizes);
         }
-        _ => panic!("[WORD [SIZE]], --compare TABLES TABLES or --draw TABLES PICTURE"),
+        _ => panic!("[WORD [SIZE]], --compare TABLES TABLES or --draw TABLES FOLDER"),
     }
 }
 
 fn saved_tables(path: &str) -> Vec<saved::Table> {
     let text = fs::read_to_string(path).unwrap_or_else(|error| panic!("{path}: {error}"));
     saved::tables(&text)
+}
+
+fn write(folder: &str, name: &str, picture: String) {
+    let path = Path::new(folder).join(name);
+    fs::write(&path, picture).unwrap_or_else(|error| panic!("{}: {error}", path.display()));
 }
 
 // The workloads whose names have the word.
@@ -73,10 +80,17 @@ fn measure(word: &str, sizes: &[usize]) {
         containers::CLOSED,
         containers::TREE,
         containers::TEXTS,
+        containers::CHUNKED,
+        containers::CLOSED_CHUNKED,
     ] {
         print_tables(&map, word, sizes);
     }
-    for set in [containers::SET, containers::CLOSED_SET] {
+    for set in [
+        containers::SET,
+        containers::CLOSED_SET,
+        containers::CHUNKED_SET,
+        containers::CLOSED_CHUNKED_SET,
+    ] {
         print_tables(&set, word, sizes);
     }
 }
@@ -99,7 +113,7 @@ fn print_tables<S>(container: &Container<S>, word: &str, sizes: &[usize]) {
 fn crossing() {
     let mut rows = vec![];
     for workload in CHANGES {
-        for container in [containers::HALF_OPEN, containers::TREE] {
+        for container in [containers::HALF_OPEN, containers::TREE, containers::CHUNKED] {
             rows.push(row(&container, workload, &CROSSING).named_with(container.name));
         }
     }

@@ -1,8 +1,9 @@
-//! A picture of the ratios over the sizes, both by their logarithms: a panel for each container,
-//! and in it a line for each workload.
+//! Pictures of the ratios over the sizes, both by their logarithms: a panel for each container, and in
+//! it a line for each workload; or a panel for each workload, and in it a line for each map.
 
-use crate::containers::{TREE, VECTOR_TARGET};
+use crate::containers::{CHUNKED, HALF_OPEN, TREE, VECTOR_TARGET};
 use crate::saved::{Row, Table};
+use crate::workloads::{DISJOINT_INSERTS, ITERATION, LOOKUPS, OVERLAPS};
 
 mod scale;
 
@@ -23,22 +24,51 @@ const COLUMNS: usize = 2;
 /// How far two names are apart.
 const NAME_HEIGHT: f64 = 13.0;
 
-const COLOURS: [&str; 10] = [
+const COLOURS: [&str; 11] = [
     "#1f77b4", "#d95f02", "#d62728", "#1b9e77", "#2ca02c", "#a6761d", "#7b4fb5", "#c7379b",
-    "#8c564b", "#444444",
+    "#8c564b", "#444444", "#17a2b8",
 ];
 
 /// What is marked on the sides of a panel, where it lies within.
-const SIZES: [f64; 5] = [10.0, 100.0, 1_000.0, 10_000.0, 100_000.0];
-const RATIOS: [f64; 12] = [
-    0.02, 0.05, 0.1, 0.2, 0.5, 1.0, 2.0, 5.0, 10.0, 20.0, 50.0, 100.0,
+const SIZES: [f64; 6] = [10.0, 100.0, 1_000.0, 10_000.0, 100_000.0, 1_000_000.0];
+const RATIOS: [f64; 13] = [
+    0.01, 0.02, 0.05, 0.1, 0.2, 0.5, 1.0, 2.0, 5.0, 10.0, 20.0, 50.0, 100.0,
 ];
 
 /// Draws the containers' tables as an SVG. Their headings are the containers' names, in backticks.
-pub fn drawn(tables: &[Table]) -> String {
+pub fn containers(tables: &[Table]) -> String {
     let tables: Vec<&Table> = tables.iter().filter(|table| is_container(table)).collect();
-    let names = names(&tables);
-    let scale = scale_of(&tables);
+    sheet(&tables)
+}
+
+/// Draws, as an SVG, what tells one map over half-open ranges from another: the work that they are
+/// chosen by.
+pub fn choice(tables: &[Table]) -> String {
+    let maps = [HALF_OPEN.name, CHUNKED.name, TREE.name];
+    let works = [DISJOINT_INSERTS, LOOKUPS, OVERLAPS, ITERATION];
+    let panels = works.map(|work| beside(tables, work.name, &maps));
+    sheet(&panels.each_ref())
+}
+
+// The rows of one workload, each named by its container.
+fn beside(tables: &[Table], work: &str, containers: &[&str]) -> Table {
+    let is_named = |table: &&Table| containers.contains(&plain(&table.title).as_str());
+    let row = |table: &Table| {
+        let row = table.rows.iter().find(|row| row.name == work)?;
+        Some(Row {
+            name: table.title.clone(),
+            ratios: row.ratios.clone(),
+        })
+    };
+    Table {
+        title: String::from(work),
+        rows: tables.iter().filter(is_named).filter_map(row).collect(),
+    }
+}
+
+fn sheet(tables: &[&Table]) -> String {
+    let names = names(tables);
+    let scale = scale_of(tables);
     let panels = tables.iter().enumerate().map(|(at, table)| {
         let left = PANEL.0 * (at % COLUMNS) as f64;
         let top = PANEL.1 * (at / COLUMNS) as f64;
@@ -57,6 +87,13 @@ pub fn drawn(tables: &[Table]) -> String {
 
 fn is_container(table: &Table) -> bool {
     table.title.starts_with('`')
+        && table.title.ends_with('`')
+        && table.title.matches('`').count() == 2
+}
+
+// A tree's targets are others.
+fn has_vector_target(table: &Table) -> bool {
+    is_container(table) && plain(&table.title) != TREE.name
 }
 
 // Each workload's name once, so that it has one colour in all panels.
@@ -89,7 +126,7 @@ fn panel(table: &Table, names: &[&str], scale: &Scale) -> String {
     );
     drawn += &sides(scale);
     drawn += &level(1.0, "2", scale);
-    if plain(&table.title) != plain(TREE.name) {
+    if has_vector_target(table) {
         drawn += &level(VECTOR_TARGET, "1\" stroke-dasharray=\"5 3", scale);
     }
     let colour = |row: &Row| {

@@ -44,6 +44,8 @@ macro_rules! map_side {
             gaps: run!($container, bench_gaps),
             clones: run!($container, bench_clones),
             comparisons: run!($container, bench_comparisons),
+            emptyings: run!($container, bench_emptyings),
+            standing: run!($container, bench_standing),
         }
     };
 }
@@ -57,6 +59,7 @@ macro_rules! set_side {
             joined_sets: run!($container, bench_joined_sets),
             common_sets: run!($container, bench_common_sets),
             members: run!($container, bench_members),
+            standing: run!($container, bench_standing),
         }
     };
 }
@@ -69,6 +72,14 @@ pub const TREE: MapSide = map_side!(2);
 
 pub const TEXTS: MapSide = map_side!(3);
 
-pub const SET: SetSide = set_side!(4);
+pub const CHUNKED: MapSide = map_side!(4);
 
-pub const CLOSED_SET: SetSide = set_side!(5);
+pub const CLOSED_CHUNKED: MapSide = map_side!(5);
+
+pub const SET: SetSide = set_side!(6);
+
+pub const CLOSED_SET: SetSide = set_side!(7);
+
+pub const CHUNKED_SET: SetSide = set_side!(8);
+
+pub const CLOSED_CHUNKED_SET: SetSide = set_side!(9);

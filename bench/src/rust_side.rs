@@ -1,6 +1,8 @@
 //! The Rust crate's side: the same workloads as in `crates/bench_workloads/src/workloads.rt`.
 
 use crate::input::{Entry, Query};
+use crate::side::MARK;
+use std::hint::black_box;
 use std::ops::{Range, RangeInclusive};
 
 mod maps;
@@ -57,6 +59,13 @@ fn filled<S: Store>(entries: &[Entry]) -> S {
     for entry in entries {
         store.insert(entry.start, entry.end, entry.value);
     }
+    store
+}
+
+// The same, and while it stands a block of `MARK` bytes.
+fn marked<S: Store>(entries: &[Entry]) -> S {
+    let store = filled(entries);
+    black_box(Vec::<u8>::with_capacity(MARK));
     store
 }
 

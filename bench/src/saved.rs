@@ -1,6 +1,6 @@
 //! Tables of ratios, read again from what was printed.
 
-use crate::table::RATIOS;
+use crate::table::{RATIOS, UNTIMED};
 
 /// The ratios of a container, or what else a heading stands for.
 pub struct Table {
@@ -53,10 +53,13 @@ fn cells(line: &str) -> Vec<&str> {
 }
 
 fn row(name: &str, sizes: &[f64], ratios: &[&str]) -> Row {
-    let ratios = ratios.iter().map(|cell| number(cell));
+    let timed = sizes
+        .iter()
+        .zip(ratios)
+        .filter(|(_, cell)| **cell != UNTIMED);
     Row {
         name: String::from(name),
-        ratios: sizes.iter().copied().zip(ratios).collect(),
+        ratios: timed.map(|(size, cell)| (*size, number(cell))).collect(),
     }
 }
 

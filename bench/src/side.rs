@@ -17,7 +17,15 @@ pub struct MapSide {
     pub gaps: Run,
     pub clones: Run,
     pub comparisons: Run,
+    pub emptyings: Run,
+    /// A new container each round, and a block of `MARK` bytes while it stands. The program `bytes`
+    /// alone runs it.
+    #[allow(dead_code)]
+    pub standing: Run,
 }
+
+/// The bytes of that block, as `crates/bench_workloads/src/workloads.rt` says.
+pub const MARK: usize = 4_099;
 
 /// One side's workloads over a set. The queries are the ranges of a second set, but for `members`.
 pub struct SetSide {
@@ -27,4 +35,7 @@ pub struct SetSide {
     pub joined_sets: Run,
     pub common_sets: Run,
     pub members: Run,
+    /// As of a map.
+    #[allow(dead_code)]
+    pub standing: Run,
 }

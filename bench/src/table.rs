@@ -7,10 +7,13 @@ use crate::workloads::Workload;
 /// How the column of names is headed in a table of ratios, by which a saved one is found again.
 pub const RATIOS: &str = "Ratio of the times";
 
-/// A workload's cells, one for each size.
+/// What stands where nothing was timed.
+pub const UNTIMED: &str = "-";
+
+/// A workload's cells, one for each size, where it was timed.
 pub struct Row {
     name: String,
-    cells: Vec<Cell>,
+    cells: Vec<Option<Cell>>,
 }
 
 struct Cell {
@@ -21,9 +24,11 @@ struct Cell {
 /// Times a workload at each size.
 pub fn row<S>(container: &Container<S>, workload: &Workload<S>, sizes: &[usize]) -> Row {
     eprintln!("{}: {}", container.name, workload.name);
-    let cell = |&size: &usize| Cell {
-        measured: container.measure(workload, size),
-        target: (container.target)(workload.kind, size),
+    let cell = |&size: &usize| {
+        container.is_timed(workload, size).then(|| Cell {
+            measured: container.measure(workload, size),
+            target: (container.target)(workload.kind, size),
+        })
     };
     Row {
         name: String::from(workload.name),
@@ -56,7 +61,8 @@ fn print(title: &str, sizes: &[usize], rows: &[Row], text: fn(&Cell) -> String) 
     println!("| {title} | {} |", heads.join(" | "));
     println!("|---|{}", "---|".repeat(sizes.len()));
     for row in rows {
-        let cells: Vec<String> = row.cells.iter().map(text).collect();
+        let told = |cell: &Option<Cell>| cell.as_ref().map_or(String::from(UNTIMED), text);
+        let cells: Vec<String> = row.cells.iter().map(told).collect();
         println!("| {} | {} |", row.name, cells.join(" | "));
     }
 }

@@ -17,10 +17,14 @@ pub struct Workload<S> {
 /// What the targets tell apart.
 #[derive(Clone, Copy, PartialEq)]
 pub enum Kind {
-    /// Lookups, queries, whole maps, two whole sets, and inserts at the end.
+    /// Whole maps, two whole sets, and inserts at the end.
     Steady,
     /// Changes at random places.
     RandomChanges,
+    /// Lookups, and queries that meet a few ranges.
+    Lookups,
+    /// All that is stored taken out at once.
+    Emptying,
 }
 
 const APPENDS: Workload<MapSide> = Workload {
@@ -30,7 +34,7 @@ const APPENDS: Workload<MapSide> = Workload {
     case: whole,
 };
 
-const DISJOINT_INSERTS: Workload<MapSide> = Workload {
+pub const DISJOINT_INSERTS: Workload<MapSide> = Workload {
     name: "random disjoint inserts",
     kind: Kind::RandomChanges,
     run: |side| side.inserts,
@@ -44,14 +48,14 @@ const OVERLAPPING_INSERTS: Workload<MapSide> = Workload {
     case: |size| unasked(many(size, overlapping)),
 };
 
-const LOOKUPS: Workload<MapSide> = Workload {
+pub const LOOKUPS: Workload<MapSide> = Workload {
     name: "lookups, half of them misses",
-    kind: Kind::Steady,
+    kind: Kind::Lookups,
     run: |side| side.lookups,
     case: key_by_key,
 };
 
-const ITERATION: Workload<MapSide> = Workload {
+pub const ITERATION: Workload<MapSide> = Workload {
     name: "iteration",
     kind: Kind::Steady,
     run: |side| side.iterations,
@@ -65,16 +69,16 @@ const REMOVALS: Workload<MapSide> = Workload {
     case: |size| asked(size, queries(size, size / 2, 200)),
 };
 
-const OVERLAPS: Workload<MapSide> = Workload {
+pub const OVERLAPS: Workload<MapSide> = Workload {
     name: "`overlapping`, ten ranges a query",
-    kind: Kind::Steady,
+    kind: Kind::Lookups,
     run: |side| side.overlaps,
     case: ten_by_ten,
 };
 
 const GAPS: Workload<MapSide> = Workload {
     name: "`gaps`, ten ranges a query",
-    kind: Kind::Steady,
+    kind: Kind::Lookups,
     run: |side| side.gaps,
     case: ten_by_ten,
 };
@@ -93,6 +97,15 @@ const COMPARISONS: Workload<MapSide> = Workload {
     case: whole,
 };
 
+// The clone is a part of it: what drops a map is the same work as what empties it, so that it can't be
+// taken off.
+const EMPTYINGS: Workload<MapSide> = Workload {
+    name: "`clone`, and all taken out at once",
+    kind: Kind::Emptying,
+    run: |side| side.emptyings,
+    case: whole,
+};
+
 /// Those over every map to numbers.
 pub const OVER_MAPS: &[Workload<MapSide>] = &[
     APPENDS,
@@ -105,6 +118,7 @@ pub const OVER_MAPS: &[Workload<MapSide>] = &[
     GAPS,
     CLONES,
     COMPARISONS,
+    EMPTYINGS,
 ];
 
 /// Those over a map to texts, where values cost most.
@@ -149,7 +163,7 @@ pub const OVER_SETS: &[Workload<SetSide>] = &[
     },
     Workload {
         name: "`contains`, half of them misses",
-        kind: Kind::Steady,
+        kind: Kind::Lookups,
         run: |side| side.members,
         case: key_by_key,
     },

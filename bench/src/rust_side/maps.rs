@@ -1,8 +1,8 @@
 //! The maps.
 
 use super::values::Stored;
-use super::{asked, contents, filled, in_turn, mixed, over_store, repeat, Keys, Store};
-use crate::input::Query;
+use super::{asked, contents, filled, in_turn, marked, mixed, over_store, repeat, Keys, Store};
+use crate::input::{Entry, Query};
 use crate::side::MapSide;
 use rangemap::{RangeInclusiveMap, RangeMap};
 use std::hint::black_box;
@@ -110,7 +110,25 @@ const fn side<S: MapStore>() -> MapSide {
             let others = [map.clone(), map.clone()];
             repeat(rounds, |round| u64::from(map == others[round as usize % 2]))
         },
+        emptyings: |entries, _, rounds| {
+            let behind = end_of(entries);
+            over_store(entries, rounds, |map: &S| emptied(map, behind).len() as u64)
+        },
+        standing: |entries, _, rounds| repeat(rounds, |_| marked::<S>(entries).len() as u64),
     }
+}
+
+fn emptied<S: MapStore>(map: &S, behind: u64) -> S {
+    let mut rest = map.clone();
+    if behind > 0 {
+        rest.remove(0, behind);
+    }
+    rest
+}
+
+// The key behind all entries.
+fn end_of(entries: &[Entry]) -> u64 {
+    entries.iter().map(|entry| entry.end).max().unwrap_or(0)
 }
 
 fn without<S: MapStore>(map: &S, queries: &[Query]) -> S {

@@ -1,6 +1,6 @@
 //! The sets.
 
-use super::{asked, contents, filled, in_turn, mixed, repeat, Keys, Store};
+use super::{asked, contents, filled, in_turn, marked, mixed, repeat, Keys, Store};
 use crate::input::{Entry, Query};
 use crate::side::SetSide;
 use rangemap::{RangeInclusiveSet, RangeSet};
@@ -10,6 +10,7 @@ pub const SET: SetSide = side::<RangeSet<u64>>();
 pub const CLOSED_SET: SetSide = side::<RangeInclusiveSet<u64>>();
 
 trait SetStore: Store {
+    fn len(&self) -> usize;
     fn has(&self, key: u64) -> bool;
     fn mix_of_union(&self, other: &Self) -> u64;
     fn mix_of_intersection(&self, other: &Self) -> u64;
@@ -34,6 +35,10 @@ macro_rules! set_store {
         }
 
         impl SetStore for $set<u64> {
+            fn len(&self) -> usize {
+                $set::len(self)
+            }
+
             fn has(&self, key: u64) -> bool {
                 self.contains(&key)
             }
@@ -81,6 +86,7 @@ const fn side<S: SetStore>() -> SetSide {
                 u64::from(set.has(query.start))
             })
         },
+        standing: |entries, _, rounds| repeat(rounds, |_| marked::<S>(entries).len() as u64),
     }
 }
 

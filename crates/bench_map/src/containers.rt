@@ -12,8 +12,20 @@ pub const TREE: u32 = 2;
 /// The map over half-open ranges to texts.
 pub const TEXTS: u32 = 3;
 
+/// The map over half-open ranges in chunks.
+pub const CHUNKED: u32 = 4;
+
+/// The map over closed ranges in chunks.
+pub const CLOSED_CHUNKED: u32 = 5;
+
 /// The set over half-open ranges.
-pub const SET: u32 = 4;
+pub const SET: u32 = 6;
 
 /// The set over closed ranges.
-pub const CLOSED_SET: u32 = 5;
+pub const CLOSED_SET: u32 = 7;
+
+/// The set over half-open ranges in chunks.
+pub const CHUNKED_SET: u32 = 8;
+
+/// The set over closed ranges in chunks.
+pub const CLOSED_CHUNKED_SET: u32 = 9;

@@ -3,7 +3,8 @@
 use crate::containers;
 use bench_workloads::input::{Entry, Query};
 use bench_workloads::store::{
-    ClosedSet, ClosedStore, HalfOpenSet, HalfOpenStore, TextStore, TreeStore,
+    ChunkedSet, ChunkedStore, ClosedChunkedSet, ClosedChunkedStore, ClosedSet, ClosedStore,
+    HalfOpenSet, HalfOpenStore, TextStore, TreeStore,
 };
 use bench_workloads::workloads::sets::SetWorkload;
 use bench_workloads::workloads::{self, Workload, sets};
@@ -19,7 +20,8 @@ fn answer(digest: Result<u64, AllocError>) -> u64 {
 
 // What a workload answers over the map of the number. Another number counts as a refusal.
 //
-// The one place that names the maps: a function that does costs more to prove than all others.
+// The one place that names the maps: a function that does costs more to prove than all others. Those
+// in chunks have one of their own.
 fn over_map(
     workload: Workload,
     alloc: Global,
@@ -41,8 +43,28 @@ fn over_map(
         containers::TEXTS => {
             workloads::run::<TextStore>(workload, alloc, entries, queries, rounds)
         }
-        _ => Err(AllocError),
+        _ => over_chunked_map(workload, alloc, container, entries, queries, rounds),
     })
+}
+
+// The same over the map in chunks of the number.
+fn over_chunked_map(
+    workload: Workload,
+    alloc: Global,
+    container: u32,
+    entries: &[Entry],
+    queries: &[Query],
+    rounds: u32,
+) -> Result<u64, AllocError> {
+    match container {
+        containers::CHUNKED => {
+            workloads::run::<ChunkedStore>(workload, alloc, entries, queries, rounds)
+        }
+        containers::CLOSED_CHUNKED => {
+            workloads::run::<ClosedChunkedStore>(workload, alloc, entries, queries, rounds)
+        }
+        _ => Err(AllocError),
+    }
 }
 
 // The same over the set of the number.
@@ -59,8 +81,28 @@ fn over_set(
         containers::CLOSED_SET => {
             sets::run::<ClosedSet>(workload, alloc, entries, queries, rounds)
         }
-        _ => Err(AllocError),
+        _ => over_chunked_set(workload, alloc, container, entries, queries, rounds),
     })
+}
+
+// The same over the set in chunks of the number.
+fn over_chunked_set(
+    workload: SetWorkload,
+    alloc: Global,
+    container: u32,
+    entries: &[Entry],
+    queries: &[Query],
+    rounds: u32,
+) -> Result<u64, AllocError> {
+    match container {
+        containers::CHUNKED_SET => {
+            sets::run::<ChunkedSet>(workload, alloc, entries, queries, rounds)
+        }
+        containers::CLOSED_CHUNKED_SET => {
+            sets::run::<ClosedChunkedSet>(workload, alloc, entries, queries, rounds)
+        }
+        _ => Err(AllocError),
+    }
 }
 
 /// The digest of all pairs.
@@ -229,6 +271,55 @@ pub extern "C" fn bench_comparisons(
         queries,
         rounds,
     )
+}
+
+/// A clone from which one call removes all.
+#[unsafe(no_mangle)]
+pub extern "C" fn bench_emptyings(
+    alloc: Global,
+    container: u32,
+    entries: &[Entry],
+    queries: &[Query],
+    rounds: u32,
+) -> u64 {
+    over_map(
+        Workload::Emptyings,
+        alloc,
+        container,
+        entries,
+        queries,
+        rounds,
+    )
+}
+
+/// A new container of the entries, marked while it stands.
+#[unsafe(no_mangle)]
+pub extern "C" fn bench_standing(
+    alloc: Global,
+    container: u32,
+    entries: &[Entry],
+    queries: &[Query],
+    rounds: u32,
+) -> u64 {
+    if container < containers::SET {
+        over_map(
+            Workload::Standing,
+            alloc,
+            container,
+            entries,
+            queries,
+            rounds,
+        )
+    } else {
+        over_set(
+            SetWorkload::Standing,
+            alloc,
+            container,
+            entries,
+            queries,
+            rounds,
+        )
+    }
 }
 
 /// The items of the union of two sets.

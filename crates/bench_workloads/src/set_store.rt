@@ -2,8 +2,8 @@
 
 use crate::digest::Keys;
 use crate::store::Store;
-use rangemap::container::Combine;
 use rangemap::range_set::Set;
+use rangemap_chunked::Chunks;
 use rangemap_core::kind::OwnSteps;
 use rangemap_sorted::SortedVec;
 use std::alloc::{AllocError, Global};
@@ -46,10 +46,32 @@ impl<Q: OwnSteps<R>, R: Keys> SetStore for Set<SortedVec<Q, R, (), Global>> {
     }
 
     fn joined_with(&self, other: &Self) -> Result<Self, AllocError> {
-        self.union_set(other)
+        self | other
     }
 
     fn common_with(&self, other: &Self) -> Result<Self, AllocError> {
-        self.intersection_set(other)
+        self & other
+    }
+}
+
+impl<Q: OwnSteps<R>, R: Keys, const N: usize> SetStore for Set<Chunks<Q, R, (), Global, N>> {
+    fn read_union<U: ReadsGaps<R>>(&self, other: &Self, reader: &mut U) -> Result<(), AllocError> {
+        tell_gaps(self.union(other), reader)
+    }
+
+    fn read_intersection<U: ReadsGaps<R>>(
+        &self,
+        other: &Self,
+        reader: &mut U,
+    ) -> Result<(), AllocError> {
+        tell_gaps(self.intersection(other), reader)
+    }
+
+    fn joined_with(&self, other: &Self) -> Result<Self, AllocError> {
+        self | other
+    }
+
+    fn common_with(&self, other: &Self) -> Result<Self, AllocError> {
+        self & other
     }
 }

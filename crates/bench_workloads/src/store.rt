@@ -2,7 +2,7 @@
 
 use crate::digest::Keys;
 use crate::value::Stored;
-use rangemap::{RangeInclusiveMap, RangeInclusiveSet, RangeMap, RangeSet, tree_map};
+use rangemap::{RangeInclusiveMap, RangeInclusiveSet, RangeMap, RangeSet, chunked, tree_map};
 use std::alloc::Global;
 use tests_support::Told;
 
@@ -31,3 +31,15 @@ pub type HalfOpenSet = RangeSet<u64>;
 
 /// The set over closed ranges.
 pub type ClosedSet = RangeInclusiveSet<u64>;
+
+/// The map over half-open ranges that keeps them in chunks.
+pub type ChunkedStore = chunked::RangeMap<u64, u32>;
+
+/// The map over closed ranges that keeps them in chunks.
+pub type ClosedChunkedStore = chunked::RangeInclusiveMap<u64, u32>;
+
+/// The set over half-open ranges that keeps them in chunks.
+pub type ChunkedSet = chunked::RangeSet<u64>;
+
+/// The set over closed ranges that keeps them in chunks.
+pub type ClosedChunkedSet = chunked::RangeInclusiveSet<u64>;

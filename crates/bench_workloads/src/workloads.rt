@@ -22,6 +22,8 @@ pub enum Workload {
     Gaps,
     Clones,
     Comparisons,
+    Emptyings,
+    Standing,
 }
 
 /// What a workload answers over a map.
@@ -42,6 +44,8 @@ pub fn run<S: Store>(
         Workload::Gaps => gaps::<S>(alloc, entries, queries, rounds),
         Workload::Clones => clones::<S>(alloc, entries, rounds),
         Workload::Comparisons => comparisons::<S>(alloc, entries, rounds),
+        Workload::Emptyings => emptyings::<S>(alloc, entries, rounds),
+        Workload::Standing => standing::<S>(alloc, entries, rounds),
     }
 }
 
@@ -251,6 +255,55 @@ pub fn comparisons<S: Store>(
     for round in 0..rounds {
         let other = if round % 2 == 0 { &first } else { &second };
         digest = followed_by(digest, u64::from(map == *other));
+    }
+    Ok(digest)
+}
+
+/// In each round a clone from which one call removes all, and its number of pairs.
+#[inline(never)]
+pub fn emptyings<S: Store>(
+    alloc: Global,
+    entries: &[Entry],
+    rounds: u32,
+) -> Result<u64, AllocError> {
+    let map: S = filled(alloc, entries)?;
+    let behind = end_of(entries);
+    let mut digest = 0u64;
+    for _ in 0..rounds {
+        let mut rest = map.clone()?;
+        if 0 < behind {
+            rest.remove(S::Range::up_to(0, behind))?;
+        }
+        digest = followed_by(digest, rest.len() as u64);
+    }
+    Ok(digest)
+}
+
+// The key behind all entries.
+fn end_of(entries: &[Entry]) -> u64 {
+    let mut behind = 0u64;
+    for entry in entries {
+        behind = behind.max(entry.end);
+    }
+    behind
+}
+
+/// The bytes of the block by which a program that counts blocks knows that a map stands.
+pub const MARK: usize = 4_099;
+
+/// In each round a new map, and its number of pairs. While it stands a block of `MARK` bytes is
+/// asked for.
+#[inline(never)]
+pub fn standing<S: Store>(
+    alloc: Global,
+    entries: &[Entry],
+    rounds: u32,
+) -> Result<u64, AllocError> {
+    let mut digest = 0u64;
+    for _ in 0..rounds {
+        let map: S = filled(alloc, entries)?;
+        let _mark: Vec<u8> = Vec::with_capacity(alloc, MARK)?;
+        digest = followed_by(digest, map.len() as u64);
     }
     Ok(digest)
 }

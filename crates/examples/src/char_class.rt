@@ -5,7 +5,6 @@ ghost use Rattle.rangemap.specs.Sets.{AreNonEmptyRanges};
 ghost use Rattle.examples.specs.Characters.{characters, has, is_word};
 
 use rangemap::RangeInclusiveSet;
-use rangemap::container::Combine;
 use std::alloc::{AllocError, Global};
 use std::ops::RangeInclusive;
 
@@ -59,7 +58,7 @@ impl CharClass {
         ensures { IfOk result (λ class. IsCanonOfPoints characters (λ c. has self.now.members c || has other.now.members c) class.members) }
     {
         Ok(CharClass {
-            members: self.members.union_set(&other.members)?,
+            members: (&self.members | &other.members)?,
         })
     }
 
@@ -68,7 +67,7 @@ impl CharClass {
         ensures { IfOk result (λ class. IsCanonOfPoints characters (λ c. has self.now.members c && has other.now.members c) class.members) }
     {
         Ok(CharClass {
-            members: self.members.intersection_set(&other.members)?,
+            members: (&self.members & &other.members)?,
         })
     }
 

@@ -8,6 +8,7 @@ pub mod block_list;
 pub mod byte_cache;
 pub mod calling;
 pub mod char_class;
+pub mod desk;
 pub mod extents;
 pub mod memory_map;
 pub mod planner;

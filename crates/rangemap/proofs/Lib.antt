@@ -10,4 +10,9 @@ pub mod SetRoundTripLemmas
 pub mod PairLoopLemmas
 pub mod SetCallerLemmas
 pub mod LoopLemmas
+pub mod SetLoopLemmas
+pub mod CountLemmas
+pub mod JsonLemmas
 pub mod TextKeys
+pub mod JoinedLemmas
+mod SetReplayLemmas

@@ -102,7 +102,7 @@ module _ {K X : Type 0} (k : RangeKind K X) where
   canonical_full [] can = tt
   canonical_full (r ∷ rs) can = (can.0.non_empty, canonical_full rs can.2)
 
-  covers_middle : (taken : List X) (g : X) (new : List X) (x : K) → k.holds g x ≡ true → covers k (taken ++ g ∷ new) x ≡ true
+  pub covers_middle : (taken : List X) (g : X) (new : List X) (x : K) → k.holds g x ≡ true → covers k (taken ++ g ∷ new) x ≡ true
   covers_middle [] g new x h = ap (λ b. is_some (cond b (Some g) (find (λ r. k.holds r x) new))) h
   covers_middle (t ∷ taken) g new x h = go (k.holds t x) (covers_middle taken g new x h)
     where
@@ -110,7 +110,7 @@ module _ {K X : Type 0} (k : RangeKind K X) where
       go true rest = refl
       go false rest = rest
 
-  full_middle : (taken : List X) (g : X) (new : List X) → AllByRecursion k.IsNonEmpty (taken ++ g ∷ new) → k.IsNonEmpty g
+  pub full_middle : (taken : List X) (g : X) (new : List X) → AllByRecursion k.IsNonEmpty (taken ++ g ∷ new) → k.IsNonEmpty g
   full_middle [] g new h = h.0
   full_middle (t ∷ taken) g new h = full_middle taken g new h.1
 

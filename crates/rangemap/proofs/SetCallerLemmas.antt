@@ -8,14 +8,13 @@ use Rattle.std.specs.Prelude.{⊤}
 use Rattle.std.specs.Cmp.{nat_cmp_total}
 use Rattle.std.specs.declared.alloc.AllocError.{AllocError}
 use Rattle.std.specs.declared.ops.RangeInclusive.{RangeInclusive}
-use Rattle.rangemap_core.specs.Ranges.{RangeKind, AreGaps, IsCanonOf, closed, covers, same_ranges, unit_eq, value_at, with_unit}
+use Rattle.rangemap_core.specs.Ranges.{RangeKind, AreGaps, closed, covers, same_ranges, unit_eq, value_at, with_unit}
 use Rattle.rangemap_core.specs.engine.Endpoints.{IsPlaced, EndpointOf}
 use Rattle.rangemap_core.specs.engine.ClosedEndpoints.{closed_part, closed_placed}
 use Rattle.rangemap_core.specs.engine.ClosedPlaces.{closed_end_place}
-use Rattle.rangemap_core.specs.Sets.{Adds, AreCommon, AreEither, IsCanonicalSet, TakesOut, range_at}
-use Rattle.rangemap_unions.proofs.UnitValueLemmas.{adds_last, covers_one, points_of, ranges_with}
+use Rattle.rangemap_core.specs.Sets.{Adds, IsCanonicalSet, TakesOut, range_at}
+use Rattle.rangemap_unions.proofs.UnitValueLemmas.{adds_last, covers_one, ranges_with}
 use Rattle.rangemap.specs.CharLaws.{IsChar, char_after, char_before, char_follows, char_precedes}
-use Rattle.rangemap_core.specs.Operators.{common, either}
 use Rattle.rangemap_core.specs.laws.UnitPairs.{same_with_unit}
 use Rattle.rangemap.proofs.CallerLemmas.{same_function}
 use Rattle.rangemap_laws.proofs.StoredKeyLemmas.{holds_start}
@@ -23,7 +22,6 @@ use Rattle.rangemap.proofs.GapLoopLemmas.{gaps_collected}
 use Rattle.rangemap.proofs.Loops.{AsksForGaps}
 use Rattle.rangemap.proofs.NumberKinds.{NumberKind}
 use Rattle.rangemap.proofs.NumberLemmas.{IsRun, run_found}
-use Rattle.rangemap_unions.proofs.OperatorLemmas.{common_some, either_some}
 use Rattle.rangemap_unions.proofs.SetLemmas.{copied, pair_found, valued_where_covered}
 use Rattle.rangemap.proofs.SetRoundTripLemmas.{unit_equiv}
 
@@ -44,14 +42,6 @@ module _ {K X : Type 0} (k : RangeKind K X) where
 
     pub taken_outside : TakesOut k old r new → (x : K) → k.is_key x → k.holds r x ≡ false → covers k new x ≡ covers k old x
     taken_outside h x key e = h.points x key ∙ ap (λ b. not b && covers k old x) e
-
-  module _ (ps qs rs : List X) where
-    -- what the operators give, as `Combine` says it
-    pub either_points : IsCanonOf k (unit_eq k) (either (value_at k (with_unit k ps)) (value_at k (with_unit k qs))) (with_unit k rs) → AreEither k ps qs rs
-    either_points h = subst (AreEither k ps qs) (ranges_with k rs) (points_of k _ _ (with_unit k rs) (λ x key. either_some (value_at k (with_unit k ps) x) (value_at k (with_unit k qs) x) ∙ ap (λ b. b || is_some (value_at k (with_unit k qs) x)) (valued_where_covered k ps x) ∙ ap (λ b. covers k ps x || b) (valued_where_covered k qs x)) h)
-
-    pub common_points : IsCanonOf k (unit_eq k) (common (value_at k (with_unit k ps)) (value_at k (with_unit k qs))) (with_unit k rs) → AreCommon k ps qs rs
-    common_points h = subst (AreCommon k ps qs) (ranges_with k rs) (points_of k _ _ (with_unit k rs) (λ x key. common_some (value_at k (with_unit k ps) x) (value_at k (with_unit k qs) x) ∙ ap (λ b. b && is_some (value_at k (with_unit k qs) x)) (valued_where_covered k ps x) ∙ ap (λ b. covers k ps x && b) (valued_where_covered k qs x)) h)
 
 -- ---- ranges inserted into an empty set, one after another, as a loop gives them
 

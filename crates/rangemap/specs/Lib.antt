@@ -13,10 +13,11 @@ pub use Rattle.rangemap_formats.specs.Texts
 pub use Rattle.rangemap_steps.specs.Steps
 pub use Rattle.rangemap_steps.specs.StepLaws
 pub use Rattle.rangemap_steps.specs.CharLaws
-pub use Rattle.rangemap_replay.specs.Histories
-pub use Rattle.rangemap_replay.specs.SetHistories
+pub mod Histories
+pub mod SetHistories
 pub use Rattle.rangemap_laws.specs.DefinedIn
 pub use Rattle.rangemap_laws.specs.GapPartition
 pub use Rattle.rangemap_laws.specs.SmallLists
 pub use Rattle.rangemap_laws.specs.IteratorEnds
 pub use Rattle.rangemap_laws.specs.Runs
+pub mod Joined

@@ -3,6 +3,7 @@
 use rangemap_core::closed::Closed;
 use rangemap_core::gaps;
 pub use rangemap_maps::range_map::Map;
+use rangemap_maps::range_map::calls as map_calls;
 use rangemap_replay::calls;
 pub use rangemap_replay::replay::{replay, replay as replay_with_step_fns};
 use rangemap_sorted::{SortedVec, into_iter, iter, overlapping};
@@ -83,7 +84,7 @@ pub type Gaps<'a, K, V, StepFnsT = K> = gaps::Gaps<
 >;
 
 /// A call that makes a map or changes the one at a place of a list.
-pub type Call<K, V, A = Global> = calls::Call<RangeInclusive<K>, V, A>;
+pub type Call<K, V, A = Global> = map_calls::Call<RangeInclusive<K>, V, A>;
 
 /// A call that a map over any steps has: those of `Call` but the two that take pairs.
 pub type Change<K, V> = calls::Change<RangeInclusive<K>, V>;

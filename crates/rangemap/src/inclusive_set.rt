@@ -1,9 +1,10 @@
 //! The set over closed ranges, and the runs of any calls that make or change such sets.
 
 use crate::range_set::Set;
+use crate::range_set::calls::SetCall;
 use rangemap_core::closed::Closed;
 use rangemap_core::gaps;
-use rangemap_replay::calls::{self, sets};
+use rangemap_replay::calls;
 pub use rangemap_replay::replay::{replay, replay as replay_with_step_fns};
 use rangemap_sorted::{SortedVec, into_iter, iter, overlapping};
 use rangemap_unions::{self as unions, IntoRanges, Ranges};
@@ -95,7 +96,7 @@ pub type Union<'a, T> = unions::Union<iter::Iter<'a, RangeInclusive<T>, ()>>;
 pub type Intersection<'a, T> = unions::Intersection<iter::Iter<'a, RangeInclusive<T>, ()>>;
 
 /// A call that makes a set or changes the one at a place of a list.
-pub type Call<T, A = Global> = sets::SetCall<RangeInclusive<T>, A>;
+pub type Call<T, A = Global> = SetCall<RangeInclusive<T>, A>;
 
 /// A call that a set over any steps has: those of `Call` but the two that take ranges and the
 /// operators.

@@ -26,7 +26,8 @@
 //! |---|---|---|
 //! | `RangeMap`, `RangeSet` | any with an order, in half-open ranges `a..b` | lookups, iteration, and changes among up to some two thousand ranges, or in order |
 //! | `RangeInclusiveMap`, `RangeInclusiveSet` | integers, `char`, and keys with steps of your own, in closed ranges `a..=b`, so that the greatest key has its place | the same |
-//! | `tree_map::RangeMap`, `tree_set::RangeSet` | as `RangeMap`, in a B-tree | changes at random places among many thousands of ranges |
+//! | `chunked::RangeMap`, `chunked::RangeSet`, `chunked::RangeInclusiveMap`, `chunked::RangeInclusiveSet` | as those above, in many sorted vectors | changes at random places among many thousands of ranges |
+//! | `tree_map::RangeMap`, `tree_set::RangeSet` | as `RangeMap`, in a B-tree | the same |
 //!
 //! Each container is an alias of `map::Map` or `range_set::Set`, where its calls are described with
 //! their contracts. `container` has what code over any container asks of it; `laws` says what holds of
@@ -44,15 +45,17 @@
 //! | `serde` | `to_value`, `from_value` |
 //! | `range_map!` and its like | the same, with `in alloc;` before the list |
 //! | steps of eleven integer types | of twelve, and of `char` |
-//! | | `tree_map`, `tree_set`, `segments`, `collect_gaps`, `laws`, `replay` |
+//! | | `chunked`, `tree_map`, `tree_set`, `segments`, `collect_gaps`, `laws`, `replay` |
 #![tactic(auto)]
 
+pub mod chunked;
 pub mod container;
 pub mod inclusive_map;
 pub mod inclusive_set;
 pub mod laws;
 mod macros;
 pub mod map;
+mod operator;
 pub mod range_set;
 mod segments;
 pub mod set;

@@ -3,6 +3,7 @@
 use rangemap_core::gaps;
 use rangemap_core::half_open::HalfOpen;
 pub use rangemap_maps::range_map::Map;
+use rangemap_maps::range_map::calls as map_calls;
 use rangemap_replay::calls;
 pub use rangemap_replay::replay::replay;
 use rangemap_sorted::{SortedVec, into_iter, iter, overlapping};
@@ -67,7 +68,7 @@ pub type Overlapping<'a, K, V> = overlapping::Overlapping<'a, Range<K>, V>;
 pub type Gaps<'a, K, V> = gaps::Gaps<'a, HalfOpen, Range<K>, Overlapping<'a, K, V>>;
 
 /// A call that makes a map or changes the one at a place of a list.
-pub type Call<K, V, A = Global> = calls::Call<Range<K>, V, A>;
+pub type Call<K, V, A = Global> = map_calls::Call<Range<K>, V, A>;
 
 /// A call that every map has, as a `Call` holds it.
 pub type Change<K, V> = calls::Change<Range<K>, V>;

@@ -14,6 +14,7 @@ use rangemap_unions::Ranges;
 use std::alloc::AllocError;
 use std::marker::{Model, PhantomData};
 
+pub mod calls;
 mod collect;
 mod compare;
 mod container;

@@ -1,9 +1,9 @@
 //! The set over half-open ranges, and the run of any calls that make or change such sets.
 
 use crate::range_set::Set;
+use crate::range_set::calls::SetCall;
 use rangemap_core::gaps;
 use rangemap_core::half_open::HalfOpen;
-use rangemap_replay::calls::sets;
 pub use rangemap_replay::replay::replay;
 use rangemap_sorted::{SortedVec, into_iter, iter, overlapping};
 use rangemap_unions::{self as unions, IntoRanges, Ranges};
@@ -83,4 +83,4 @@ pub type Union<'a, T> = unions::Union<iter::Iter<'a, Range<T>, ()>>;
 pub type Intersection<'a, T> = unions::Intersection<iter::Iter<'a, Range<T>, ()>>;
 
 /// A call that makes a set or changes the one at a place of a list.
-pub type Call<T, A = Global> = sets::SetCall<Range<T>, A>;
+pub type Call<T, A = Global> = SetCall<Range<T>, A>;

@@ -2,9 +2,9 @@
 //! change such sets.
 
 use crate::range_set::Set;
+use crate::range_set::calls::SetCall;
 use rangemap_core::gaps;
 use rangemap_core::half_open::HalfOpen;
-use rangemap_replay::calls::sets;
 pub use rangemap_replay::replay::replay;
 use rangemap_tree::{Tree, into_iter, iter, overlapping};
 use rangemap_unions::{self as unions, IntoRanges, Ranges};
@@ -73,4 +73,4 @@ pub type Union<'a, T> = unions::Union<iter::Iter<'a, T, ()>>;
 pub type Intersection<'a, T> = unions::Intersection<iter::Iter<'a, T, ()>>;
 
 /// A call that makes a set or changes the one at a place of a list.
-pub type Call<T, A = Global> = sets::SetCall<Range<T>, A>;
+pub type Call<T, A = Global> = SetCall<Range<T>, A>;

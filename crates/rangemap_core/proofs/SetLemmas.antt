@@ -1,12 +1,12 @@
 -- What a set does, as a map with the value that says nothing.
-use Rattle.std.proofs.Common.{◌≡◌, suc, Bool, true, false, not, cond, ◌&&◌, ◌||◌, List, [], ◌∷◌, Option, Some, None, option_map, length, is_some, refl, subst, sym, ap, ◌∙◌}
+use Rattle.std.proofs.Common.{◌≡◌, suc, Bool, true, false, not, cond, ◌&&◌, ◌||◌, List, [], ◌∷◌, Option, Some, None, option_map, length, is_some, refl, sym, ap, ◌∙◌}
 use Rattle.std.proofs.Math.Bool.{or-false}
 use Rattle.std.specs.Bool.{⊤}
 use Rattle.rangemap_core.specs.Ranges.{RangeKind, IsCanonOf, IsCanonOfPoints, covering, covers, erase, nothing, overlapped, override, override_all, Overrides, unit_eq, value_at, with_unit}
 use Rattle.rangemap_core.specs.Operators.{common, either}
 use Rattle.rangemap_core.proofs.OperatorLemmas.{common_some, either_some}
 use Rattle.rangemap_core.specs.Sets.{Adds, AreCommon, AreEither, TakesOut, met, range_at, ranges}
-use Rattle.rangemap_core.proofs.UnitValueLemmas.{canon_of, covers_one, erased, overridden, ranges_met, ranges_with, value_covers, with_ranges}
+use Rattle.rangemap_core.proofs.UnitValueLemmas.{canon_of, covers_one, erased, overridden, ranges_met, ranges_with, value_covers}
 
 module _ {K X : Type 0} (k : RangeKind K X) where
   -- the key is in the set, said of the map that the set is
@@ -55,19 +55,6 @@ module _ {K X : Type 0} (k : RangeKind K X) where
 
   pub all_made : (rs new : List X) → IsCanonOfPoints k (covers k rs) new → IsCanonOf k (unit_eq k) (override_all k nothing (with_unit k rs)) (with_unit k new)
   all_made rs new h = canon_of k (override_all k nothing (with_unit k rs)) _ new (λ x key. all_points nothing rs x ∙ or-false (covers k rs x)) h
-
-  -- the same of what a set shows
-  pub overrides_of : (ps : List (X × ⊤)) (rs : List X) (qs : List (X × ⊤)) → Adds k (ranges ps) rs (ranges qs) → Overrides k (unit_eq k) ps (with_unit k rs) qs
-  overrides_of ps rs qs h = subst (λ zs. Overrides k (unit_eq k) zs (with_unit k rs) qs) (with_ranges k ps) (subst (λ zs. Overrides k (unit_eq k) (with_unit k (ranges ps)) (with_unit k rs) zs) (with_ranges k qs) (all_inserted (ranges ps) rs (ranges qs) h))
-
-  pub canon_shown : (rs : List X) (qs : List (X × ⊤)) → IsCanonOfPoints k (covers k rs) (ranges qs) → IsCanonOf k (unit_eq k) (override_all k nothing (with_unit k rs)) qs
-  canon_shown rs qs h = subst (IsCanonOf k (unit_eq k) (override_all k nothing (with_unit k rs))) (with_ranges k qs) (all_made rs (ranges qs) h)
-
-  pub shown_added : (old rs new : List X) → Adds k old rs new → Adds k (ranges (with_unit k old)) rs (ranges (with_unit k new))
-  shown_added old rs new h = subst (λ ps. Adds k ps rs (ranges (with_unit k new))) (sym (ranges_with k old)) (subst (λ qs. Adds k old rs qs) (sym (ranges_with k new)) h)
-
-  pub shown_made : (rs new : List X) → IsCanonOfPoints k (covers k rs) new → IsCanonOfPoints k (covers k rs) (ranges (with_unit k new))
-  shown_made rs new h = subst (IsCanonOfPoints k (covers k rs)) (sym (ranges_with k new)) h
 
   -- ---- what a question finds
 

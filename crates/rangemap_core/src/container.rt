@@ -8,24 +8,19 @@
 //! A call that every container has is added here, and in the file `container.rt` of the map and of
 //! the set.
 ghost use Rattle.std.specs.Prelude.{◌≡◌, ◌-◌, List, [], IfOk, IsOk, OnErr, OnOk, is_some, length, map, nat_eq, nat_lt, slice_get, true};
-ghost use Rattle.std.specs.Iterator.{Drains, ExtendsWithItems, IsFiniteIterable};
 ghost use Rattle.std.specs.Option.{option_copied, option_map};
 ghost use Rattle.rangemap_core.specs.Appends.{Appends, AppendsGaps};
 ghost use Rattle.rangemap_core.specs.Clones.{KeysCloneFaithfully, ValuesCloneFaithfully};
-ghost use Rattle.rangemap_core.specs.NonEmptyPairs.{GivesNonEmpty};
-ghost use Rattle.rangemap_core.specs.Ranges.{AreGaps, IsCanonOf, IsCanonical, Overrides, covering, erase, nothing, overlapped, override, override_all, same_pairs, value_at};
+ghost use Rattle.rangemap_core.specs.Ranges.{AreGaps, IsCanonOf, IsCanonical, covering, erase, overlapped, override, same_pairs, value_at};
 
 use crate::key_range::KeyRange;
 use crate::kind::Kind;
 use std::alloc::{AllocError, Allocator};
-use std::iter::IntoIterator;
 
 mod appends;
-mod combine;
 mod inserts;
 
 pub use appends::{Appending, append_clone, append_gaps};
-pub use combine::Combine;
 pub use inserts::insert_pairs;
 
 /// A container of disjoint ranges to values, two of which are equal where their pairs are.
@@ -168,50 +163,6 @@ pub trait Container: PartialEq + Drop {
 
     /// Maps are equal where their pairs are.
     ghost equal: { (left right : Self) → Self.eq left right ≡ same_pairs Self.Kind.kind Self.Value.eq (pairs left) (pairs right) };
-}
-
-/// A container that also takes the pairs of an iterator, one after another.
-///
-/// One whose own calls take no pairs, as a set, inserts them: so it has `extend` and `from_iter` as
-/// they stand here.
-pub trait Collect: Container {
-    /// Makes an empty container by `new`. It takes no memory yet.
-    fn new(alloc: Self::Alloc) -> Self
-        ensures { Self.pairs result ≡ [] };
-
-    /// Inserts the items of `iter`, in the order in which they come. The caller sees to it that it
-    /// ends and gives no empty range, and that clones are faithful. `Err` says that an insert was
-    /// refused; the items before that one stay.
-    fn extend<I: IntoIterator<Item = (Self::Range, Self::Value)>>(
-        &mut self,
-        iter: I,
-    ) -> Result<(), AllocError>
-        requires ends { IsFiniteIterable I.into_iter_gives I.IntoIter.can_next I.IntoIter.remaining iter }
-        requires non_empty { (it : I.IntoIter) → I.into_iter_gives iter it → GivesNonEmpty Self.Kind.kind I.IntoIter.next_gives it }
-        requires faithful_keys { KeysCloneFaithfully Self.Range.Key.is_clone Self.Range.Key.cmp }
-        requires faithful_values { ValuesCloneFaithfully Self.Value.is_clone Self.Value.eq }
-        ensures { ExtendsWithItems I.into_iter_gives I.IntoIter.next_gives (λ old items new. Overrides Self.Kind.kind Self.Value.eq (Self.pairs old) items (Self.pairs new)) iter self.old self.new result }
-    {
-        insert_pairs(self, iter)
-    }
-
-    /// The container of the items of `iter`, inserted in the order in which they come, in memory of
-    /// `alloc`. The conditions are those of `extend`. `Err` says that an insert was refused;
-    /// nothing is made then.
-    fn from_iter<I: IntoIterator<Item = (Self::Range, Self::Value)>>(
-        alloc: Self::Alloc,
-        iter: I,
-    ) -> Result<Self, AllocError>
-        requires ends { IsFiniteIterable I.into_iter_gives I.IntoIter.can_next I.IntoIter.remaining iter }
-        requires non_empty { (it : I.IntoIter) → I.into_iter_gives iter it → GivesNonEmpty Self.Kind.kind I.IntoIter.next_gives it }
-        requires faithful_keys { KeysCloneFaithfully Self.Range.Key.is_clone Self.Range.Key.cmp }
-        requires faithful_values { ValuesCloneFaithfully Self.Value.is_clone Self.Value.eq }
-        ensures { IfOk result (λ all. (it : I.IntoIter) × (items : List _) × I.into_iter_gives iter it × Drains I.IntoIter.next_gives it items × IsCanonOf Self.Kind.kind Self.Value.eq (override_all Self.Kind.kind nothing items) (Self.pairs all)) }
-    {
-        let mut all = Self::new(alloc);
-        insert_pairs(&mut all, iter)?;
-        Ok(all)
-    }
 }
 
 /// Collects the gaps of `outer_range` into a vector, with memory of `alloc`: the parts of it that no

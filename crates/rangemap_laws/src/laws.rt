@@ -22,7 +22,6 @@ pub mod definitions;
 pub mod iterators;
 pub mod overlaps;
 pub mod runs;
-pub mod sets;
 pub mod texts;
 
 use clones::{insert_clone, remove_clone};

@@ -10,6 +10,7 @@ use rangemap_core::kind::{Kind, OwnSteps};
 use rangemap_core::store::{Lends, Store};
 use std::marker::{Model, PhantomData};
 
+pub mod calls;
 mod changes;
 mod collect;
 mod compare;

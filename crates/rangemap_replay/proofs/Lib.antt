@@ -1,4 +1,2 @@
 mod MeetLemmas
-pub mod JoinedLemmas
-mod ReplayLemmas
-mod SetReplayLemmas
+pub mod ReplayLemmas

@@ -1,17 +1,16 @@
 -- What calls on a list of maps make of the functions that these stand for.
-use Rattle.std.proofs.Common.{arith, ◌≡◌, ℕ, ◌<◌, ◌≤◌, Bool, true, false, List, [], ◌∷◌, ◌++◌, length, take, get_or, set, Option, Some, Result, Ok, Err, IfOk, OnOk, OnErr, IsOk, Vec, is_ok, refl, subst, sym, ap, ◌∙◌, inl, inr, true≢false}
+use Rattle.std.proofs.Common.{arith, ◌≡◌, ℕ, ◌<◌, ◌≤◌, Bool, true, false, List, [], ◌∷◌, ◌++◌, length, get_or, set, Option, Some, Result, Ok, Err, IfOk, OnOk, OnErr, IsOk, is_ok, refl, subst, sym, ap, ◌∙◌, true≢false}
 use Rattle.std.specs.Cmp.{IsEquivalence}
 use Rattle.std.specs.List.{slice_get}
 use Rattle.std.specs.Option.{unwrap_or}
 use Rattle.std.specs.declared.alloc.AllocError.{AllocError}
 use Rattle.std.proofs.lemmas.Option.{slice_get_past}
 use Rattle.rangemap_core.specs.engine.Endpoints.{IsPlaced, EndpointOf}
-use Rattle.rangemap_replay.specs.declared.calls.Call.TheVariants.{FromIter, Extend}
 use Rattle.rangemap_replay.specs.declared.calls.Change.TheVariants.{New, Insert, Remove, Clear, Clone}
-use Rattle.rangemap_replay.specs.Histories.{AreCanonOf, ChangeStep, IsUndefinedOn, Makes, MakesAll, Run, Step}
-use Rattle.rangemap_core.specs.Ranges.{RangeKind, IsCanonOf, IsStorable, Overrides, erase, nothing, overlapped, override, override_all, value_at}
+use Rattle.rangemap_replay.specs.Histories.{AreCanonOf, ChangeStep, IsUndefinedOn, Makes, MakesAll, Run}
+use Rattle.rangemap_core.specs.Ranges.{RangeKind, IsCanonOf, IsStorable, erase, nothing, overlapped, override, value_at}
 use Rattle.rangemap_core.proofs.AlikeLemmas.{canon_along}
-use Rattle.rangemap_core.proofs.CanonLemmas.{erase_of, override_all_of, override_of}
+use Rattle.rangemap_core.proofs.CanonLemmas.{erase_of, override_of}
 use Rattle.rangemap_replay.proofs.MeetLemmas.{meets_none}
 use Rattle.rangemap_core.proofs.ZipLemmas.{added, as_long, changed, found, kept}
 
@@ -61,9 +60,6 @@ module _ {K X V M : Type 0} (k : RangeKind K X) {eq : V → V → Bool} (e : IsE
     pub clear_past : Makes k eq shown (ChangeStep k) ls (Clear at) false ls
     clear_past fs h = (fs, (refl, omega (arith, as_long Shows fs ls h)), h)
 
-    pub extend_past : {A : Type 0} (pairs : Vec (X × V) A) → Makes k eq shown (Step k) ls (Extend at pairs) false ls
-    extend_past pairs fs h = (fs, inl (omega (arith, as_long Shows fs ls h), refl), h)
-
   -- a call at the place of a map that was l and is m
   module _ (at : ℕ) (l m : M) (here : at < length ls) (is : l ≡ get_or ls at l) where
     same : shown m ≡ shown l → (fs : List (K → Option V)) → AreCanonOf k eq shown fs ls → AreCanonOf k eq shown fs (set ls at m)
@@ -87,12 +83,6 @@ module _ {K X V M : Type 0} (k : RangeKind K X) {eq : V → V → Bool} (e : IsE
     pub clear_here : shown m ≡ [] → Makes k eq shown (ChangeStep k) ls (Clear at) true (set ls at m)
     clear_here empty fs h = changed Shows fs ls at l m (λ f. nothing) h here is (λ f c. rw empty (record { canonical = tt; represents = λ x key. refl }))
 
-    pub extend_here : {A : Type 0} (pairs : Vec (X × V) A) (xs : List (X × V)) (res : Result (Unit {0}) AllocError) → Overrides k eq (shown l) xs (shown m) → OnOk res (xs ≡ pairs.items) → OnErr res (xs ≡ take (length xs) pairs.items) → Makes k eq shown (Step k) ls (Extend at pairs) (is_ok res) (set ls at m)
-    extend_here pairs xs (Ok u) o ok err fs h = changed Shows fs ls at l m (λ f. override_all k f pairs.items) h here is (λ f c. subst (λ ps. IsCanonOf k eq (override_all k f ps) (shown m)) ok (override_all_of k e f xs (shown l) (shown m) c o))
-    extend_here pairs xs (Err u) o ok err fs h =
-        let r = changed Shows fs ls at l m (λ f. override_all k f (take (length xs) pairs.items)) h here is (λ f c. subst (λ ps. IsCanonOf k eq (override_all k f ps) (shown m)) err (override_all_of k e f xs (shown l) (shown m) c o)) in
-        (r.0, inr (length xs, r.1), r.2)
-
     pub clone_here : IsCanonOf k eq (value_at k (shown l)) (shown m) → Makes k eq shown (ChangeStep k) ls (Clone at) true (ls ++ m ∷ [])
     clone_here copy fs h =
         let own = found Shows fs ls at l h here is in
@@ -101,6 +91,3 @@ module _ {K X V M : Type 0} (k : RangeKind K X) {eq : V → V → Bool} (e : IsE
   -- a call that adds a map
   pub new_made : (m : M) → shown m ≡ [] → Makes k eq shown (ChangeStep k) ls New true (ls ++ m ∷ [])
   new_made m empty fs h = (_, refl, added Shows fs ls nothing m h (rw empty (record { canonical = tt; represents = λ x key. refl })))
-
-  pub from_iter_made : {A : Type 0} (pairs : Vec (X × V) A) (m : M) → IsCanonOf k eq (override_all k nothing pairs.items) (shown m) → Makes k eq shown (Step k) ls (FromIter pairs) true (ls ++ m ∷ [])
-  from_iter_made pairs m all fs h = (_, refl, added Shows fs ls (override_all k nothing pairs.items) m h all)

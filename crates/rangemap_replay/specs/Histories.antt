@@ -1,11 +1,10 @@
--- What calls on a list of maps make of the point functions that the maps stand for.
-use Rattle.std.specs.Prelude.{◌≡◌, ℕ, ◌≤◌, ⊤, ◌⊎◌, Bool, true, false, List, [], ◌∷◌, ◌++◌, length, take, Option, Some, None, slice_get, slice_set}
+-- What calls on a list of maps make of the point functions that the maps stand for: those that every container has, and any that say
+-- it themselves.
+use Rattle.std.specs.Prelude.{◌≡◌, ℕ, ◌≤◌, ⊤, Bool, true, false, List, [], ◌∷◌, ◌++◌, length, Option, Some, None, slice_get, slice_set}
 use Rattle.std.specs.List.{AllZip}
-use Rattle.rangemap_replay.specs.declared.calls.Call.{Call}
-use Rattle.rangemap_replay.specs.declared.calls.Call.TheVariants.{Change as Changing, FromIter, Extend}
 use Rattle.rangemap_replay.specs.declared.calls.Change.{Change}
 use Rattle.rangemap_replay.specs.declared.calls.Change.TheVariants.{New, Insert, Remove, Clear, Clone}
-use Rattle.rangemap_core.specs.Ranges.{RangeKind, IsCanonOf, AreNonEmpty, erase, nothing, override, override_all}
+use Rattle.rangemap_core.specs.Ranges.{RangeKind, IsCanonOf, erase, nothing, override}
 
 -- there is a function at the place, and what `change` makes of it stands there now
 abbrev pub Changes : {K V : Type 0} → List (K → Option V) → ℕ → ((K → Option V) → K → Option V) → List (K → Option V) → Type 0
@@ -41,22 +40,6 @@ module _ {K X V : Type 0} (k : RangeKind K X) where
   ChangeStep old (Clear at) false new = (new ≡ old) × (length old ≤ at)
   ChangeStep old (Clone at) true new = (f : K → Option V) × (slice_get old at ≡ Some f) × (new ≡ old ++ f ∷ [])
   ChangeStep old (Clone at) false new = new ≡ old
-
-module _ {K X V A : Type 0} (k : RangeKind K X) where
-  -- no range that the call is given is empty
-  abbrev pub HasNonEmptyRanges : Call X V A → Type 0
-  HasNonEmptyRanges (Changing change) = HasNonEmptyRange k change
-  HasNonEmptyRanges (FromIter pairs) = AreNonEmpty k pairs.items
-  HasNonEmptyRanges (Extend at pairs) = AreNonEmpty k pairs.items
-
-  -- such a call, or one that takes pairs
-  abbrev pub Step : List (K → Option V) → Call X V A → Bool → List (K → Option V) → Type 0
-  Step old (Changing change) answer new = ChangeStep k old change answer new
-  Step old (FromIter pairs) true new = new ≡ old ++ override_all k nothing pairs.items ∷ []
-  Step old (FromIter pairs) false new = new ≡ old
-  Step old (Extend at pairs) true new = Changes old at (λ f. override_all k f pairs.items) new
-  -- a refused extend counts for some beginning of its pairs, and for none where no map is at the place
-  Step old (Extend at pairs) false new = ((length old ≤ at) × (new ≡ old)) ⊎ ((n : ℕ) × Changes old at (λ f. override_all k f (take n pairs.items)) new)
 
 -- ---- calls, one after another
 

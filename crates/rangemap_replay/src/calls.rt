@@ -1,8 +1,4 @@
-//! Calls on a list of maps, as values.
-use std::alloc::Allocator;
-use std::vec::Vec;
-
-pub mod sets;
+//! The calls on a list of containers that every container has, as values.
 
 /// A call that every map has, over ranges of type `R`. It names a map by its place in the list.
 #[derive(Drop)]
@@ -17,16 +13,4 @@ pub enum Change<R, V> {
     Clear { at: usize },
     /// Makes a clone of the map at the place.
     Clone { at: usize },
-}
-
-/// A call that makes a map or changes one, over ranges of type `R`. It names a map by its place in
-/// the list.
-#[derive(Drop)]
-pub enum Call<R, V, A: Allocator> {
-    /// A call that every map has, where `New` makes the map by `new`.
-    Change(Change<R, V>),
-    /// Makes a map of the pairs, inserted in order.
-    FromIter { pairs: Vec<(R, V), A> },
-    /// Inserts the pairs, in order, into the map at the place.
-    Extend { at: usize, pairs: Vec<(R, V), A> },
 }

@@ -4,5 +4,4 @@
 #![tactic(auto)]
 
 pub mod calls;
-pub mod operator;
 pub mod replay;

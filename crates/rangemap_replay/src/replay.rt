@@ -2,7 +2,8 @@
 //! call.
 //!
 //! A sort of call is a type with the trait `CallOn`: `Change` for every container, `Call` for maps
-//! and `SetCall` for sets. Each container's module gives users the runs under its own name.
+//! and `SetCall` for sets, of which each stands beside the container that it is for. Each container's
+//! module gives users the runs under its own name.
 ghost use Rattle.std.specs.Prelude.{◌≡◌, ◌+◌, ◌<◌, ◌≤◌, [], Bool, IfOk, List, OnErr, Option, vec_len, vec_capacity};
 ghost use Rattle.std.specs.List.{AllByRecursion};
 ghost use Rattle.rangemap_core.specs.Clones.{KeysCloneFaithfully, ValuesCloneFaithfully};
@@ -12,7 +13,8 @@ use rangemap_core::container::Container;
 use std::alloc::{AllocError, Allocator};
 
 mod changes;
-mod sets;
+
+pub use changes::add;
 
 /// A call on a list of containers of type `M`.
 pub trait CallOn<M: Container>: Drop {

@@ -165,6 +165,17 @@ fn overlapping_tail<'a, Q: Kind<R>, R: KeyRange, V: Eq>(
     &pairs[overlap_start::<Q, R, V>(pairs, query)..]
 }
 
+/// Returns the pairs of a canonical list that overlap the query, which may be empty or reversed.
+pub fn overlapping_pairs<'a, Q: Kind<R>, R: KeyRange, V: Eq>(
+    pairs: &'a [(R, V)],
+    query: &R,
+) -> &'a [(R, V)]
+    requires { IsCanonical Q.kind V.eq pairs.now }
+    ensures { result.now ≡ overlapped Q.kind pairs.now query.now }
+{
+    take_begun::<R, V>(overlapping_tail::<Q, R, V>(pairs, query), query)
+}
+
 // The first pair and those behind it, if it starts before the query ends.
 fn split_begun<'a, R: KeyRange, V>(
     pairs: &'a [(R, V)],

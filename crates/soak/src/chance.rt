@@ -99,9 +99,16 @@ impl<'a> Chance<'a> {
     /// Returns whether a request of the call was refused, which has to be its answer too. None is
     /// refused from now on.
     pub fn answer(&self, is_accepted: bool) -> Result<bool, Stop> {
-        let is_refused = self.heap.has_refused();
+        self.answer_to(is_accepted, false)
+    }
+
+    /// Returns whether the call was refused, as it is where one of its requests was; where it `spares`
+    /// some, it may also do without the one that was. None is refused from now on.
+    pub fn answer_to(&self, is_accepted: bool, spares: bool) -> Result<bool, Stop> {
+        let has_refused = self.heap.has_refused();
         self.refuse_none();
-        check(is_accepted != is_refused, Difference::Acceptance)?;
-        Ok(is_refused)
+        let is_told = is_accepted != has_refused || (is_accepted && spares);
+        check(is_told, Difference::Acceptance)?;
+        Ok(!is_accepted)
     }
 }

@@ -1,10 +1,11 @@
 //! Random lists of calls on every container, beside a plain model, with requests for memory refused
 //! at random.
 //!
-//! `soak SEED CALLS` makes so many calls of a seed on each container, and compares the answers, the
-//! lists and the number of blocks held with those of the model after each call. For each container
-//! it prints how many calls were made and refused. It stops at the first difference, which it
-//! prints, with status 1.
+//! `soak SEED CALLS` makes so many calls of a seed on each container, and half as many again on each
+//! that keeps its ranges in chunks, of a handful, so that these get half of all. It compares the
+//! answers, the lists and the number of blocks held with those of the model after each call. For each
+//! container it prints how many calls were made and refused. It stops at the first difference, which
+//! it prints, with status 1.
 #![tactic(auto)]
 
 mod call;
@@ -17,7 +18,10 @@ mod session;
 mod soaked;
 
 use session::{Report, soak};
-use soaked::{Heap, InclusiveMap, InclusiveSet, Map, Profile, Set, TreeMap, TreeSet};
+use soaked::{
+    ClosedChunkedMap, ClosedChunkedSet, HalfOpenChunkedMap, HalfOpenChunkedSet, Heap, InclusiveMap,
+    InclusiveSet, Kept, Map, Profile, Set, TreeMap, TreeSet,
+};
 use std::process::ExitCode;
 use std::{env, io};
 use tests_support::Refusing;
@@ -53,7 +57,7 @@ fn soak_maps(rt: &HostRuntime, heap: &Heap, seed: u64, calls: u64) -> io::Result
     let map = Profile {
         has_marks: true,
         blocks_of_each: 1,
-        is_tree: false,
+        kept: Kept::InVector,
     };
     let inclusive_map = Profile {
         blocks_of_each: 0,
@@ -61,7 +65,7 @@ fn soak_maps(rt: &HostRuntime, heap: &Heap, seed: u64, calls: u64) -> io::Result
     };
     let tree_map = Profile {
         blocks_of_each: 4,
-        is_tree: true,
+        kept: Kept::InTree,
         ..map
     };
     let report = soak::<Map<'_>>(heap, rt.alloc(), map, seed, calls);
@@ -81,7 +85,7 @@ fn soak_sets(rt: &HostRuntime, heap: &Heap, seed: u64, calls: u64) -> io::Result
     let set = Profile {
         has_marks: false,
         blocks_of_each: 2,
-        is_tree: false,
+        kept: Kept::InVector,
     };
     let inclusive_set = Profile {
         blocks_of_each: 0,
@@ -89,7 +93,7 @@ fn soak_sets(rt: &HostRuntime, heap: &Heap, seed: u64, calls: u64) -> io::Result
     };
     let tree_set = Profile {
         blocks_of_each: 3,
-        is_tree: true,
+        kept: Kept::InTree,
         ..set
     };
     let report = soak::<Set<'_>>(heap, rt.alloc(), set, seed, calls);
@@ -104,13 +108,59 @@ fn soak_sets(rt: &HostRuntime, heap: &Heap, seed: u64, calls: u64) -> io::Result
     tell(rt, heap, "tree_set", report)
 }
 
+/// Makes the calls on every container in chunks, until one differs. Answers whether none did.
+fn soak_chunks(rt: &HostRuntime, heap: &Heap, seed: u64, calls: u64) -> io::Result<bool> {
+    let map = Profile {
+        has_marks: true,
+        blocks_of_each: 1,
+        kept: Kept::InChunks,
+    };
+    let inclusive_map = Profile {
+        blocks_of_each: 0,
+        ..map
+    };
+    let set = Profile {
+        has_marks: false,
+        blocks_of_each: 2,
+        ..map
+    };
+    let inclusive_set = Profile {
+        blocks_of_each: 0,
+        ..set
+    };
+    let report = soak::<HalfOpenChunkedMap<'_>>(heap, rt.alloc(), map, seed, calls);
+    if !tell(rt, heap, "chunked map", report)? {
+        return Ok(false);
+    }
+    let report = soak::<ClosedChunkedMap<'_>>(heap, rt.alloc(), inclusive_map, seed, calls);
+    if !tell(rt, heap, "chunked inclusive_map", report)? {
+        return Ok(false);
+    }
+    let report = soak::<HalfOpenChunkedSet<'_>>(heap, rt.alloc(), set, seed, calls);
+    if !tell(rt, heap, "chunked set", report)? {
+        return Ok(false);
+    }
+    let report = soak::<ClosedChunkedSet<'_>>(heap, rt.alloc(), inclusive_set, seed, calls);
+    tell(rt, heap, "chunked inclusive_set", report)
+}
+
+/// Makes the calls on every container, until one differs. Answers whether none did.
+fn soak_all(rt: &HostRuntime, heap: &Heap, seed: u64, calls: u64) -> io::Result<bool> {
+    let more = calls.saturating_add(calls / 2);
+    Ok(
+        soak_maps(rt, heap, seed, calls)?
+            && soak_sets(rt, heap, seed, calls)?
+            && soak_chunks(rt, heap, seed, more)?,
+    )
+}
+
 fn serve(rt: &HostRuntime) -> io::Result<ExitCode> {
     let Some((seed, calls)) = arguments(rt)? else {
         eprintln!(rt; "soak SEED CALLS: both are numbers")?;
         return Ok(ExitCode::from(2));
     };
     let heap = Refusing::new(rt.alloc(), u64::MAX);
-    if soak_maps(rt, &heap, seed, calls)? && soak_sets(rt, &heap, seed, calls)? {
+    if soak_all(rt, &heap, seed, calls)? {
         Ok(ExitCode::SUCCESS)
     } else {
         Ok(ExitCode::FAILURE)

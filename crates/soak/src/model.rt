@@ -4,7 +4,7 @@ use crate::call::{Call, Change};
 use crate::chance::Chance;
 use crate::difference::{Difference, Stop, check};
 use crate::points::{Piece, Points, Run};
-use crate::soaked::Profile;
+use crate::soaked::{Kept, Profile};
 use std::alloc::{AllocError, Global};
 
 /// The model of a container, and what is left to chance.
@@ -63,13 +63,19 @@ impl<'a> Model<'a> {
         Call::next(&mut self.chance, self.profile.has_marks)
     }
 
-    /// Returns whether a request of the call was refused, which has to be its answer too, and after
-    /// which as many blocks are held as before the call.
+    /// Returns whether the call was refused, as it has to be where a request was that it can't spare,
+    /// and after which as many blocks are held as before the call.
     pub fn answer(&self, is_accepted: bool, held: u64) -> Result<bool, Stop> {
-        let is_refused = self.chance.answer(is_accepted)?;
+        let is_refused = self.told(is_accepted)?;
         let are_kept = !is_refused || self.chance.heap.held() == held;
         check(are_kept, Difference::Blocks)?;
         Ok(is_refused)
+    }
+
+    // Returns whether the call was refused.
+    fn told(&self, is_accepted: bool) -> Result<bool, Stop> {
+        let spares = matches!(self.profile.kept, Kept::InChunks);
+        self.chance.answer_to(is_accepted, spares)
     }
 
     /// Returns the pieces from one point up to another where nothing stands.
@@ -80,7 +86,7 @@ impl<'a> Model<'a> {
     /// Makes a change to the model, unless the container refused it. `held` is the number of blocks
     /// before the call. Answers whether it was refused.
     pub fn change(&mut self, change: &Change, is_accepted: bool, held: u64) -> Result<bool, Stop> {
-        let is_refused = self.chance.answer(is_accepted)?;
+        let is_refused = self.told(is_accepted)?;
         match (change, is_refused) {
             (Change::Insert(run), false) | (Change::Remove(run), false) => self.points.put(*run),
             (Change::Extend(runs), false) => self.points.put_all(runs),

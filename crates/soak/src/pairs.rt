@@ -1,10 +1,10 @@
-//! Pairs of a range and a value, made of what is to be inserted.
+//! Pairs of a range and a value, and items, made of what is to be inserted.
 ghost use Rattle.std.specs.Prelude.{IfOk};
-ghost use Rattle.rangemap.specs.Ranges.{AreNonEmpty};
+ghost use Rattle.std.specs.List.{AllByRecursion};
 
 use crate::points::Run;
 use crate::soaked::{Heap, Mark, PointRange, Soaked};
-use std::alloc::{AllocError, Global};
+use std::alloc::AllocError;
 
 /// Makes the range of the points of a run.
 pub fn range<'a, S: Soaked<'a>>(heap: &'a Heap, run: Run) -> Result<S::Range, AllocError>
@@ -21,37 +21,24 @@ pub fn pair<'a, S: Soaked<'a>>(heap: &'a Heap, put: Run) -> Result<(S::Range, S:
     Ok((range, S::Value::of(heap, put.mark)?))
 }
 
-/// Makes three pairs, the list of which takes its memory from `alloc`.
-pub fn pairs<'a, S: Soaked<'a>>(
+/// Makes three items, the list of which takes its memory from the heap too.
+pub fn items<'a, S: Soaked<'a>>(
     heap: &'a Heap,
-    alloc: Global,
     puts: &[Run; 3],
-) -> Result<Vec<(S::Range, S::Value)>, AllocError>
-    ensures { IfOk result (λ pairs. AreNonEmpty S.Kind.kind pairs.items) }
+) -> Result<Vec<S::Item, &'a Heap>, AllocError>
+    ensures { IfOk result (λ items. AllByRecursion S.takes items.items) }
 {
-    let mut pairs = Vec::new(alloc);
-    pairs.push(pair::<S>(heap, puts[0])?)?;
-    pairs.push(pair::<S>(heap, puts[1])?)?;
-    pairs.push(pair::<S>(heap, puts[2])?)?;
-    Ok(pairs)
+    let mut items = Vec::new(heap);
+    items.push(item::<S>(heap, puts[0])?)?;
+    items.push(item::<S>(heap, puts[1])?)?;
+    items.push(item::<S>(heap, puts[2])?)?;
+    Ok(items)
 }
 
-/// Extends a container by a list.
-pub fn extend<'a, S: Soaked<'a>>(
-    subject: &mut S,
-    pairs: Vec<(S::Range, S::Value)>,
-) -> Result<(), AllocError>
-    requires non_empty { AreNonEmpty S.Kind.kind pairs.items }
+/// Makes the item of what is to be inserted.
+fn item<'a, S: Soaked<'a>>(heap: &'a Heap, put: Run) -> Result<S::Item, AllocError>
+    ensures { IfOk result S.takes }
 {
-    subject.extend(pairs)
-}
-
-/// Makes a container of a list.
-pub fn collect<'a, S: Soaked<'a>>(
-    heap: &'a Heap,
-    pairs: Vec<(S::Range, S::Value)>,
-) -> Result<S, AllocError>
-    requires non_empty { AreNonEmpty S.Kind.kind pairs.items }
-{
-    S::from_iter(heap, pairs)
+    let (range, value) = pair::<S>(heap, put)?;
+    Ok(S::item(range, value))
 }

@@ -6,9 +6,9 @@ ghost use Rattle.rangemap.specs.Clones.{KeysCloneFaithfully, ValuesCloneFaithful
 use crate::chance::Chance;
 use crate::difference::Stop;
 use crate::points::Piece;
-use rangemap::container::Collect;
 use rangemap_core::key_range::KeyRange;
 use std::alloc::AllocError;
+use tests_support::OwnCalls;
 
 mod boxed;
 mod costly;
@@ -18,8 +18,8 @@ mod marks;
 mod numbers;
 mod sets;
 
-pub use maps::{InclusiveMap, Map, TreeMap};
-pub use sets::{InclusiveSet, Set, TreeSet};
+pub use maps::{ClosedChunkedMap, HalfOpenChunkedMap, InclusiveMap, Map, TreeMap};
+pub use sets::{ClosedChunkedSet, HalfOpenChunkedSet, InclusiveSet, Set, TreeSet};
 pub use tests_support::Heap;
 
 /// Ranges over keys that stand for points.
@@ -54,7 +54,7 @@ pub trait Mark<'a>: Eq + Clone {
 }
 
 /// A container over points.
-pub trait Soaked<'a>: Collect<Alloc = &'a Heap, Range: PointRange<'a>, Value: Mark<'a>> {
+pub trait Soaked<'a>: OwnCalls<Alloc = &'a Heap, Range: PointRange<'a>, Value: Mark<'a>> {
     /// Makes `self | other` or `self & other`, where the container has these operators.
     fn combined(&self, other: &Self, is_union: bool) -> Option<Result<Self, AllocError>>;
 
@@ -75,8 +75,19 @@ pub struct Profile {
     pub has_marks: bool,
     /// How many blocks each stored range holds.
     pub blocks_of_each: u64,
-    /// Whether it is a tree. Else it is a sorted vector.
-    pub is_tree: bool,
+    /// In what it keeps them.
+    pub kept: Kept,
+}
+
+/// In what a container keeps its ranges.
+#[derive(Clone, Copy)]
+pub enum Kept {
+    /// In a sorted vector.
+    InVector,
+    /// In a tree.
+    InTree,
+    /// In chunks. A change may be made without some of the memory that it asks for.
+    InChunks,
 }
 
 impl Profile {
@@ -85,18 +96,24 @@ impl Profile {
     ///
     /// Beside the blocks of its ranges a sorted vector holds one for its list, once it has grown. A
     /// tree holds its nodes, of which each but the root has 7 to 15 ranges; one without ranges may
-    /// keep its root.
+    /// keep its root. What is kept in chunks holds one for the list of them, once it has grown, and one
+    /// for each, of which none is empty.
     pub fn needs(self, blocks: u64, stored: usize, has_grown: bool) -> bool {
         let stored = stored as u64;
         let Some(others) = blocks.checked_sub(self.blocks_of_each.saturating_mul(stored)) else {
             return false;
         };
         let grown = u64::from(has_grown);
-        if self.is_tree {
-            let most = grown.saturating_add(stored.saturating_sub(1) / 7);
-            stored.div_ceil(15) <= others && others <= most
-        } else {
-            others == grown
+        match self.kept {
+            Kept::InVector => others == grown,
+            Kept::InTree => {
+                let most = grown.saturating_add(stored.saturating_sub(1) / 7);
+                stored.div_ceil(15) <= others && others <= most
+            }
+            Kept::InChunks => {
+                let least = grown.saturating_add(stored.min(1));
+                least <= others && others <= grown.saturating_add(stored)
+            }
         }
     }
 }

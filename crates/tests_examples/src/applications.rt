@@ -5,13 +5,14 @@ use crate::same::assert_same;
 use examples::block_list::{Block, BlockList, split};
 use examples::byte_cache::ByteCache;
 use examples::char_class::{CharClass, complement_twice, de_morgan};
+use examples::desk::{bookings_of, from_json, is_closed_only_within, to_json};
 use examples::extents::Extents;
 use examples::memory_map::{Access, Fault, MemoryMap, Region};
 use examples::planner::Planner;
 use examples::received::Received;
 use examples::rota::Rota;
 use examples::window::Window;
-use rangemap::range_inclusive_set;
+use rangemap::{range_inclusive_set, range_map};
 use std::ops::Range;
 use std::test::Fail;
 
@@ -204,5 +205,28 @@ fn memory_is_mapped_and_checked(rt: HostRuntime) -> Result<(), Fail> {
     assert!(rt; memory.is_free(0x2000, 0x4000) && !memory.is_free(0x1FFF, 0x4000));
     assert!(rt; memory.shows(0x1FFF, 0x5000, 1) && !memory.shows(0x2000, 0x5000, 1));
     assert!(rt; !memory.has_writable_code());
+    Ok(())
+}
+
+#[test]
+fn bookings_and_closed_days_are_counted(rt: HostRuntime) -> Result<(), Fail> {
+    let sheet = range_map! { in rt.alloc(); 9..12 => 7, 12..14 => 8, 16..18 => 7 }?;
+    assert_eq!(rt; bookings_of(&sheet, &(11..17), 7), 2);
+    let days = range_inclusive_set![in rt.alloc(); 3..=5, 10..=10]?;
+    assert!(rt; is_closed_only_within(&days, 3, 10));
+    assert!(rt; !is_closed_only_within(&days, 4, 10));
+    Ok(())
+}
+
+#[test]
+fn bookings_go_to_json_and_back(rt: HostRuntime) -> Result<(), Fail> {
+    let sheet = range_map! { in rt.alloc(); 9..12 => 7, 12..14 => 8 }?;
+    let value = to_json(rt.alloc(), &sheet).ok().ok_or("not written")?;
+    assert_eq!(rt;
+        value.to_string(rt.alloc())?.as_str(),
+        "[[[9,12],7],[[12,14],8]]"
+    );
+    let again = from_json(rt.alloc(), &value).ok().ok_or("not read")?;
+    assert!(rt; again == sheet);
     Ok(())
 }

@@ -3,7 +3,9 @@
 use crate::same::assert_same;
 use bench_workloads::digest::followed_by;
 use bench_workloads::input::{Entry, Query};
-use bench_workloads::store::{ClosedStore, HalfOpenStore, Store, TextStore, TreeStore};
+use bench_workloads::store::{
+    ChunkedStore, ClosedChunkedStore, ClosedStore, HalfOpenStore, Store, TextStore, TreeStore,
+};
 use bench_workloads::workloads;
 use std::process::Abort;
 use std::test::Fail;
@@ -54,6 +56,10 @@ fn assert_whole_map<S: Store, R: AllocGlobal + Abort>(rt: &R, values: Values) ->
     assert_same(rt, len, 2);
     let equal = workloads::comparisons::<S>(rt.alloc(), &TWO, 1)?;
     assert_same(rt, equal, 1);
+    let len = workloads::emptyings::<S>(rt.alloc(), &TWO, 1)?;
+    assert_same(rt, len, 0);
+    let len = workloads::standing::<S>(rt.alloc(), &TWO, 1)?;
+    assert_same(rt, len, 2);
     Ok(())
 }
 
@@ -63,6 +69,12 @@ fn the_whole_map(rt: HostRuntime) -> Result<(), Fail> {
     assert_whole_map::<ClosedStore, _>(&rt, NUMBERS)?;
     assert_whole_map::<TreeStore, _>(&rt, NUMBERS)?;
     assert_whole_map::<TextStore, _>(&rt, LENGTHS)
+}
+
+#[test]
+fn the_whole_map_in_chunks(rt: HostRuntime) -> Result<(), Fail> {
+    assert_whole_map::<ChunkedStore, _>(&rt, NUMBERS)?;
+    assert_whole_map::<ClosedChunkedStore, _>(&rt, NUMBERS)
 }
 
 fn assert_queries<S: Store, R: AllocGlobal + Abort>(rt: &R, values: Values) -> Result<(), Fail> {
@@ -85,4 +97,10 @@ fn queries_and_removals(rt: HostRuntime) -> Result<(), Fail> {
     assert_queries::<ClosedStore, _>(&rt, NUMBERS)?;
     assert_queries::<TreeStore, _>(&rt, NUMBERS)?;
     assert_queries::<TextStore, _>(&rt, LENGTHS)
+}
+
+#[test]
+fn queries_and_removals_in_chunks(rt: HostRuntime) -> Result<(), Fail> {
+    assert_queries::<ChunkedStore, _>(&rt, NUMBERS)?;
+    assert_queries::<ClosedChunkedStore, _>(&rt, NUMBERS)
 }

@@ -3,7 +3,7 @@
 use rangemap::{RangeInclusiveMap, RangeInclusiveSet, RangeMap, RangeSet, tree_map, tree_set};
 use std::alloc::AllocError;
 use std::test::Fail;
-use tests_requests::{Heaps, check_owners, check_set_owners};
+use tests_requests::{Heaps, check_owners};
 use tests_support::{Heap, MANY, Refusing, check_that, made_of};
 
 /// What calls on every container make, and where it lies: a clone beside its original, and what is
@@ -64,18 +64,19 @@ fn each_container_lies_where_it_belongs(rt: HostRuntime) -> Result<(), Fail> {
     let left = Refusing::new(rt.alloc(), MANY);
     let right = Refusing::new(rt.alloc(), MANY);
     let given = Refusing::new(rt.alloc(), MANY);
+    let own = Refusing::new(rt.alloc(), MANY);
     let heaps = Heaps {
         left: &left,
         right: &right,
         given: &given,
     };
     let allocs = (&left, &right, &given);
-    check_owners::<RangeMap<u32, char, &Heap>>(heaps, allocs, MAPS)?;
-    check_owners::<RangeInclusiveMap<u32, char, u32, &Heap>>(heaps, allocs, INCLUSIVE_MAPS)?;
-    check_owners::<tree_map::RangeMap<u32, char, &Heap>>(heaps, allocs, MAPS)?;
-    check_set_owners::<RangeSet<u32, &Heap>>(heaps, allocs, SETS)?;
-    check_set_owners::<RangeInclusiveSet<u32, u32, &Heap>>(heaps, allocs, INCLUSIVE_SETS)?;
-    check_set_owners::<tree_set::RangeSet<u32, &Heap>>(heaps, allocs, SETS)
+    check_owners::<RangeMap<u32, char, &Heap>>(heaps, allocs, &own, MAPS)?;
+    check_owners::<RangeInclusiveMap<u32, char, u32, &Heap>>(heaps, allocs, &own, INCLUSIVE_MAPS)?;
+    check_owners::<tree_map::RangeMap<u32, char, &Heap>>(heaps, allocs, &own, MAPS)?;
+    check_owners::<RangeSet<u32, &Heap>>(heaps, allocs, &own, SETS)?;
+    check_owners::<RangeInclusiveSet<u32, u32, &Heap>>(heaps, allocs, &own, INCLUSIVE_SETS)?;
+    check_owners::<tree_set::RangeSet<u32, &Heap>>(heaps, allocs, &own, SETS)
 }
 
 #[test]

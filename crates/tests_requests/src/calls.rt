@@ -35,7 +35,8 @@ fn try_on<M: InRows>(heap: &Heap, alloc: M::Alloc, map: &mut M, row: &Row<'_>, l
 }
 
 /// Makes the call of a row. Once it has what it is to be given, the request that comes after `left`
-/// others is refused; the call is refused if it makes that request, and only then.
+/// others is refused; the call is refused if it makes that request and can't do without, and only
+/// then.
 fn call_until<M: InRows>(
     heap: &Heap,
     alloc: M::Alloc,
@@ -54,7 +55,8 @@ fn call_until<M: InRows>(
         Change::Clone { .. } => is_made(map.clone(), row.outcome)?,
         Change::New | Change::Clear { .. } => return Err(Fail::new("a call takes no memory")),
     };
-    check_that(is_accepted != heap.has_refused(), row.call)?;
+    let is_spare = is_accepted && row.requests <= left && left < row.all();
+    check_that(heap.has_refused() == (!is_accepted || is_spare), row.call)?;
     heap.refuse_after(MANY);
     Ok(is_accepted)
 }

@@ -16,7 +16,7 @@ mod tried;
 
 pub use calls::is_made;
 pub use makers::two_pairs;
-pub use owners::{Heaps, check_owners, check_set_owners};
+pub use owners::{Heaps, Replayed, check_owners};
 pub use replays::try_changes;
 pub use row::{Answer, Row};
 pub use tried::{Tried, check};

@@ -1,18 +1,22 @@
 //! What a container keeps of items that it is given where a request for memory is refused.
 ghost use Rattle.std.specs.Prelude.{IfOk};
+ghost use Rattle.std.specs.List.{AllByRecursion};
 ghost use Rattle.rangemap.specs.Clones.{KeysCloneFaithfully, ValuesCloneFaithfully};
 ghost use Rattle.rangemap.specs.Ranges.{AreNonEmpty};
 
 use crate::calls::is_made;
 use crate::row::{Answer, Row};
-use rangemap::container::{Collect, insert_pairs};
+use rangemap::container::insert_pairs;
 use std::alloc::AllocError;
 use std::test::Fail;
-use tests_support::{Heap, InRows, MANY, check_row, check_that, pair_of, pairs_of};
+use tests_support::{
+    Heap, InRows, MANY, OwnCalls, check_row, check_that, extend_by, items_of, made_from, pair_of,
+    pairs_of,
+};
 
-mod sets;
+mod growths;
 
-pub use sets::{try_growths, try_set_makers};
+pub use growths::try_growths;
 
 /// Two pairs of a container.
 type TwoPairs<R, V> = ((R, V), (R, V));
@@ -49,38 +53,38 @@ fn insert_until<M: InRows>(
     (map, answer.is_ok())
 }
 
-/// Extends an empty map by the pairs, in the same way.
-fn extend_until<M: Collect>(
+/// Extends an empty container by the items, in the same way.
+fn extend_until<M: OwnCalls>(
     heap: &Heap,
     alloc: M::Alloc,
-    pairs: Vec<(M::Range, M::Value), M::Alloc>,
+    items: Vec<M::Item, M::Alloc>,
     left: u64,
 ) -> (M, bool)
-    requires non_empty { AreNonEmpty M.Kind.kind pairs.items }
+    requires non_empty { AllByRecursion M.takes items.items }
     requires faithful_keys { KeysCloneFaithfully M.Range.Key.is_clone M.Range.Key.cmp }
     requires faithful_values { ValuesCloneFaithfully M.Value.is_clone M.Value.eq }
 {
-    let mut map = <M as Collect>::new(alloc);
+    let mut map = M::new(alloc);
     heap.refuse_after(left);
-    let answer = map.extend(pairs);
+    let answer = extend_by(&mut map, items);
     heap.refuse_after(MANY);
     (map, answer.is_ok())
 }
 
-/// Makes a map of the pairs by `from_iter`, unless the request that comes after `left` others is
-/// made, which is refused.
-fn collect_until<M: Collect>(
+/// Makes a container of the items by `from_iter`, unless the request that comes after `left` others
+/// is made, which is refused.
+fn collect_until<M: OwnCalls>(
     heap: &Heap,
     alloc: M::Alloc,
-    pairs: Vec<(M::Range, M::Value), M::Alloc>,
+    items: Vec<M::Item, M::Alloc>,
     left: u64,
 ) -> Result<M, AllocError>
-    requires non_empty { AreNonEmpty M.Kind.kind pairs.items }
+    requires non_empty { AllByRecursion M.takes items.items }
     requires faithful_keys { KeysCloneFaithfully M.Range.Key.is_clone M.Range.Key.cmp }
     requires faithful_values { ValuesCloneFaithfully M.Value.is_clone M.Value.eq }
 {
     heap.refuse_after(left);
-    let answer = M::from_iter(alloc, pairs);
+    let answer = made_from(alloc, items);
     heap.refuse_after(MANY);
     answer
 }
@@ -96,8 +100,8 @@ fn kept(lists: &str, granted: u64) -> Result<&str, Fail> {
 }
 
 /// Tries `extend`, which has to keep what inserts of the same pairs keep, and `from_iter`, which
-/// makes a map of the pairs or nothing.
-pub fn try_makers<M: InRows + Collect>(
+/// makes a container of the items or nothing.
+pub fn try_makers<M: InRows + OwnCalls>(
     heap: &Heap,
     alloc: M::Alloc,
     row: &Row<'_>,
@@ -107,8 +111,8 @@ pub fn try_makers<M: InRows + Collect>(
     requires faithful_values { ValuesCloneFaithfully M.Value.is_clone M.Value.eq }
 {
     let inserted = insert_until::<M>(heap, alloc, pairs_of::<M>(alloc, row.given)?, left);
-    let extended = extend_until::<M>(heap, alloc, pairs_of::<M>(alloc, row.given)?, left);
-    let made = collect_until::<M>(heap, alloc, pairs_of::<M>(alloc, row.given)?, left);
+    let extended = extend_until::<M>(heap, alloc, items_of::<M>(alloc, row.given)?, left);
+    let made = collect_until::<M>(heap, alloc, items_of::<M>(alloc, row.given)?, left);
     check_kept(inserted, extended, made, kept(row.outcome, left)?)
 }
 

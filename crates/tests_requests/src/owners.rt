@@ -1,12 +1,11 @@
 //! In whose memory the containers lie that calls make.
+ghost use Rattle.std.specs.List.{AllByRecursion};
 ghost use Rattle.rangemap.specs.Clones.{KeysCloneFaithfully, ValuesCloneFaithfully};
 
-use rangemap::container::{Collect, Combine};
-use rangemap::map::replay;
+use crate::tried::Tried;
+use rangemap_replay::replay::{CallOn, replay};
 use std::test::Fail;
-use tests_support::{
-    Heap, InRows, calls_of, check_that, made_of, parts, rows, set_calls_of, two_lists,
-};
+use tests_support::{Heap, InRows, check_that, made_of, parts, rows, two_lists};
 
 /// Three heaps, for a row's first container, for its second, and to be handed to calls.
 #[derive(Clone, Copy)]
@@ -20,7 +19,7 @@ pub struct Heaps<'a> {
 }
 
 /// The same three, as what containers take their memory from.
-type Allocs<A> = (A, A, A);
+pub type Allocs<A> = (A, A, A);
 
 /// How many blocks are held of each heap.
 type Held = (u64, u64, u64);
@@ -43,42 +42,52 @@ impl<'a> Heaps<'a> {
     }
 }
 
-/// Replays the calls of each row on the two containers that it names, and compares which heap the
-/// one that they add lies in.
-pub fn check_owners<M: InRows + Collect>(
+/// What is tried and has calls of a replay that are its own.
+pub trait Replayed: Tried {
+    /// Replays the calls of a row, made in `own`, on the two containers that it names, and compares
+    /// which heap the one that they add lies in.
+    fn check_owner(
+        heaps: Heaps<'_>,
+        allocs: Allocs<Self::Alloc>,
+        own: Self::Alloc,
+        row: &str,
+    ) -> Result<(), Fail>
+        requires { Self.clones_are_faithful };
+}
+
+/// Replays the calls of each row, made in `own`, on the two containers that it names, and compares
+/// which heap the one that they add lies in.
+pub fn check_owners<M: Replayed>(
     heaps: Heaps<'_>,
     allocs: Allocs<M::Alloc>,
+    own: M::Alloc,
     table: &str,
 ) -> Result<(), Fail>
-    requires faithful_keys { KeysCloneFaithfully M.Range.Key.is_clone M.Range.Key.cmp }
-    requires faithful_values { ValuesCloneFaithfully M.Value.is_clone M.Value.eq }
+    requires { M.clones_are_faithful }
 {
-    for row in rows(allocs.2, table)? {
-        let (pairs, calls, owner) = parts(row)?;
-        let mut maps = both_of::<M>(allocs, pairs)?;
-        let held = heaps.held();
-        drop(replay(allocs.2, &mut maps, calls_of::<M>(allocs.2, calls)?)?);
-        check_that(heaps.grown(held) == owner, row)?;
+    for row in rows(own, table)? {
+        M::check_owner(heaps, allocs, own, row)?;
     }
     Ok(())
 }
 
-/// The same of sets.
-pub fn check_set_owners<S: InRows<Value = ()> + Combine>(
+/// Replays calls on the two containers that a row names, and compares which heap the one that they
+/// add lies in.
+pub fn check_added<M: InRows, C: CallOn<M>>(
     heaps: Heaps<'_>,
-    allocs: Allocs<S::Alloc>,
-    table: &str,
+    allocs: Allocs<M::Alloc>,
+    calls: Vec<C, M::Alloc>,
+    row: &str,
 ) -> Result<(), Fail>
-    requires { KeysCloneFaithfully S.Range.Key.is_clone S.Range.Key.cmp }
+    requires non_empty { AllByRecursion C.has_non_empty calls.items }
+    requires faithful_keys { KeysCloneFaithfully M.Range.Key.is_clone M.Range.Key.cmp }
+    requires faithful_values { ValuesCloneFaithfully M.Value.is_clone M.Value.eq }
 {
-    for row in rows(allocs.2, table)? {
-        let (ranges, calls, owner) = parts(row)?;
-        let mut sets = both_of::<S>(allocs, ranges)?;
-        let held = heaps.held();
-        drop(replay(allocs.2, &mut sets, set_calls_of::<S>(allocs.2, calls)?)?);
-        check_that(heaps.grown(held) == owner, row)?;
-    }
-    Ok(())
+    let (pairs, _, owner) = parts(row)?;
+    let mut maps = both_of::<M>(allocs, pairs)?;
+    let held = heaps.held();
+    drop(replay(allocs.2, &mut maps, calls)?);
+    check_that(heaps.grown(held) == owner, row)
 }
 
 /// Makes the two containers that a row names, each in its heap.

@@ -1,69 +1,43 @@
 //! What a replay leaves where it is refused the room for its lists, or a call of it.
 ghost use Rattle.std.specs.List.{AllByRecursion};
+ghost use Rattle.std.specs.Prelude.{IfOk};
 ghost use Rattle.rangemap.specs.Clones.{KeysCloneFaithfully, ValuesCloneFaithfully};
 
 use crate::row::{Answer, Row};
-use rangemap::container::{Collect, Combine};
 use rangemap::map::replay;
 use rangemap_replay::replay::CallOn;
 use std::alloc::AllocError;
-use tests_support::{Heap, InRows, calls_of, changes_of, check_that, set_calls_of};
+use std::test::Fail;
+use tests_support::{Heap, InRows, changes_of, check_that};
 
 /// The lists that a replay makes before its first call.
 const LISTS: u64 = 3;
-
-/// Tries the replay of a row's calls on maps.
-pub fn try_calls<M: InRows + Collect>(
-    heap: &Heap,
-    alloc: M::Alloc,
-    row: &Row<'_>,
-    left: u64,
-) -> Answer
-    requires faithful_keys { KeysCloneFaithfully M.Range.Key.is_clone M.Range.Key.cmp }
-    requires faithful_values { ValuesCloneFaithfully M.Value.is_clone M.Value.eq }
-{
-    let calls = calls_of::<M>(alloc, row.given)?;
-    try_replay::<M, _>(heap, alloc, calls, row, left)
-}
-
-/// Tries the replay of a row's calls on sets.
-pub fn try_set_calls<S: InRows<Value = ()> + Combine>(
-    heap: &Heap,
-    alloc: S::Alloc,
-    row: &Row<'_>,
-    left: u64,
-) -> Answer
-    requires { KeysCloneFaithfully S.Range.Key.is_clone S.Range.Key.cmp }
-{
-    let calls = set_calls_of::<S>(alloc, row.given)?;
-    try_replay::<S, _>(heap, alloc, calls, row, left)
-}
 
 /// Tries the replay of a row's calls that containers have over any steps.
 pub fn try_changes<M: InRows>(heap: &Heap, alloc: M::Alloc, row: &Row<'_>, left: u64) -> Answer
     requires faithful_keys { KeysCloneFaithfully M.Range.Key.is_clone M.Range.Key.cmp }
     requires faithful_values { ValuesCloneFaithfully M.Value.is_clone M.Value.eq }
 {
-    let changes = changes_of::<M>(alloc, row.given)?;
-    try_replay::<M, _>(heap, alloc, changes, row, left)
+    try_replay::<M, _>(heap, alloc, changes_of::<M>(alloc, row.given), row, left)
 }
 
-/// Tries to replay calls from no container on, of which the request that comes after `left` others
+/// Tries to replay calls, which were made, from no container on, of which the request that comes after `left` others
 /// is refused.
 ///
 /// Where all were accepted, as many containers are left as the row has. Where there was no room for
 /// the lists none was made.
-fn try_replay<M: InRows, C: CallOn<M>>(
+pub fn try_replay<M: InRows, C: CallOn<M>>(
     heap: &Heap,
     alloc: M::Alloc,
-    calls: Vec<C, M::Alloc>,
+    calls: Result<Vec<C, M::Alloc>, Fail>,
     row: &Row<'_>,
     left: u64,
 ) -> Answer
-    requires non_empty { AllByRecursion C.has_non_empty calls.items }
+    requires non_empty { IfOk calls (λ calls. AllByRecursion C.has_non_empty calls.items) }
     requires faithful_keys { KeysCloneFaithfully M.Range.Key.is_clone M.Range.Key.cmp }
     requires faithful_values { ValuesCloneFaithfully M.Value.is_clone M.Value.eq }
 {
+    let calls = calls?;
     let mut all: Vec<M, M::Alloc> = Vec::new(alloc);
     heap.refuse_after(left);
     match replay(alloc, &mut all, calls) {

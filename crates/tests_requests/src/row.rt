@@ -14,8 +14,10 @@ pub struct Row<'t> {
     pub call: &'t str,
     /// What comes of it.
     pub outcome: &'t str,
-    /// The number of requests that it makes.
+    /// The number of requests without which it is refused.
     pub requests: u64,
+    /// The number of requests that it makes behind these, and does without where one is refused.
+    pub spare: u64,
 }
 
 impl<'t> Row<'t> {
@@ -23,12 +25,19 @@ impl<'t> Row<'t> {
     pub(crate) fn read(line: &'t str) -> Result<Row<'t>, Fail> {
         let (given, rest) = line.split_once('|').ok_or("a row has four parts")?;
         let (call, rest) = rest.split_once('|').ok_or("a row has four parts")?;
-        let (outcome, requests) = rest.split_once('|').ok_or("a row has four parts")?;
+        let (outcome, numbers) = rest.split_once('|').ok_or("a row has four parts")?;
+        let (requests, spare) = numbers.split_once('+').unwrap_or((numbers, "0"));
         Ok(Row {
             given: given.trim(),
             call: call.trim(),
             outcome: outcome.trim(),
             requests: requests.trim().parse()?,
+            spare: spare.trim().parse()?,
         })
+    }
+
+    /// How many requests it makes in all.
+    pub(crate) fn all(&self) -> u64 {
+        self.requests.saturating_add(self.spare)
     }
 }

@@ -52,7 +52,7 @@ pub fn try_run<M: InRows>(heap: &Heap, alloc: M::Alloc, row: &Row<'_>, left: u64
     let commands = commands::<M>(alloc, first, second)?;
     heap.refuse_after(left);
     match run(alloc, &mut map, commands) {
-        Ok(answers) => are_accepted(answers.as_slice(), left),
+        Ok(answers) => are_accepted(answers.as_slice(), row, left),
         Err(AllocError) => {
             check_that(
                 (left, map.len()) == (0, 0),
@@ -63,16 +63,23 @@ pub fn try_run<M: InRows>(heap: &Heap, alloc: M::Alloc, row: &Row<'_>, left: u64
     }
 }
 
-/// Whether all commands were accepted. One is refused, if any, and those behind it are run.
-fn are_accepted<R, V, A: Allocator>(answers: &[Outcome<R, V, A>], left: u64) -> Answer {
+/// Whether all commands were accepted. One is refused, if any, and those behind it are run: the list
+/// of all takes the last request, and the first insert those before it.
+fn are_accepted<R, V, A: Allocator>(
+    answers: &[Outcome<R, V, A>],
+    row: &Row<'_>,
+    left: u64,
+) -> Answer {
     let [first, second, third, last] = answers else {
         return Err(Fail::new("four commands have other answers"));
     };
-    let expected = if left == 1 { 1 } else { 2 };
+    let last_request = row.requests.saturating_sub(1);
+    let is_inserted = last_request <= left;
+    let expected = if is_inserted { 2 } else { 1 };
     let is_counted = matches!(third, Ok(Answered::Len(len)) if *len == expected);
     let accepted = (first.is_ok(), second.is_ok(), is_counted, last.is_ok());
     check_that(
-        accepted == (left != 1, true, true, left != 2),
+        accepted == (is_inserted, true, true, left != last_request),
         "a command answers otherwise",
     )?;
     Ok(accepted == (true, true, true, true))

@@ -62,10 +62,11 @@ fn check_line<M: Tried>(heap: &Heap, alloc: M::Alloc, line: &str) -> Result<(), 
     requires { M.clones_are_faithful }
 {
     let row = Row::read(line)?;
-    for left in 0..=row.requests {
+    for left in 0..=row.all() {
         let is_accepted = M::is_accepted(heap, alloc, &row, left)?;
-        let is_all = left == row.requests;
-        let is_expected = is_accepted == is_all && !(is_all && heap.has_refused());
+        let is_all = left == row.all();
+        let is_enough = row.requests <= left;
+        let is_expected = is_accepted == is_enough && !(is_all && heap.has_refused());
         heap.refuse_after(MANY);
         check_that(is_expected && heap.held() == 0, line)?;
     }

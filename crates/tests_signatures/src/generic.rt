@@ -7,9 +7,7 @@ use std::alloc::{AllocError, Global};
 use std::ops::Range;
 
 // the structs behind the aliases, and what containers have in common
-pub use rangemap::container::{
-    Collect, Combine, Container as AnyContainer, collect_gaps, insert_pairs, segments,
-};
+pub use rangemap::container::{Container as AnyContainer, collect_gaps, insert_pairs, segments};
 pub use rangemap::map::Map;
 pub use rangemap::range_set::Set;
 

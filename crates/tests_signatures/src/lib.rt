@@ -3,12 +3,13 @@
 //! than `Union` and `Intersection`.
 //!
 //! The modules of one container name its calls over any keys; `keys` has each container at each type
-//! of keys, `defaults` each alias with its defaults. All maps are one struct, and so are all sets:
+//! of keys, `chunked` the containers in chunks, `defaults` each alias with its defaults. All maps are one struct, and so are all sets:
 //! what has nothing to do with steps is named of `a..b` alone, queries aside. The crate
 //! `tests_iterators` names the iterators. Laws, replays and what code over any container names are
 //! re-exports (`generic`), which cost nothing to prove.
 #![tactic(auto)]
 
+mod chunked;
 mod defaults;
 mod generic;
 mod inclusive_maps;

@@ -2,3 +2,4 @@
 pub mod Ticks
 pub mod Shapes
 pub mod OneMore
+pub mod ListedItems

@@ -1,17 +1,20 @@
 //! Test support: what the libraries of tests stand on.
 //!
 //! `words`, `grammar` and `in_rows` say what the text of a row means, and `calls`, `replays` and
-//! `compared` make containers and calls of it and compare what a container holds. `readers` tells
-//! what a container's own iterators give, `refusing` is an allocator that refuses memory, and beside
-//! them stand keys, values and steps of the tests' own.
+//! `compared` make containers and calls of it and compare what a container holds. `own_calls` has the
+//! calls that maps and sets do not have in common, `readers` tells what a container's own iterators
+//! give, `chunked` names containers in small chunks, `refusing` is an allocator that refuses memory,
+//! and beside them stand keys, values and steps of the tests' own.
 #![tactic(auto)]
 
 mod calls;
+mod chunked;
 mod compared;
 mod costly;
 mod grammar;
 mod heaps;
 mod in_rows;
+mod own_calls;
 mod ranges;
 mod readers;
 mod refusing;
@@ -23,15 +26,17 @@ mod tries;
 mod words;
 
 pub use calls::{insert_all, made_of, make, pair_of, read_change};
+pub use chunked::{ChunkedMap, ChunkedSet};
 pub use compared::{Compared, check_row, holds, is_pair};
 pub use costly::{Costly, CostlyMap, CostlySet, CostlyTree, CostlyTreeSet, HalfOpenCostlySet};
 pub use grammar::{first_word, lists, parts, rows, take_item, two_lists, two_parts};
 pub use heaps::{Heap, MANY, Text, Texts};
 pub use in_rows::{FromEnds, InRows};
+pub use own_calls::{OwnCalls, extend_by, made_from};
 pub use ranges::filled;
 pub use readers::{ReadsGaps, ReadsPairs, Told, tell_gaps, tell_pairs, tell_ranges};
 pub use refusing::Refusing;
-pub use replays::{calls_of, changes_of, pairs_of, ranges_of, set_calls_of};
+pub use replays::{calls_of, changes_of, items_of, pairs_of, ranges_of, set_calls_of};
 pub use same::{check_same, check_text, check_that};
 pub use signed::SignedSteps;
 pub use tries::Tries;

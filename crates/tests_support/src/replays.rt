@@ -1,19 +1,21 @@
 //! The calls of a replay.
 //!
 //! Before a call may stand the place of the container that it is made on, as in `1: clear`. The
-//! ranges that a call takes have a plus between them.
+//! pairs or ranges that a call takes have a plus between them.
 ghost use Rattle.std.specs.Prelude.{IfOk};
 ghost use Rattle.std.specs.List.{AllByRecursion};
-ghost use Rattle.rangemap_replay.specs.Histories.{HasNonEmptyRange, HasNonEmptyRanges};
+ghost use Rattle.rangemap.specs.Histories.{HasNonEmptyRange, HasNonEmptyRanges};
 ghost use Rattle.rangemap.specs.Ranges.{AreNonEmpty};
-ghost use Rattle.rangemap_replay.specs.SetHistories.{SetHasNonEmptyRanges};
+ghost use Rattle.rangemap.specs.SetHistories.{SetHasNonEmptyRanges};
 ghost use Rattle.rangemap.specs.Sets.{AreNonEmptyRanges};
 
 use crate::calls::{pair_of, read_change};
 use crate::grammar::first_word;
 use crate::in_rows::InRows;
-use rangemap_replay::calls::sets::SetCall;
-use rangemap_replay::calls::{Call, Change};
+use crate::own_calls::OwnCalls;
+use rangemap::range_set::calls::SetCall;
+use rangemap_maps::range_map::calls::Call;
+use rangemap_replay::calls::Change;
 use std::test::Fail;
 
 /// Divides the place from a call.
@@ -47,6 +49,22 @@ pub fn ranges_of<M: InRows>(alloc: M::Alloc, ranges: &str) -> Result<Vec<M::Rang
     let mut all = Vec::new(alloc);
     for range in ranges.split(" + ") {
         all.push(M::range(alloc, range)?)?;
+    }
+    Ok(all)
+}
+
+/// Makes the items that a text names, which the container takes one after another.
+#[tactic(auto, using(crate::proofs::OneMore::all_and_one))]
+pub fn items_of<M: InRows + OwnCalls>(
+    alloc: M::Alloc,
+    items: &str,
+) -> Result<Vec<M::Item, M::Alloc>, Fail>
+    ensures { IfOk result (λ all. AllByRecursion M.takes all.items) }
+{
+    let mut all = Vec::new(alloc);
+    for item in items.split(" + ") {
+        let (range, value) = pair_of::<M>(alloc, item)?;
+        all.push(M::item(range, value))?;
     }
     Ok(all)
 }

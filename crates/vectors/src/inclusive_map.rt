@@ -1,4 +1,4 @@
-//! Rows over closed ranges.
+//! Rows over closed ranges, which maps in a sorted vector and in chunks pass.
 
 use crate::noted::Noted;
 use crate::tables::{check_closed, check_stepped};
@@ -106,6 +106,36 @@ fn changes_and_gaps_keep_their_laws(rt: HostRuntime) -> Result<(), Fail> {
         insert 0..=9 a | law back 3..=5 b | 0..=2 a, 6..=9 a
         insert 0..=9 a | law commute 2..=3 b + 4..=11 b | 0..=1 a, 2..=11 b
         insert 1..=2 a, insert 5..=6 b | law parted 0..=7 | 0..=0, 3..=4, 7..=7
+        ",
+    )
+}
+
+// Among so many pairs that chunks of two or three are split, joined, emptied and dropped.
+#[test]
+fn many_pairs_are_changed_and_asked(rt: HostRuntime) -> Result<(), Fail> {
+    check_closed::<u8, char>(
+        rt.alloc(),
+        "
+        insert 0..=1 a, insert 4..=5 b, insert 8..=9 c, insert 12..=13 d, insert 16..=17 e, insert 254..=255 f | clone | 0..=1 a, 4..=5 b, 8..=9 c, 12..=13 d, 16..=17 e, 254..=255 f
+        insert 254..=255 f, insert 16..=17 e, insert 12..=13 d, insert 8..=9 c, insert 4..=5 b, insert 0..=1 a | holds | 0..=1 a, 4..=5 b, 8..=9 c, 12..=13 d, 16..=17 e, 254..=255 f
+        insert 0..=1 a, insert 4..=5 b, insert 8..=9 c, insert 12..=13 d, insert 16..=17 e, insert 254..=255 f, remove 1..=254 | holds | 0..=0 a, 255..=255 f
+        insert 0..=1 a, insert 4..=5 b, insert 8..=9 c, insert 12..=13 d, insert 16..=17 e, insert 254..=255 f, remove 0..=255 | holds |
+        insert 0..=1 a, insert 4..=5 b, insert 8..=9 c, insert 12..=13 d, insert 16..=17 e, insert 254..=255 f, insert 5..=254 x | holds | 0..=1 a, 4..=4 b, 5..=254 x, 255..=255 f
+        insert 0..=1 a, insert 4..=5 b, insert 8..=9 a, insert 12..=13 b, insert 2..=7 a | holds | 0..=9 a, 12..=13 b
+        insert 0..=1 a, insert 4..=5 a, insert 8..=9 a, insert 12..=13 a, insert 6..=7 a | holds | 0..=1 a, 4..=9 a, 12..=13 a
+        insert 0..=1 a, insert 4..=5 a, insert 8..=9 a, insert 12..=13 a, insert 10..=11 a, insert 14..=255 a | holds | 0..=1 a, 4..=5 a, 8..=255 a
+        insert 0..=255 a, remove 4..=5, remove 8..=9, remove 12..=13, remove 16..=17, remove 6..=255 | holds | 0..=3 a
+        insert 0..=255 a, remove 4..=5, remove 8..=9, remove 12..=13, insert 4..=13 a | holds | 0..=255 a
+        insert 0..=1 a, insert 4..=5 b, insert 8..=9 c, insert 12..=13 d, insert 16..=17 e | at 8 | 8..=9 c
+        insert 0..=1 a, insert 4..=5 b, insert 8..=9 c, insert 12..=13 d, insert 16..=17 e | at 10 |
+        insert 0..=1 a, insert 4..=5 b, insert 8..=9 c, insert 12..=13 d, insert 16..=17 e | overlapping 5..=12 | 4..=5 b, 8..=9 c, 12..=13 d
+        insert 0..=1 a, insert 4..=5 b, insert 8..=9 c, insert 12..=13 d, insert 16..=17 e | overlapping 6..=7 |
+        insert 0..=1 a, insert 4..=5 b, insert 8..=9 c, insert 12..=13 d, insert 16..=17 e | gaps 0..=255 | 2..=3, 6..=7, 10..=11, 14..=15, 18..=255
+        insert 0..=1 a, insert 4..=5 b, insert 8..=9 c, insert 12..=13 d, insert 16..=17 e | gaps 5..=9 | 6..=7
+        insert 0..=3 a, insert 4..=7 b, insert 8..=11 c, insert 12..=15 d, insert 16..=17 e | gaps 2..=17 |
+        insert 0..=1 a, insert 4..=5 b, insert 8..=9 c, insert 12..=13 d, insert 16..=17 e | law back 3..=18 x | 0..=1 a
+        insert 0..=1 a, insert 4..=5 b, insert 8..=9 c, insert 12..=13 d, insert 16..=17 e | law commute 5..=8 x + 9..=16 y | 0..=1 a, 4..=4 b, 5..=8 x, 9..=16 y, 17..=17 e
+        insert 0..=1 a, insert 4..=5 b, insert 8..=9 c, insert 12..=13 d, insert 16..=17 e | law parted 1..=16 | 2..=3, 6..=7, 10..=11, 14..=15
         ",
     )
 }

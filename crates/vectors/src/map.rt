@@ -1,4 +1,4 @@
-//! Rows over half-open ranges, which a map in a sorted vector and one in a tree both pass.
+//! Rows over half-open ranges, which maps in a sorted vector, in a tree and in chunks pass.
 
 use crate::noted::Noted;
 use crate::tables::check_half_open;
@@ -111,6 +111,76 @@ fn changes_and_gaps_keep_their_laws(rt: HostRuntime) -> Result<(), Fail> {
         insert 0..10 a | law back 3..6 b | 0..3 a, 6..10 a
         insert 0..10 a | law commute 2..4 b + 4..12 b | 0..2 a, 2..12 b
         insert 1..3 a, insert 5..7 b | law parted 0..8 | 0..1, 3..5, 7..8
+        ",
+    )
+}
+
+// Among so many pairs that chunks of two or three are split, joined, emptied and dropped: a change
+// meets the last pair of a chunk, the first of the next, or all of some, and joins what lies in two.
+#[test]
+fn many_pairs_are_changed(rt: HostRuntime) -> Result<(), Fail> {
+    check_half_open::<char>(
+        rt.alloc(),
+        "
+        insert 0..2 a, insert 4..6 b, insert 8..10 c, insert 12..14 d, insert 16..18 e, insert 20..22 f, insert 24..26 g | holds | 0..2 a, 4..6 b, 8..10 c, 12..14 d, 16..18 e, 20..22 f, 24..26 g
+        insert 24..26 g, insert 20..22 f, insert 16..18 e, insert 12..14 d, insert 8..10 c, insert 4..6 b, insert 0..2 a | holds | 0..2 a, 4..6 b, 8..10 c, 12..14 d, 16..18 e, 20..22 f, 24..26 g
+        insert 24..26 g, insert 0..2 a, insert 12..14 d, insert 8..10 c, insert 20..22 f, insert 4..6 b, insert 16..18 e | clone | 0..2 a, 4..6 b, 8..10 c, 12..14 d, 16..18 e, 20..22 f, 24..26 g
+        insert 0..2 a, insert 4..6 b, insert 8..10 c, insert 12..14 d, insert 16..18 e, insert 20..22 f, remove 1..21 | holds | 0..1 a, 21..22 f
+        insert 0..2 a, insert 4..6 b, insert 8..10 c, insert 12..14 d, insert 16..18 e, insert 20..22 f, remove 0..22, insert 3..5 g | holds | 3..5 g
+        insert 0..2 a, insert 4..6 b, insert 8..10 c, insert 12..14 d, insert 16..18 e, insert 20..22 f, remove 8..14 | holds | 0..2 a, 4..6 b, 16..18 e, 20..22 f
+        insert 0..2 a, insert 4..6 b, insert 8..10 c, insert 12..14 d, insert 16..18 e, insert 20..22 f, remove 5..9 | holds | 0..2 a, 4..5 b, 9..10 c, 12..14 d, 16..18 e, 20..22 f
+        insert 0..2 a, insert 4..6 b, insert 8..10 c, insert 12..14 d, insert 16..18 e, insert 20..22 f, insert 5..17 x | holds | 0..2 a, 4..5 b, 5..17 x, 17..18 e, 20..22 f
+        insert 0..2 a, insert 4..6 b, insert 8..10 c, insert 12..14 d, insert 16..18 e, insert 20..22 f, insert 0..22 x | holds | 0..22 x
+        insert 0..2 a, insert 4..6 b, insert 8..10 a, insert 12..14 b, insert 16..18 a, insert 20..22 b, insert 2..16 a | holds | 0..18 a, 20..22 b
+        insert 0..2 a, insert 4..6 b, insert 8..10 a, insert 12..14 b, insert 10..12 b | holds | 0..2 a, 4..6 b, 8..10 a, 10..14 b
+        insert 0..2 a, insert 4..6 b, insert 8..10 a, insert 12..14 b, insert 6..8 b | holds | 0..2 a, 4..8 b, 8..10 a, 12..14 b
+        insert 0..2 a, insert 4..6 a, insert 8..10 a, insert 12..14 a, insert 16..18 a, insert 6..8 a | holds | 0..2 a, 4..10 a, 12..14 a, 16..18 a
+        insert 0..2 a, insert 4..6 a, insert 8..10 a, insert 12..14 a, insert 16..18 a, insert 2..4 a | holds | 0..6 a, 8..10 a, 12..14 a, 16..18 a
+        insert 0..2 a, insert 4..6 a, insert 8..10 a, insert 12..14 a, insert 16..18 a, insert 10..12 a, insert 14..16 a | holds | 0..2 a, 4..6 a, 8..18 a
+        insert 0..30 a, insert 4..6 b, insert 8..10 b, insert 12..14 b, insert 16..18 b | holds | 0..4 a, 4..6 b, 6..8 a, 8..10 b, 10..12 a, 12..14 b, 14..16 a, 16..18 b, 18..30 a
+        insert 0..30 a, remove 4..6, remove 8..10, remove 12..14, remove 16..18, remove 5..17 | holds | 0..4 a, 18..30 a
+        insert 0..30 a, remove 4..6, remove 8..10, remove 12..14, remove 16..18, insert 3..19 a | holds | 0..30 a
+        insert 0..2 a, insert 4..6 b, insert 8..10 c, insert 12..14 d, insert 16..18 e, clear, insert 4..6 b | holds | 4..6 b
+        insert 0..2 a, insert 4..6 b, insert 8..10 c, insert 12..14 d, insert 16..18 e, remove 4..6, remove 0..2, remove 12..14 | holds | 8..10 c, 16..18 e
+        insert 0..2 a, insert 4..6 b, insert 8..10 c, insert 12..14 d, insert 16..18 e, insert 20..22 f, insert 24..26 g, insert 28..30 h, insert 32..34 i, insert 36..38 j, insert 40..42 k, insert 44..46 l, remove 20..30, remove 4..14 | holds | 0..2 a, 16..18 e, 32..34 i, 36..38 j, 40..42 k, 44..46 l
+        ",
+    )
+}
+
+// A query starts or ends in a pair, between two, or where chunks of two or three meet.
+#[test]
+fn many_pairs_are_asked(rt: HostRuntime) -> Result<(), Fail> {
+    check_half_open::<char>(
+        rt.alloc(),
+        "
+        insert 0..2 a, insert 4..6 b, insert 8..10 c, insert 12..14 d, insert 16..18 e | at 0 | 0..2 a
+        insert 0..2 a, insert 4..6 b, insert 8..10 c, insert 12..14 d, insert 16..18 e | at 3 |
+        insert 0..2 a, insert 4..6 b, insert 8..10 c, insert 12..14 d, insert 16..18 e | at 5 | 4..6 b
+        insert 0..2 a, insert 4..6 b, insert 8..10 c, insert 12..14 d, insert 16..18 e | at 8 | 8..10 c
+        insert 0..2 a, insert 4..6 b, insert 8..10 c, insert 12..14 d, insert 16..18 e | at 11 |
+        insert 0..2 a, insert 4..6 b, insert 8..10 c, insert 12..14 d, insert 16..18 e | at 13 | 12..14 d
+        insert 0..2 a, insert 4..6 b, insert 8..10 c, insert 12..14 d, insert 16..18 e | at 17 | 16..18 e
+        insert 0..2 a, insert 4..6 b, insert 8..10 c, insert 12..14 d, insert 16..18 e | at 18 |
+        insert 0..2 a, insert 4..6 b, insert 8..10 c, insert 12..14 d, insert 16..18 e | overlapping 1..17 | 0..2 a, 4..6 b, 8..10 c, 12..14 d, 16..18 e
+        insert 0..2 a, insert 4..6 b, insert 8..10 c, insert 12..14 d, insert 16..18 e | overlapping 5..9 | 4..6 b, 8..10 c
+        insert 0..2 a, insert 4..6 b, insert 8..10 c, insert 12..14 d, insert 16..18 e | overlapping 6..12 | 8..10 c
+        insert 0..2 a, insert 4..6 b, insert 8..10 c, insert 12..14 d, insert 16..18 e | overlapping 10..12 |
+        insert 0..2 a, insert 4..6 b, insert 8..10 c, insert 12..14 d, insert 16..18 e | overlapping 9..13 | 8..10 c, 12..14 d
+        insert 0..2 a, insert 4..6 b, insert 8..10 c, insert 12..14 d, insert 16..18 e | overlapping 18..30 |
+        insert 0..2 a, insert 4..6 b, insert 8..10 c, insert 12..14 d, insert 16..18 e | gaps 0..20 | 2..4, 6..8, 10..12, 14..16, 18..20
+        insert 0..2 a, insert 4..6 b, insert 8..10 c, insert 12..14 d, insert 16..18 e | gaps 5..9 | 6..8
+        insert 0..2 a, insert 4..6 b, insert 8..10 c, insert 12..14 d, insert 16..18 e | gaps 7..11 | 7..8, 10..11
+        insert 0..2 a, insert 4..6 b, insert 8..10 c, insert 12..14 d, insert 16..18 e | gaps 10..12 | 10..12
+        insert 0..4 a, insert 4..8 b, insert 8..12 c, insert 12..16 d, insert 16..18 e | gaps 2..17 |
+        insert 0..2 a, insert 4..6 b, insert 8..10 c, insert 12..14 d, insert 16..18 e | equals 16..18 e, 12..14 d, 8..10 c, 4..6 b, 0..2 a | true
+        insert 0..2 a, insert 4..6 b, insert 8..10 c, insert 12..14 d, insert 16..18 e | equals 0..2 a, 4..6 b, 8..10 c, 12..14 d, 16..18 f | false
+        insert 0..2 a, insert 4..6 b, insert 8..10 c, insert 12..14 d, insert 16..18 e | equals 0..2 a, 4..6 b, 8..10 c, 12..14 d | false
+        insert 0..2 a, insert 4..6 b, insert 8..10 c, insert 12..14 d, insert 16..18 e | law remove 5..13 | 0..2 a, 4..5 b, 13..14 d, 16..18 e
+        insert 0..2 a, insert 4..6 b, insert 8..10 c, insert 12..14 d, insert 16..18 e | law insert 5..13 x | 0..2 a, 4..5 b, 5..13 x, 13..14 d, 16..18 e
+        insert 0..2 a, insert 4..6 b, insert 8..10 c, insert 12..14 d, insert 16..18 e | law twice 5..13 x | 0..2 a, 4..5 b, 5..13 x, 13..14 d, 16..18 e
+        insert 0..2 a, insert 4..6 b, insert 8..10 c, insert 12..14 d, insert 16..18 e | law back 3..19 x | 0..2 a
+        insert 0..2 a, insert 4..6 b, insert 8..10 c, insert 12..14 d, insert 16..18 e | law commute 5..9 x + 9..17 y | 0..2 a, 4..5 b, 5..9 x, 9..17 y, 17..18 e
+        insert 0..2 a, insert 4..6 b, insert 8..10 c, insert 12..14 d, insert 16..18 e | law parted 1..17 | 2..4, 6..8, 10..12, 14..16
         ",
     )
 }

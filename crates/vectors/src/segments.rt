@@ -1,5 +1,5 @@
-//! Rows about `segments`: a query's keys, each stretch with its value or with none, over a map, a
-//! set and a map in a tree.
+//! Rows about `segments`: a query's keys, each stretch with its value or with none, over maps in a
+//! sorted vector, a tree and chunks, and over a set.
 
 use rangemap::container::{Container, segments};
 use rangemap::{RangeMap, range_inclusive_set, tree_map};
@@ -7,7 +7,7 @@ use rangemap_core::half_open::HalfOpen;
 use std::alloc::Global;
 use std::ops::Range;
 use std::test::Fail;
-use tests_support::check_text;
+use tests_support::{ChunkedMap, check_text, made_of};
 
 /// Compares the stretches of a container of half-open ranges, for each query.
 fn check_stretches<M: Container<Kind = HalfOpen, Range = Range<u32>, Value = char>>(
@@ -44,6 +44,22 @@ fn stretches_of_a_map_in_a_tree(rt: HostRuntime) -> Result<(), Fail> {
         &map,
         queries.as_slice(),
         "[{3..4: Some('a'), 4..6: None, 6..8: Some('b'), 8..10: None, 10..12: Some('c')}, {}, {}]",
+    )
+}
+
+#[test]
+fn stretches_of_a_map_in_chunks(rt: HostRuntime) -> Result<(), Fail> {
+    let map: ChunkedMap<HalfOpen, Range<u32>, char, Global, 2> = made_of(
+        rt.alloc(),
+        "0..4 a, 6..8 b, 10..14 c, 14..15 d, 17..18 e",
+    )?;
+    let queries = [3..16, 20..20, 12..3];
+    check_stretches(
+        rt.alloc(),
+        &map,
+        queries.as_slice(),
+        "[{3..4: Some('a'), 4..6: None, 6..8: Some('b'), 8..10: None, 10..14: Some('c'), \
+        14..15: Some('d'), 15..16: None}, {}, {}]",
     )
 }
 

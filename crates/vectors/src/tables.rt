@@ -5,19 +5,39 @@
 //! values that a test says its rows have.
 ghost use Rattle.rangemap.specs.Clones.{KeysCloneFaithfully, ValuesCloneFaithfully};
 
-use rangemap::container::Collect;
 use rangemap::{RangeInclusiveMap, RangeMap, StepFns, StepLite, tree_map};
+use rangemap_core::closed::Closed;
+use rangemap_core::half_open::HalfOpen;
+use rangemap_core::kind::Kind;
 use std::alloc::Global;
+use std::ops::{Range, RangeInclusive};
 use std::test::Fail;
 use tests_rows::{check_replay, check_rows};
-use tests_support::{InRows, SignedSteps, Word, calls_of, changes_of, parts};
+use tests_support::{ChunkedMap, FromEnds, InRows, SignedSteps, Word, calls_of, changes_of, parts};
 
-/// Compares a table for maps of half-open ranges, in a sorted vector and in a tree.
+/// Compares a table for maps in chunks of up to two pairs, of three, and of four, which are the
+/// fewest where small neighbours become one.
+fn check_in_chunks<
+    Q: Kind<R>,
+    R: FromEnds<Key = K>,
+    K: Ord + Clone + Word<Global>,
+    V: Eq + Clone + Word<Global>,
+>(alloc: Global, table: &str) -> Result<(), Fail>
+    requires faithful_keys { KeysCloneFaithfully K.is_clone K.cmp }
+    requires faithful_values { ValuesCloneFaithfully V.is_clone V.eq }
+{
+    check_rows::<ChunkedMap<Q, R, V, Global, 2>>(alloc, table)?;
+    check_rows::<ChunkedMap<Q, R, V, Global, 3>>(alloc, table)?;
+    check_rows::<ChunkedMap<Q, R, V, Global, 4>>(alloc, table)
+}
+
+/// Compares a table for maps of half-open ranges, in a sorted vector, in a tree and in chunks.
 pub fn check_half_open<V: Eq + Clone + Word<Global>>(alloc: Global, table: &str) -> Result<(), Fail>
     requires { ValuesCloneFaithfully V.is_clone V.eq }
 {
     check_rows::<RangeMap<u32, V>>(alloc, table)?;
-    check_rows::<tree_map::RangeMap<u32, V>>(alloc, table)
+    check_rows::<tree_map::RangeMap<u32, V>>(alloc, table)?;
+    check_in_chunks::<HalfOpen, Range<u32>, u32, V>(alloc, table)
 }
 
 /// Compares a table for maps of closed ranges, by their own steps.
@@ -28,12 +48,14 @@ pub fn check_closed<K: StepLite + Clone + Word<Global>, V: Eq + Clone + Word<Glo
     requires faithful_keys { KeysCloneFaithfully K.is_clone K.cmp }
     requires faithful_values { ValuesCloneFaithfully V.is_clone V.eq }
 {
-    check_rows::<RangeInclusiveMap<K, V>>(alloc, table)
+    check_rows::<RangeInclusiveMap<K, V>>(alloc, table)?;
+    check_in_chunks::<Closed<K>, RangeInclusive<K>, K, V>(alloc, table)
 }
 
 /// Compares a table for maps over signed bytes that are made over the steps of another type.
 pub fn check_stepped(alloc: Global, table: &str) -> Result<(), Fail> {
-    check_rows::<RangeInclusiveMap<i8, bool, SignedSteps>>(alloc, table)
+    check_rows::<RangeInclusiveMap<i8, bool, SignedSteps>>(alloc, table)?;
+    check_in_chunks::<Closed<SignedSteps>, RangeInclusive<i8>, i8, bool>(alloc, table)
 }
 
 /// Compares a replay on maps of half-open ranges, in a sorted vector and in a tree.
@@ -43,28 +65,55 @@ pub fn check_half_open_replay<V: Eq + Clone + Word<Global>>(
 ) -> Result<(), Fail>
     requires { ValuesCloneFaithfully V.is_clone V.eq }
 {
-    check_calls::<RangeMap<u32, V>>(alloc, row)?;
-    check_calls::<tree_map::RangeMap<u32, V>>(alloc, row)
+    let (text, accepted, lists) = parts(row)?;
+    let calls = calls_of::<RangeMap<u32, V>>(alloc, text)?;
+    check_replay::<RangeMap<u32, V>, _>(alloc, calls, accepted, lists)?;
+    let calls = calls_of::<tree_map::RangeMap<u32, V>>(alloc, text)?;
+    check_replay::<tree_map::RangeMap<u32, V>, _>(alloc, calls, accepted, lists)
 }
 
-/// Compares a replay on maps of closed ranges.
+/// Compares a replay on maps of closed ranges, in a sorted vector.
 pub fn check_closed_replay<K: StepLite + Clone + Word<Global>>(
     alloc: Global,
     row: &str,
 ) -> Result<(), Fail>
     requires { KeysCloneFaithfully K.is_clone K.cmp }
 {
-    check_calls::<RangeInclusiveMap<K, bool>>(alloc, row)
+    let (calls, accepted, lists) = parts(row)?;
+    let calls = calls_of::<RangeInclusiveMap<K, bool>>(alloc, calls)?;
+    check_replay::<RangeInclusiveMap<K, bool>, _>(alloc, calls, accepted, lists)
 }
 
-/// Compares a replay: its calls, which of them are accepted, and what each map holds then.
-fn check_calls<M: InRows<Alloc = Global> + Collect>(alloc: Global, row: &str) -> Result<(), Fail>
-    requires faithful_keys { KeysCloneFaithfully M.Range.Key.is_clone M.Range.Key.cmp }
-    requires faithful_values { ValuesCloneFaithfully M.Value.is_clone M.Value.eq }
-{
+/// A map over half-open ranges in chunks of up to two pairs.
+type Letters = ChunkedMap<HalfOpen, Range<u32>, char, Global, 2>;
+
+/// A map over closed ranges of bytes in such chunks.
+type Bytes = ChunkedMap<Closed<u8>, RangeInclusive<u8>, bool, Global, 2>;
+
+/// The same of signed bytes.
+type SignedBytes = ChunkedMap<Closed<i8>, RangeInclusive<i8>, bool, Global, 2>;
+
+// The maps in chunks are named at keys and values that are known: over any the check doesn't end.
+
+/// Compares a replay on maps of half-open ranges in chunks.
+pub fn check_letters_in_chunks(alloc: Global, row: &str) -> Result<(), Fail> {
     let (calls, accepted, lists) = parts(row)?;
-    let calls = calls_of::<M>(alloc, calls)?;
-    check_replay::<M, _>(alloc, calls, accepted, lists)
+    let calls = calls_of::<Letters>(alloc, calls)?;
+    check_replay::<Letters, _>(alloc, calls, accepted, lists)
+}
+
+/// Compares a replay on maps of closed ranges of bytes in chunks.
+pub fn check_bytes_in_chunks(alloc: Global, row: &str) -> Result<(), Fail> {
+    let (calls, accepted, lists) = parts(row)?;
+    let calls = calls_of::<Bytes>(alloc, calls)?;
+    check_replay::<Bytes, _>(alloc, calls, accepted, lists)
+}
+
+/// The same of signed bytes.
+pub fn check_signed_bytes_in_chunks(alloc: Global, row: &str) -> Result<(), Fail> {
+    let (calls, accepted, lists) = parts(row)?;
+    let calls = calls_of::<SignedBytes>(alloc, calls)?;
+    check_replay::<SignedBytes, _>(alloc, calls, accepted, lists)
 }
 
 /// Compares a replay of changes by the steps that `S` has.
@@ -74,7 +123,16 @@ pub fn check_changes<K: Ord + Clone + Word<Global>, S: StepFns<K>>(
 ) -> Result<(), Fail>
     requires { KeysCloneFaithfully K.is_clone K.cmp }
 {
+    check_changes_on::<RangeInclusiveMap<K, bool, S>>(alloc, row)?;
+    check_changes_on::<ChunkedMap<Closed<S>, RangeInclusive<K>, bool, Global, 2>>(alloc, row)
+}
+
+/// Compares a replay of changes: which of them are accepted, and what each map holds then.
+fn check_changes_on<M: InRows<Alloc = Global>>(alloc: Global, row: &str) -> Result<(), Fail>
+    requires faithful_keys { KeysCloneFaithfully M.Range.Key.is_clone M.Range.Key.cmp }
+    requires faithful_values { ValuesCloneFaithfully M.Value.is_clone M.Value.eq }
+{
     let (calls, accepted, lists) = parts(row)?;
-    let changes = changes_of::<RangeInclusiveMap<K, bool, S>>(alloc, calls)?;
-    check_replay::<RangeInclusiveMap<K, bool, S>, _>(alloc, changes, accepted, lists)
+    let changes = changes_of::<M>(alloc, calls)?;
+    check_replay::<M, _>(alloc, changes, accepted, lists)
 }

@@ -4,6 +4,7 @@ ghost use Rattle.rangemap.specs.Clones.{KeysCloneFaithfully, ValuesCloneFaithful
 ghost use Rattle.rangemap.specs.Ranges.{AreNonEmpty};
 
 use rangemap::map::Map;
+use rangemap_chunked::Chunks;
 use rangemap_core::closed::Closed;
 use rangemap_core::half_open::HalfOpen;
 use rangemap_core::key_range::KeyRange;
@@ -27,6 +28,9 @@ type SortedClosed<K, V> = SortedVec<Closed<K>, RangeInclusive<K>, V, Global>;
 
 /// Those of a map in a tree.
 type InTree<K, V> = Tree<K, V, Global>;
+
+/// Those of a map in chunks of up to two pairs.
+type InChunks<Q, R, V> = Chunks<Q, R, V, Global, 2>;
 
 /// Compares what is written of a container.
 pub fn check_texts<M: Debug>(alloc: Global, all: &M, text: &str, lines: &str) -> Result<(), Fail> {
@@ -112,5 +116,22 @@ fn maps_in_a_tree_are_written_in_braces(rt: HostRuntime) -> Result<(), Fail> {
         [(-3..0i8, 7u16)],
         "{-3..0: 7}",
         "{\n    -3..0: 7,\n}",
+    )
+}
+
+#[test]
+fn maps_in_chunks_are_written_in_braces(rt: HostRuntime) -> Result<(), Fail> {
+    check_pairs::<InChunks<HalfOpen, Range<u32>, char>, 0>(rt.alloc(), [], "{}", "{}")?;
+    check_pairs::<InChunks<HalfOpen, Range<u32>, char>, 4>(
+        rt.alloc(),
+        [(0u32..2, 'a'), (4..6, 'b'), (8..9, 'c'), (9..12, 'd')],
+        "{0..2: 'a', 4..6: 'b', 8..9: 'c', 9..12: 'd'}",
+        "{\n    0..2: 'a',\n    4..6: 'b',\n    8..9: 'c',\n    9..12: 'd',\n}",
+    )?;
+    check_pairs::<InChunks<Closed<u8>, RangeInclusive<u8>, bool>, 3>(
+        rt.alloc(),
+        [(0u8..=2, true), (4..=6, false), (8..=255, true)],
+        "{0..=2: true, 4..=6: false, 8..=255: true}",
+        "{\n    0..=2: true,\n    4..=6: false,\n    8..=255: true,\n}",
     )
 }

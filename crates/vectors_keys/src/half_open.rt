@@ -1,9 +1,12 @@
 //! Maps over half-open ranges of keys that are no integers.
 
 use rangemap::RangeMap;
+use rangemap_core::half_open::HalfOpen;
 use std::alloc::{AllocError, Global};
+use std::ops::Range;
 use std::test::Fail;
-use tests_support::{check_same, filled};
+use tests_rows::check_rows;
+use tests_support::{ChunkedMap, check_same, filled};
 
 /// A text of its own.
 fn text(text: &str, alloc: Global) -> Result<String, AllocError> {
@@ -47,6 +50,22 @@ fn check_texts(alloc: Global, map: &mut Texts) -> Result<(), Fail> {
     let inner = (at_text(map, alloc, "fi")?, at_text(map, alloc, "fig")?);
     let outer = (at_text(map, alloc, "figs")?, at_text(map, alloc, "z")?);
     check_same((inner, outer), ((Some(1), Some(2)), (Some(1), None)))
+}
+
+#[test]
+#[tactic(auto, using(rangemap::proofs::TextKeys::clones_tie))]
+fn texts_are_keys_in_chunks(rt: HostRuntime) -> Result<(), Fail> {
+    check_rows::<ChunkedMap<HalfOpen, Range<String>, u32, Global, 2>>(
+        rt.alloc(),
+        "
+        insert a..m 1, insert m..z 1 | holds | a..z 1
+        insert a..m 1, insert m..z 1, insert fig..figs 2 | holds | a..fig 1, fig..figs 2, figs..z 1
+        insert a..m 1, insert m..z 1, insert fig..figs 2 | at fi | a..fig 1
+        insert a..m 1, insert m..z 1, insert fig..figs 2 | at fig | fig..figs 2
+        insert a..m 1, insert m..z 1, insert fig..figs 2 | at z |
+        insert a..m 1, insert fig..figs 2, insert fog..fogs 2, remove fi..fogs | holds | a..fi 1, fogs..m 1
+        ",
+    )
 }
 
 /// Letters at pairs of a text and a number.

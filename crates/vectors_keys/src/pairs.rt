@@ -3,8 +3,12 @@ ghost use Rattle.std.specs.Prelude.{◌^◌};
 ghost use Rattle.vectors_keys.specs.Pairs.{IsPair, pair_after, pair_before, pair_follows, pair_precedes};
 
 use rangemap::{RangeInclusiveMap, RangeInclusiveSet, StepFns};
+use rangemap_core::closed::Closed;
+use std::alloc::Global;
+use std::ops::RangeInclusive;
 use std::test::Fail;
 use tests_rows::check_rows;
+use tests_support::{ChunkedMap, ChunkedSet};
 
 /// The steps of pairs of bytes: behind `(1, 255)` comes `(2, 0)`.
 pub struct PairSteps;
@@ -48,10 +52,28 @@ type Letters = RangeInclusiveMap<(u8, u8), char, PairSteps>;
 /// Pairs of bytes.
 type Pairs = RangeInclusiveSet<(u8, u8), PairSteps>;
 
+/// Pairs of bytes, in chunks of one range.
+type ChunkedPairs = ChunkedSet<Closed<PairSteps>, RangeInclusive<(u8, u8)>, Global, 1>;
+
+/// Letters at pairs of bytes, in chunks of up to two pairs.
+type ChunkedLetters = ChunkedMap<Closed<PairSteps>, RangeInclusive<(u8, u8)>, char, Global, 2>;
+
+/// Compares a table for sets of pairs, in a sorted vector and in chunks.
+fn check_pairs(alloc: Global, table: &str) -> Result<(), Fail> {
+    check_rows::<Pairs>(alloc, table)?;
+    check_rows::<ChunkedPairs>(alloc, table)
+}
+
+/// Compares a table for maps of pairs, in a sorted vector and in chunks.
+fn check_letters(alloc: Global, table: &str) -> Result<(), Fail> {
+    check_rows::<Letters>(alloc, table)?;
+    check_rows::<ChunkedLetters>(alloc, table)
+}
+
 // Pairs touch over their second byte, and the last pair is not stepped past.
 #[test]
 fn pairs_are_stepped_through(rt: HostRuntime) -> Result<(), Fail> {
-    check_rows::<Pairs>(
+    check_pairs(
         rt.alloc(),
         "
         insert 0/0..=1/255, insert 2/0..=2/0 | holds | 0/0..=2/0
@@ -60,7 +82,7 @@ fn pairs_are_stepped_through(rt: HostRuntime) -> Result<(), Fail> {
         0/0..=2/0, 2/2..=255/254
         ",
     )?;
-    check_rows::<Letters>(
+    check_letters(
         rt.alloc(),
         "
         insert 0/0..=1/255 a, insert 2/0..=2/0 a | holds | 0/0..=2/0 a

@@ -1,4 +1,4 @@
-//! Rows over sets of closed ranges.
+//! Rows over sets of closed ranges, which those in a sorted vector and in chunks pass.
 
 use crate::tables::check_closed;
 use std::test::Fail;
@@ -83,6 +83,25 @@ fn changes_and_gaps_keep_their_laws(rt: HostRuntime) -> Result<(), Fail> {
         insert 0..=9 | law back 3..=5 | 0..=2, 6..=9
         insert 0..=2, insert 6..=8 | law commute 2..=3 + 4..=6 | 0..=8
         insert 1..=2, insert 5..=6 | law parted 0..=7 | 0..=0, 3..=4, 7..=7
+        ",
+    )
+}
+
+// Among so many ranges that chunks of two or three are split, joined, emptied and dropped.
+#[test]
+fn many_ranges_are_changed_and_asked(rt: HostRuntime) -> Result<(), Fail> {
+    check_closed::<u8>(
+        rt.alloc(),
+        "
+        insert 0..=1, insert 4..=5, insert 8..=9, insert 12..=13, insert 16..=17, insert 255..=255 | clone | 0..=1, 4..=5, 8..=9, 12..=13, 16..=17, 255..=255
+        insert 255..=255, insert 16..=17, insert 12..=13, insert 8..=9, insert 4..=5, insert 0..=1 | holds | 0..=1, 4..=5, 8..=9, 12..=13, 16..=17, 255..=255
+        insert 0..=1, insert 4..=5, insert 8..=9, insert 12..=13, insert 16..=17, insert 6..=7 | holds | 0..=1, 4..=9, 12..=13, 16..=17
+        insert 0..=1, insert 4..=5, insert 8..=9, insert 12..=13, insert 16..=17, insert 10..=11 | holds | 0..=1, 4..=5, 8..=13, 16..=17
+        insert 0..=1, insert 4..=5, insert 8..=9, insert 12..=13, insert 16..=17, insert 2..=15 | holds | 0..=17
+        insert 0..=1, insert 4..=5, insert 8..=9, insert 12..=13, insert 16..=17, remove 5..=16 | holds | 0..=1, 4..=4, 17..=17
+        insert 0..=255, remove 2..=3, remove 6..=7, remove 10..=11, remove 14..=15, remove 255..=255 | holds | 0..=1, 4..=5, 8..=9, 12..=13, 16..=254
+        insert 0..=1, insert 4..=5, insert 8..=9, insert 12..=13, insert 16..=17 | overlapping 5..=12 | 4..=5, 8..=9, 12..=13
+        insert 0..=1, insert 4..=5, insert 8..=9, insert 12..=13, insert 16..=17 | gaps 0..=255 | 2..=3, 6..=7, 10..=11, 14..=15, 18..=255
         ",
     )
 }

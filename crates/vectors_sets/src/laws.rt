@@ -1,13 +1,25 @@
 //! The laws of `|` and `&`, run on sets of either kind.
 ghost use Rattle.rangemap.specs.Clones.{KeysCloneFaithfully};
 
-use rangemap::container::Combine;
 use rangemap::laws::sets::{Operator, absorbs, associates, commutes, distributes, is_idempotent};
-use rangemap::{RangeInclusiveSet, RangeSet, tree_set};
+use rangemap::range_set::Set;
+use rangemap_core::closed::Closed;
+use rangemap_core::half_open::HalfOpen;
+use rangemap_core::key_range::KeyRange;
+use rangemap_core::kind::OwnSteps;
+use rangemap_core::store::Store;
+use rangemap_sorted::SortedVec;
 use std::alloc::Global;
 use std::fmt::Debug;
+use std::ops::{Range, RangeInclusive};
 use std::test::Fail;
-use tests_support::{InRows, check_text, made_of};
+use tests_support::{ChunkedSet, FromEnds, Word, check_text, made_of};
+
+/// A set in a sorted vector.
+type Sorted<Q, R> = Set<SortedVec<Q, R, (), Global>>;
+
+/// A set in chunks of up to two ranges.
+type InChunks<Q, R> = ChunkedSet<Q, R, Global, 2>;
 
 /// Three sets: the second goes on where the first ends, and the third has keys of both.
 #[derive(Drop)]
@@ -18,12 +30,15 @@ struct Three<'a, S> {
 }
 
 /// Runs the laws that give two sets for `|`, and then for `&`, and compares their texts.
-fn check_sides<S: Combine + Debug>(
+fn check_sides<S: Store<Range: Debug, Value = (), Alloc = Global> + Drop>(
     alloc: Global,
-    sets: &Three<'_, S>,
+    sets: &Three<'_, Set<S>>,
     unions: [&str; 3],
     intersections: [&str; 3],
 ) -> Result<(), Fail>
+where
+    <S::Range as KeyRange>::Key: Debug,
+    S::Kind: OwnSteps<S::Range>,
     requires { KeysCloneFaithfully S.Range.Key.is_clone S.Range.Key.cmp }
 {
     let (first, second, third) = (sets.first, sets.second, sets.third);
@@ -44,11 +59,14 @@ fn check_sides<S: Combine + Debug>(
 }
 
 /// Runs the laws that give the first set again, for `|` and for `&`, and compares its text.
-fn check_first<S: Combine + Debug>(
+fn check_first<S: Store<Range: Debug, Value = (), Alloc = Global> + Drop>(
     alloc: Global,
-    sets: &Three<'_, S>,
+    sets: &Three<'_, Set<S>>,
     first: &str,
 ) -> Result<(), Fail>
+where
+    <S::Range as KeyRange>::Key: Debug,
+    S::Kind: OwnSteps<S::Range>,
     requires { KeysCloneFaithfully S.Range.Key.is_clone S.Range.Key.cmp }
 {
     check_text(alloc, &is_idempotent(&Operator::Union, sets.first)?, first)?;
@@ -70,19 +88,46 @@ fn check_first<S: Combine + Debug>(
 }
 
 /// Makes three sets, and runs all laws on them.
-fn check_three<S: InRows<Alloc = Global, Value = ()> + Combine + Debug>(
+fn check_three<Q: OwnSteps<R>, R: FromEnds + Debug>(
     alloc: Global,
     sets: [&str; 3],
     unions: [&str; 3],
     intersections: [&str; 3],
     text: &str,
 ) -> Result<(), Fail>
-    requires { KeysCloneFaithfully S.Range.Key.is_clone S.Range.Key.cmp }
+where
+    R::Key: Word<Global> + Debug,
+    requires { KeysCloneFaithfully R.Key.is_clone R.Key.cmp }
 {
     let [first, second, third] = sets;
-    let first: S = made_of(alloc, first)?;
-    let second: S = made_of(alloc, second)?;
-    let third: S = made_of(alloc, third)?;
+    let first: Sorted<Q, R> = made_of(alloc, first)?;
+    let second: Sorted<Q, R> = made_of(alloc, second)?;
+    let third: Sorted<Q, R> = made_of(alloc, third)?;
+    let sets = Three {
+        first: &first,
+        second: &second,
+        third: &third,
+    };
+    check_sides(alloc, &sets, unions, intersections)?;
+    check_first(alloc, &sets, text)
+}
+
+/// The same of sets in chunks.
+fn check_three_in_chunks<Q: OwnSteps<R>, R: FromEnds + Debug>(
+    alloc: Global,
+    sets: [&str; 3],
+    unions: [&str; 3],
+    intersections: [&str; 3],
+    text: &str,
+) -> Result<(), Fail>
+where
+    R::Key: Word<Global> + Debug,
+    requires { KeysCloneFaithfully R.Key.is_clone R.Key.cmp }
+{
+    let [first, second, third] = sets;
+    let first: InChunks<Q, R> = made_of(alloc, first)?;
+    let second: InChunks<Q, R> = made_of(alloc, second)?;
+    let third: InChunks<Q, R> = made_of(alloc, third)?;
     let sets = Three {
         first: &first,
         second: &second,
@@ -94,7 +139,7 @@ fn check_three<S: InRows<Alloc = Global, Value = ()> + Combine + Debug>(
 
 #[test]
 fn operators_keep_their_laws(rt: HostRuntime) -> Result<(), Fail> {
-    check_three::<RangeSet<u32>>(
+    check_three::<HalfOpen, Range<u32>>(
         rt.alloc(),
         ["0..5", "5..10", "3..7"],
         [
@@ -109,7 +154,7 @@ fn operators_keep_their_laws(rt: HostRuntime) -> Result<(), Fail> {
 
 #[test]
 fn operators_of_closed_sets_keep_their_laws(rt: HostRuntime) -> Result<(), Fail> {
-    check_three::<RangeInclusiveSet<u32>>(
+    check_three::<Closed<u32>, RangeInclusive<u32>>(
         rt.alloc(),
         ["0..=4", "5..=9", "3..=6"],
         [
@@ -119,5 +164,43 @@ fn operators_of_closed_sets_keep_their_laws(rt: HostRuntime) -> Result<(), Fail>
         ],
         ["({3..=4}, {3..=4})", "({}, {})", "({3..=6}, {3..=6})"],
         "{0..=4}",
+    )
+}
+
+#[test]
+fn operators_of_sets_in_chunks_keep_their_laws(rt: HostRuntime) -> Result<(), Fail> {
+    check_three_in_chunks::<HalfOpen, Range<u32>>(
+        rt.alloc(),
+        ["0..2, 4..6, 8..10, 12..14", "5..9, 20..22", "1..13"],
+        [
+            "({0..2, 4..10, 12..14, 20..22}, {0..2, 4..10, 12..14, 20..22})",
+            "({0..14, 20..22}, {0..14, 20..22})",
+            "({0..2, 4..10, 12..14}, {0..2, 4..10, 12..14})",
+        ],
+        [
+            "({1..2, 4..6, 8..10, 12..13}, {1..2, 4..6, 8..10, 12..13})",
+            "({5..6, 8..9}, {5..6, 8..9})",
+            "({1..2, 4..10, 12..13}, {1..2, 4..10, 12..13})",
+        ],
+        "{0..2, 4..6, 8..10, 12..14}",
+    )
+}
+
+#[test]
+fn operators_of_closed_sets_in_chunks_keep_their_laws(rt: HostRuntime) -> Result<(), Fail> {
+    check_three_in_chunks::<Closed<u32>, RangeInclusive<u32>>(
+        rt.alloc(),
+        ["0..=1, 4..=5, 8..=9, 12..=13", "5..=8, 20..=21", "1..=12"],
+        [
+            "({0..=1, 4..=9, 12..=13, 20..=21}, {0..=1, 4..=9, 12..=13, 20..=21})",
+            "({0..=13, 20..=21}, {0..=13, 20..=21})",
+            "({0..=1, 4..=9, 12..=13}, {0..=1, 4..=9, 12..=13})",
+        ],
+        [
+            "({1..=1, 4..=5, 8..=9, 12..=12}, {1..=1, 4..=5, 8..=9, 12..=12})",
+            "({5..=5, 8..=8}, {5..=5, 8..=8})",
+            "({1..=1, 4..=9, 12..=12}, {1..=1, 4..=9, 12..=12})",
+        ],
+        "{0..=1, 4..=5, 8..=9, 12..=13}",
     )
 }

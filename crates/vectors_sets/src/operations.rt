@@ -19,11 +19,34 @@ use std::iter::{DoubleEndedIterator, Iterator};
 use std::ops::{Range, RangeInclusive};
 use std::test::Fail;
 use tests_support::{
-    FromEnds, SignedSteps, Word, check_row, check_same, check_text, made_of, parts, rows, two_lists,
+    ChunkedSet, FromEnds, SignedSteps, Word, check_row, check_same, check_text, made_of, parts,
+    rows, two_lists,
 };
 
 /// A set in a sorted vector.
 type Sorted<Q, R> = Set<SortedVec<Q, R, (), Global>>;
+
+/// A set in chunks of up to two ranges.
+type Chunked<Q, R> = ChunkedSet<Q, R, Global, 2>;
+
+/// Compares what the two sets of each row make in chunks.
+fn check_in_chunks<Q: OwnSteps<R>, R: FromEnds<Key = u32> + Debug>(
+    alloc: Global,
+    table: &str,
+) -> Result<(), Fail> {
+    for row in rows(alloc, table)? {
+        let (sets, either, common) = parts(row)?;
+        let (either, common) = (two_lists(either)?, two_lists(common)?);
+        let (left, right) = two_lists(sets)?;
+        let left: Chunked<Q, R> = made_of(alloc, left)?;
+        let right = made_of(alloc, right)?;
+        check_listed(alloc, left.union(&right), either.0)?;
+        check_listed(alloc, left.intersection(&right), common.0)?;
+        check_row(&(&left | &right)?, either.1)?;
+        check_row(&(&left & &right)?, common.1)?;
+    }
+    Ok(())
+}
 
 /// Compares what the two sets of each row make.
 fn check_operations<Q: OwnSteps<R>, R: FromEnds<Key = u32> + Debug>(
@@ -40,7 +63,7 @@ fn check_operations<Q: OwnSteps<R>, R: FromEnds<Key = u32> + Debug>(
         check_row(&(&left | &right)?, either.1)?;
         check_row(&(&left & &right)?, common.1)?;
     }
-    Ok(())
+    check_in_chunks::<Q, R>(alloc, table)
 }
 
 /// Compares the debug texts of an iterator's items, parted by commas.
@@ -85,6 +108,8 @@ fn both_sets_are_put_together(rt: HostRuntime) -> Result<(), Fail> {
         0..5, 9..12; 3..10 | 0..12; 0..12 | 3..5, 9..10; 3..5, 9..10
         0..10, 20..30; 5..25 | 0..30; 0..30 | 5..10, 20..25; 5..10, 20..25
         ; 0..5 | 0..5; 0..5 | ;
+        0..2, 4..6, 8..10, 12..14, 16..18; 1..5, 9..13, 17..20, 21..22 | 0..6, 8..14, 16..20, 21..22; 0..6, 8..14, 16..20, 21..22 | 1..2, 4..5, 9..10, 12..13, 17..18; 1..2, 4..5, 9..10, 12..13, 17..18
+        0..2, 4..6, 8..10, 12..14, 16..18; 2..4, 6..8, 10..12, 14..16 | 0..2, 2..4, 4..6, 6..8, 8..10, 10..12, 12..14, 14..16, 16..18; 0..18 | ;
         ; | ; | ;
         ",
     )
@@ -99,6 +124,8 @@ fn both_closed_sets_are_put_together(rt: HostRuntime) -> Result<(), Fail> {
         0..=4; 4..=9 | 0..=9; 0..=9 | 4..=4; 4..=4
         0..=9, 20..=29; 5..=24 | 0..=29; 0..=29 | 5..=9, 20..=24; 5..=9, 20..=24
         ; 0..=4 | 0..=4; 0..=4 | ;
+        0..=1, 4..=5, 8..=9, 12..=13, 16..=17; 1..=4, 9..=12, 17..=19, 21..=21 | 0..=5, 8..=13, 16..=19, 21..=21; 0..=5, 8..=13, 16..=19, 21..=21 | 1..=1, 4..=4, 9..=9, 12..=12, 17..=17; 1..=1, 4..=4, 9..=9, 12..=12, 17..=17
+        0..=1, 4..=5, 8..=9, 12..=13; 2..=3, 6..=7, 10..=11 | 0..=1, 2..=3, 4..=5, 6..=7, 8..=9, 10..=11, 12..=13; 0..=13 | ;
         ; | ; | ;
         ",
     )
@@ -136,7 +163,7 @@ fn check_rests<I: PairIter<Range: Debug, Lent: Debug>>(
     check_listed(alloc, Intersection::new(other, right.1), common)
 }
 
-/// The same of two sets.
+/// The same of two sets, in a sorted vector and in chunks.
 fn check_in_part<Q: Kind<R>, R: FromEnds<Key = u32> + Debug>(
     alloc: Global,
     sets: &str,
@@ -146,6 +173,26 @@ fn check_in_part<Q: Kind<R>, R: FromEnds<Key = u32> + Debug>(
     let (left, right) = two_lists(sets)?;
     let left: Sorted<Q, R> = made_of(alloc, left)?;
     let right: Sorted<Q, R> = made_of(alloc, right)?;
+    check_rests(
+        alloc,
+        (left.iter(), left.iter()),
+        (right.iter(), right.iter()),
+        from_front,
+        expected,
+    )?;
+    check_chunks_in_part::<Q, R>(alloc, sets, from_front, expected)
+}
+
+/// The same of two sets in chunks.
+fn check_chunks_in_part<Q: Kind<R>, R: FromEnds<Key = u32> + Debug>(
+    alloc: Global,
+    sets: &str,
+    from_front: bool,
+    expected: [&str; 3],
+) -> Result<(), Fail> {
+    let (left, right) = two_lists(sets)?;
+    let left: Chunked<Q, R> = made_of(alloc, left)?;
+    let right: Chunked<Q, R> = made_of(alloc, right)?;
     check_rests(
         alloc,
         (left.iter(), left.iter()),

@@ -1,4 +1,4 @@
-//! Rows over half-open ranges.
+//! Rows over half-open ranges, which sets in a sorted vector, in a tree and in chunks pass.
 
 mod collections;
 mod replays;
@@ -74,6 +74,33 @@ fn changes_and_gaps_keep_their_laws(rt: HostRuntime) -> Result<(), Fail> {
         insert 0..10 | law back 3..6 | 0..3, 6..10
         insert 0..3, insert 6..9 | law commute 2..4 + 4..7 | 0..9
         insert 1..3, insert 5..7 | law parted 0..8 | 0..1, 3..5, 7..8
+        ",
+    )
+}
+
+// Among so many ranges that chunks of two or three are split, joined, emptied and dropped.
+#[test]
+fn many_ranges_are_changed_and_asked(rt: HostRuntime) -> Result<(), Fail> {
+    check_half_open(
+        rt.alloc(),
+        "
+        insert 0..2, insert 4..6, insert 8..10, insert 12..14, insert 16..18, insert 20..22 | clone | 0..2, 4..6, 8..10, 12..14, 16..18, 20..22
+        insert 20..22, insert 16..18, insert 12..14, insert 8..10, insert 4..6, insert 0..2 | holds | 0..2, 4..6, 8..10, 12..14, 16..18, 20..22
+        insert 0..2, insert 4..6, insert 8..10, insert 12..14, insert 16..18, insert 20..22, insert 6..8 | holds | 0..2, 4..10, 12..14, 16..18, 20..22
+        insert 0..2, insert 4..6, insert 8..10, insert 12..14, insert 16..18, insert 20..22, insert 10..12 | holds | 0..2, 4..6, 8..14, 16..18, 20..22
+        insert 0..2, insert 4..6, insert 8..10, insert 12..14, insert 16..18, insert 20..22, insert 2..20 | holds | 0..22
+        insert 0..2, insert 4..6, insert 8..10, insert 12..14, insert 16..18, insert 20..22, insert 5..13 | holds | 0..2, 4..14, 16..18, 20..22
+        insert 0..2, insert 4..6, insert 8..10, insert 12..14, insert 16..18, insert 20..22, remove 5..17 | holds | 0..2, 4..5, 17..18, 20..22
+        insert 0..2, insert 4..6, insert 8..10, insert 12..14, insert 16..18, insert 20..22, remove 0..22, insert 3..4 | holds | 3..4
+        insert 0..30, remove 2..4, remove 6..8, remove 10..12, remove 14..16, remove 18..20 | holds | 0..2, 4..6, 8..10, 12..14, 16..18, 20..30
+        insert 0..30, remove 2..4, remove 6..8, remove 10..12, remove 14..16, remove 4..6, remove 12..14 | holds | 0..2, 8..10, 16..30
+        insert 0..2, insert 4..6, insert 8..10, insert 12..14, insert 16..18 | at 8 | 8..10
+        insert 0..2, insert 4..6, insert 8..10, insert 12..14, insert 16..18 | at 11 |
+        insert 0..2, insert 4..6, insert 8..10, insert 12..14, insert 16..18 | overlapping 5..13 | 4..6, 8..10, 12..14
+        insert 0..2, insert 4..6, insert 8..10, insert 12..14, insert 16..18 | overlapping 6..8 |
+        insert 0..2, insert 4..6, insert 8..10, insert 12..14, insert 16..18 | gaps 0..20 | 2..4, 6..8, 10..12, 14..16, 18..20
+        insert 0..2, insert 4..6, insert 8..10, insert 12..14, insert 16..18 | equals 16..18, 12..14, 8..10, 4..6, 0..2 | true
+        insert 0..2, insert 4..6, insert 8..10, insert 12..14, insert 16..18 | equals 0..2, 4..6, 8..10, 12..14 | false
         ",
     )
 }

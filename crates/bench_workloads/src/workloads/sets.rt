@@ -1,6 +1,6 @@
 //! The workloads over two sets. The queries are the ranges of the second one.
 
-use super::{contents, digest_of, filled, put};
+use super::{contents, digest_of, filled, put, standing};
 use crate::digest::{Mix, followed_by};
 use crate::input::{Entry, Query};
 use crate::set_store::SetStore;
@@ -16,6 +16,7 @@ pub enum SetWorkload {
     JoinedSets,
     CommonSets,
     Members,
+    Standing,
 }
 
 /// What a workload answers over a set, or over two.
@@ -33,6 +34,7 @@ pub fn run<S: SetStore>(
         SetWorkload::JoinedSets => joined_sets::<S>(alloc, entries, queries, rounds),
         SetWorkload::CommonSets => common_sets::<S>(alloc, entries, queries, rounds),
         SetWorkload::Members => members::<S>(alloc, entries, queries, rounds),
+        SetWorkload::Standing => standing::<S>(alloc, entries, rounds),
     }
 }
 

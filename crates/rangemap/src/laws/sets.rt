@@ -1,6 +1,125 @@
 //! The laws of `|` and `&`, of every set that has them.
+//!
+//! Each function is told which operator its law is to be of. It makes the operators that the law
+//! speaks of, and answers the sets that they make, which are equal. A law holds where every operator
+//! in it succeeds; `Err(AllocError)` says that one was refused.
+ghost use Rattle.std.specs.Prelude.{IsTrue, IfOk};
+ghost use Rattle.rangemap.specs.Clones.{KeysCloneFaithfully};
+ghost use Rattle.rangemap.specs.Joined.{joined, other_of};
+ghost use Rattle.rangemap.specs.Ranges.{IsCanonOfPoints, covers, same_ranges};
 
-pub use rangemap_laws::laws::sets::{
-    Operator, Sides, absorbs, associates, commutes, distributes, is_idempotent,
-};
+pub use crate::operator::Operator;
+use crate::range_set::Set;
+use rangemap_core::key_range::KeyRange;
+use rangemap_core::kind::{Kind, OwnSteps};
+use rangemap_core::store::Store;
 pub use rangemap_unions::laws::closed_operations;
+use std::alloc::AllocError;
+
+/// Both sides of a law, left and right.
+pub type Sides<M> = Result<(M, M), AllocError>;
+
+/// `a | b` equals `b | a`, and `a & b` equals `b & a`.
+pub fn commutes<S: Store<Value = ()> + Drop>(
+    operator: &Operator,
+    first: &Set<S>,
+    second: &Set<S>,
+) -> Sides<Set<S>>
+where
+    S::Alloc: Clone,
+    S::Kind: OwnSteps<S::Range>,
+    requires faithful_keys { KeysCloneFaithfully S.Range.Key.is_clone S.Range.Key.cmp }
+    ensures left { IfOk result (λ sets. IsCanonOfPoints S.Kind.kind (joined operator.now (covers S.Kind.kind first.now) (covers S.Kind.kind second.now)) sets.0) }
+    ensures right { IfOk result (λ sets. IsCanonOfPoints S.Kind.kind (joined operator.now (covers S.Kind.kind second.now) (covers S.Kind.kind first.now)) sets.1) }
+    ensures equal { IfOk result (λ sets. IsTrue (same_ranges S.Kind.kind sets.0 sets.1)) }
+{
+    let left = operator.join(first, second)?;
+    let right = operator.join(second, first)?;
+    Ok((left, right))
+}
+
+/// `(a | b) | c` equals `a | (b | c)`, and `(a & b) & c` equals `a & (b & c)`.
+pub fn associates<S: Store<Value = ()> + Drop>(
+    operator: &Operator,
+    first: &Set<S>,
+    second: &Set<S>,
+    third: &Set<S>,
+) -> Sides<Set<S>>
+where
+    S::Alloc: Clone,
+    S::Kind: OwnSteps<S::Range>,
+    requires faithful_keys { KeysCloneFaithfully S.Range.Key.is_clone S.Range.Key.cmp }
+    ensures left { IfOk result (λ sets. IsCanonOfPoints S.Kind.kind (joined operator.now (joined operator.now (covers S.Kind.kind first.now) (covers S.Kind.kind second.now)) (covers S.Kind.kind third.now)) sets.0) }
+    ensures right { IfOk result (λ sets. IsCanonOfPoints S.Kind.kind (joined operator.now (covers S.Kind.kind first.now) (joined operator.now (covers S.Kind.kind second.now) (covers S.Kind.kind third.now))) sets.1) }
+    ensures equal { IfOk result (λ sets. IsTrue (same_ranges S.Kind.kind sets.0 sets.1)) }
+{
+    first.known();
+    third.known();
+    let front = operator.join(first, second)?;
+    let back = operator.join(second, third)?;
+    let left = operator.join(&front, third)?;
+    let right = operator.join(first, &back)?;
+    Ok((left, right))
+}
+
+/// `a | a` equals `a`, and so does `a & a`.
+pub fn is_idempotent<S: Store<Value = ()> + Drop>(
+    operator: &Operator,
+    first: &Set<S>,
+) -> Result<Set<S>, AllocError>
+where
+    S::Alloc: Clone,
+    S::Kind: OwnSteps<S::Range>,
+    requires faithful_keys { KeysCloneFaithfully S.Range.Key.is_clone S.Range.Key.cmp }
+    ensures made { IfOk result (IsCanonOfPoints S.Kind.kind (joined operator.now (covers S.Kind.kind first.now) (covers S.Kind.kind first.now))) }
+    ensures equal { IfOk result (λ set. IsTrue (same_ranges S.Kind.kind set first.now)) }
+{
+    first.known();
+    let made = operator.join(first, first)?;
+    Ok(made)
+}
+
+/// `a | (a & b)` equals `a`, and so does `a & (a | b)`. The operator is the outer one.
+pub fn absorbs<S: Store<Value = ()> + Drop>(
+    operator: &Operator,
+    first: &Set<S>,
+    second: &Set<S>,
+) -> Result<Set<S>, AllocError>
+where
+    S::Alloc: Clone,
+    S::Kind: OwnSteps<S::Range>,
+    requires faithful_keys { KeysCloneFaithfully S.Range.Key.is_clone S.Range.Key.cmp }
+    ensures made { IfOk result (IsCanonOfPoints S.Kind.kind (joined operator.now (covers S.Kind.kind first.now) (joined (other_of operator.now) (covers S.Kind.kind first.now) (covers S.Kind.kind second.now)))) }
+    ensures equal { IfOk result (λ set. IsTrue (same_ranges S.Kind.kind set first.now)) }
+{
+    first.known();
+    let inner = operator.other().join(first, second)?;
+    let made = operator.join(first, &inner)?;
+    Ok(made)
+}
+
+/// `a | (b & c)` equals `(a | b) & (a | c)`, and `a & (b | c)` equals `(a & b) | (a & c)`. The operator
+/// is the outer one of the left side.
+pub fn distributes<S: Store<Value = ()> + Drop>(
+    operator: &Operator,
+    first: &Set<S>,
+    second: &Set<S>,
+    third: &Set<S>,
+) -> Sides<Set<S>>
+where
+    S::Alloc: Clone,
+    S::Kind: OwnSteps<S::Range>,
+    requires faithful_keys { KeysCloneFaithfully S.Range.Key.is_clone S.Range.Key.cmp }
+    ensures left { IfOk result (λ sets. IsCanonOfPoints S.Kind.kind (joined operator.now (covers S.Kind.kind first.now) (joined (other_of operator.now) (covers S.Kind.kind second.now) (covers S.Kind.kind third.now))) sets.0) }
+    ensures right { IfOk result (λ sets. IsCanonOfPoints S.Kind.kind (joined (other_of operator.now) (joined operator.now (covers S.Kind.kind first.now) (covers S.Kind.kind second.now)) (joined operator.now (covers S.Kind.kind first.now) (covers S.Kind.kind third.now))) sets.1) }
+    ensures equal { IfOk result (λ sets. IsTrue (same_ranges S.Kind.kind sets.0 sets.1)) }
+{
+    first.known();
+    let other = operator.other();
+    let inner = other.join(second, third)?;
+    let near = operator.join(first, second)?;
+    let far = operator.join(first, third)?;
+    let left = operator.join(first, &inner)?;
+    let right = other.join(&near, &far)?;
+    Ok((left, right))
+}

@@ -1,16 +1,14 @@
 //! The set as one of the library's containers.
 //!
 //! What a map tells of values and pairs is made of `get`, `contains`, `first` and `last`; the appends
-//! hand the pairs and gaps of its store on; pairs are inserted one after another, as `Collect` does.
-//! All other methods are the set's own calls.
+//! hand the pairs and gaps of its store on. All other methods are the set's own calls.
 
 use super::Set;
-use rangemap_core::container::{Appending, Collect, Combine, Container};
+use rangemap_core::container::{Appending, Container};
 use rangemap_core::key_range::KeyRange;
-use rangemap_core::kind::{Kind, OwnSteps};
+use rangemap_core::kind::Kind;
 use rangemap_core::store::Store;
 use std::alloc::{AllocError, Allocator};
-use std::iter::IntoIterator;
 
 impl<S: Store<Value = ()> + Drop> Container for Set<S>
 where
@@ -120,47 +118,5 @@ where
         out: &mut Vec<S::Range, B>,
     ) -> Result<(), AllocError> {
         self.stored.append_gaps(outer_range, out)
-    }
-}
-
-impl<S: Store<Value = ()> + Drop> Collect for Set<S>
-where
-    S::Alloc: Clone,
-    S::Kind: OwnSteps<S::Range>,
-{
-    fn new(alloc: S::Alloc) -> Self {
-        Set::new(alloc)
-    }
-}
-
-impl<S: Store<Value = ()> + Drop> Combine for Set<S>
-where
-    S::Alloc: Clone,
-    S::Kind: OwnSteps<S::Range>,
-{
-    ghost use Rattle.std.specs.Prelude.{refl};
-
-    ghost all_equal = { λ v w. refl };
-
-    fn union_set(&self, other: &Self) -> Result<Self, AllocError> {
-        self | other
-    }
-
-    fn intersection_set(&self, other: &Self) -> Result<Self, AllocError> {
-        self & other
-    }
-
-    fn extend_ranges<I: IntoIterator<Item = S::Range>>(
-        &mut self,
-        iter: I,
-    ) -> Result<(), AllocError> {
-        self.extend(iter)
-    }
-
-    fn from_ranges<I: IntoIterator<Item = S::Range>>(
-        alloc: S::Alloc,
-        iter: I,
-    ) -> Result<Self, AllocError> {
-        Set::from_iter(alloc, iter)
     }
 }

@@ -3,12 +3,10 @@
 ghost use Rattle.std.specs.Prelude.{◌≡◌};
 
 use super::Map;
-use rangemap_core::container::{Appending, Collect, Container};
+use rangemap_core::container::{Appending, Container};
 use rangemap_core::key_range::KeyRange;
-use rangemap_core::kind::OwnSteps;
 use rangemap_core::store::Store;
 use std::alloc::{AllocError, Allocator};
-use std::iter::IntoIterator;
 
 impl<S: Store + Drop> Container for Map<S>
 where
@@ -108,29 +106,5 @@ where
         out: &mut Vec<S::Range, B>,
     ) -> Result<(), AllocError> {
         self.stored.append_gaps(outer_range, out)
-    }
-}
-
-impl<S: Store + Drop> Collect for Map<S>
-where
-    S::Alloc: Clone,
-    S::Kind: OwnSteps<S::Range>,
-{
-    fn new(alloc: S::Alloc) -> Self {
-        Map::new(alloc)
-    }
-
-    fn extend<I: IntoIterator<Item = (S::Range, S::Value)>>(
-        &mut self,
-        iter: I,
-    ) -> Result<(), AllocError> {
-        self.extend(iter)
-    }
-
-    fn from_iter<I: IntoIterator<Item = (S::Range, S::Value)>>(
-        alloc: S::Alloc,
-        iter: I,
-    ) -> Result<Self, AllocError> {
-        Map::from_iter(alloc, iter)
     }
 }

@@ -1,31 +1,11 @@
-//! One call on a list of maps, by the public call of the map at its place.
+//! One call that every container has, by the public call of the one at its place.
 ghost use Rattle.std.specs.Prelude.{◌≡◌, ◌+◌, ◌<◌, ◌≤◌, ◌++◌, ◌∷◌, [], IfOk, OnErr, is_ok, vec_len, vec_capacity};
 
 use super::CallOn;
-use crate::calls::{Call, Change};
-use rangemap_core::container::{Collect, Container};
+use crate::calls::Change;
+use rangemap_core::container::Container;
 use rangemap_core::kind::known_ends;
 use std::alloc::AllocError;
-
-impl<M: Collect> CallOn<M> for Call<M::Range, M::Value, M::Alloc> {
-    ghost use Rattle.rangemap_replay.specs.Histories.{HasNonEmptyRanges, Step};
-
-    ghost has_non_empty = { HasNonEmptyRanges M.Kind.kind };
-
-    ghost step = { Step M.Kind.kind };
-
-    fn make(self, alloc: M::Alloc, maps: &mut Vec<M, M::Alloc>) -> bool {
-        match self {
-            Call::Change(Change::New) => add(maps, Ok(M::new(alloc))),
-            Call::Change(change) => change.make(alloc, maps),
-            Call::FromIter { pairs } => add(maps, M::from_iter(alloc, pairs)),
-            Call::Extend { at, pairs } => match maps.get_mut(at) {
-                Some(map) => map.extend(pairs).is_ok(),
-                None => false,
-            },
-        }
-    }
-}
 
 impl<M: Container> CallOn<M> for Change<M::Range, M::Value> {
     ghost use Rattle.rangemap_replay.specs.Histories.{ChangeStep, HasNonEmptyRange};

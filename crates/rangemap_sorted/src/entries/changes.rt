@@ -1,7 +1,8 @@
 //! Giving the keys of a range a value, and taking them out, in a list of pairs.
-ghost use Rattle.std.specs.Prelude.{◌≡◌, true, ◌≤◌, ◌+◌, [], length, IsOk, OnOk, OnErr};
+ghost use Rattle.std.specs.Prelude.{◌≡◌, true, ◌≤◌, ◌+◌, [], length, IsOk, OnOk, OnErr, None as NoneWord};
 ghost use Rattle.rangemap_core.specs.Clones.{KeysCloneFaithfully, ValuesCloneFaithfully};
 ghost use Rattle.rangemap_core.specs.Ranges.{IsCanonOf, IsCanonical, erase, overlapped, override, value_at};
+ghost use Rattle.rangemap_sorted.specs.Changes.{changed, grown};
 
 use super::stretch::{left_side, middle, right_side, stretch};
 use crate::overlapping::overlap;
@@ -73,4 +74,31 @@ pub fn remove<Q: Kind<R>, R: KeyRange, V: Eq + Clone, A: Allocator>(
     let behind = Endpoint::End(&last.0);
     let right = piece::<Q, R, V>(to, behind, &last.1)?;
     splice(list, places, left, None, right)
+}
+
+/// Gives every key of `range` the `value`, as `insert` does, or takes it out where there is none, as
+/// `remove` does.
+///
+/// # Errors
+///
+/// As for these.
+pub fn change<Q: Kind<R>, R: KeyRange, V: Eq + Clone, A: Allocator>(
+    list: &mut Vec<(R, V), A>,
+    range: R,
+    value: Option<V>,
+) -> Result<(), AllocError>
+    requires canonical { IsCanonical Q.kind V.eq list.old.items }
+    requires non_empty { Q.kind.IsNonEmpty range }
+    requires faithful_keys { KeysCloneFaithfully R.Key.is_clone R.Key.cmp }
+    requires faithful_values { ValuesCloneFaithfully V.is_clone V.eq }
+    ensures ok { OnOk result (IsCanonOf Q.kind V.eq (changed Q.kind (value_at Q.kind list.old.items) range value) list.new.items) }
+    ensures err { OnErr result (list.new.items ≡ list.old.items) }
+    ensures growth { OnOk result (length list.new.items ≤ length list.old.items + grown value) }
+    ensures growth_where_all_are_equal { OnOk result (((v w : V) → V.eq v w ≡ true) → length list.new.items ≤ length list.old.items + 1) }
+    ensures meets_nothing { value ≡ NoneWord → overlapped Q.kind list.old.items range ≡ [] → IsOk result × (list.new.items ≡ list.old.items) }
+{
+    match value {
+        Some(value) => insert::<Q, R, V, A>(list, range, value),
+        None => remove::<Q, R, V, A>(list, range),
+    }
 }

@@ -4,10 +4,11 @@ use super::answers::{get, list};
 use crate::call::Change;
 use crate::difference::Stop;
 use crate::model::Model;
-use crate::pairs::{self, pair, pairs, range};
+use crate::pairs::{items, pair, range};
 use crate::points::{Points, Run};
 use crate::soaked::Soaked;
 use std::alloc::AllocError;
+use tests_support::{extend_by, made_from};
 
 /// `insert`, `remove`, `extend` or `clear`.
 pub fn change<'a, S: Soaked<'a>>(
@@ -29,9 +30,9 @@ pub fn change<'a, S: Soaked<'a>>(
             subject.remove(range).is_ok()
         }
         Change::Extend(runs) => {
-            let pairs = pairs::<S>(heap, model.alloc, runs)?;
+            let items = items::<S>(heap, runs)?;
             model.chance.refuse_one();
-            pairs::extend(subject, pairs).is_ok()
+            extend_by(subject, items).is_ok()
         }
         Change::Clear => {
             subject.clear();
@@ -61,9 +62,9 @@ pub fn collect<'a, S: Soaked<'a>>(
     runs: &[Run; 3],
 ) -> Result<bool, Stop> {
     let held = model.chance.heap.held();
-    let pairs = pairs::<S>(model.chance.heap, model.alloc, runs)?;
+    let items = items::<S>(model.chance.heap, runs)?;
     model.chance.refuse_one();
-    let made = pairs::collect::<S>(model.chance.heap, pairs);
+    let made = made_from::<S>(model.chance.heap, items);
     check_made(subject, model, &made, &Points::of(runs), held)
 }
 
@@ -74,8 +75,8 @@ pub fn combine<'a, S: Soaked<'a>>(
     runs: &[Run; 3],
     is_union: bool,
 ) -> Result<bool, Stop> {
-    let pairs = pairs::<S>(model.chance.heap, model.alloc, runs)?;
-    let other = pairs::collect::<S>(model.chance.heap, pairs)?;
+    let items = items::<S>(model.chance.heap, runs)?;
+    let other = made_from::<S>(model.chance.heap, items)?;
     let held = model.chance.heap.held();
     model.chance.refuse_one();
     let Some(made) = subject.combined(&other, is_union) else {

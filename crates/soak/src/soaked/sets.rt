@@ -7,13 +7,16 @@ use super::{Heap, PointRange, Soaked};
 use crate::chance::Chance;
 use crate::difference::Stop;
 use crate::points::Piece;
-use rangemap::container::Combine;
-use rangemap::{RangeInclusiveSet, RangeSet, tree_set};
+use rangemap::{RangeInclusiveSet, RangeSet, range_set, tree_set};
+use rangemap_core::closed::Closed;
+use rangemap_core::half_open::HalfOpen;
+use rangemap_core::key_range::KeyRange;
 use rangemap_core::kind::OwnSteps;
+use rangemap_core::store::Store;
 use rangemap_sorted::SortedVec;
 use std::alloc::AllocError;
-use std::ops::Range;
-use tests_support::Costly;
+use std::ops::{Range, RangeInclusive};
+use tests_support::{ChunkedSet, Costly};
 
 /// A set of keys each of which holds a block of memory.
 pub type Set<'a> = RangeSet<Boxed<&'a Heap>, &'a Heap>;
@@ -22,7 +25,7 @@ pub type Set<'a> = RangeSet<Boxed<&'a Heap>, &'a Heap>;
 pub type InclusiveSet<'a> = RangeInclusiveSet<Costly<'a>, Costly<'a>, &'a Heap>;
 
 impl<'a, Q: OwnSteps<R>, R: PointRange<'a>> Soaked<'a>
-    for rangemap::range_set::Set<SortedVec<Q, R, (), &'a Heap>> {
+    for range_set::Set<SortedVec<Q, R, (), &'a Heap>> {
     fn combined(&self, other: &Self, is_union: bool) -> Option<Result<Self, AllocError>> {
         Some(combined(self, other, is_union))
     }
@@ -56,13 +59,43 @@ impl<'a> Soaked<'a> for TreeSet<'a> {
     }
 }
 
+/// A set of keys each of which holds a block of memory, in chunks of up to three ranges.
+pub type HalfOpenChunkedSet<'a> = ChunkedSet<HalfOpen, Range<Boxed<&'a Heap>>, &'a Heap, 3>;
+
+/// A set of keys whose clones take memory, in chunks of up to eight ranges.
+pub type ClosedChunkedSet<'a> = ChunkedSet<
+    Closed<Costly<'a>>,
+    RangeInclusive<Costly<'a>>,
+    &'a Heap,
+    8,
+>;
+
+impl<'a, Q: OwnSteps<R>, R: PointRange<'a>, const N: usize> Soaked<'a>
+    for ChunkedSet<Q, R, &'a Heap, N> {
+    fn combined(&self, other: &Self, is_union: bool) -> Option<Result<Self, AllocError>> {
+        Some(combined(self, other, is_union))
+    }
+
+    fn ask_for_gaps(
+        &self,
+        outer: &R,
+        pieces: &[Piece],
+        chance: &mut Chance<'_>,
+    ) -> Result<bool, Stop> {
+        ask_for_gaps(self.gaps(outer), pieces, chance)
+    }
+}
+
 /// Makes `one | other` or `one & other`.
-fn combined<S: Combine>(one: &S, other: &S, is_union: bool) -> Result<S, AllocError>
+fn combined<S: Store<Value = ()> + Drop>(
+    one: &range_set::Set<S>,
+    other: &range_set::Set<S>,
+    is_union: bool,
+) -> Result<range_set::Set<S>, AllocError>
+where
+    S::Alloc: Clone,
+    S::Kind: OwnSteps<S::Range>,
     requires { KeysCloneFaithfully S.Range.Key.is_clone S.Range.Key.cmp }
 {
-    if is_union {
-        one.union_set(other)
-    } else {
-        one.intersection_set(other)
-    }
+    if is_union { one | other } else { one & other }
 }

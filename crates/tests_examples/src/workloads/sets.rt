@@ -5,7 +5,7 @@ use crate::same::assert_same;
 use bench_workloads::digest::followed_by;
 use bench_workloads::input::Query;
 use bench_workloads::set_store::SetStore;
-use bench_workloads::store::{ClosedSet, HalfOpenSet};
+use bench_workloads::store::{ChunkedSet, ClosedChunkedSet, ClosedSet, HalfOpenSet};
 use bench_workloads::workloads::{self, sets};
 use std::process::Abort;
 use std::test::Fail;
@@ -42,4 +42,10 @@ fn assert_two_sets<S: SetStore, R: AllocGlobal + Abort>(rt: &R) -> Result<(), Fa
 fn two_sets(rt: HostRuntime) -> Result<(), Fail> {
     assert_two_sets::<HalfOpenSet, _>(&rt)?;
     assert_two_sets::<ClosedSet, _>(&rt)
+}
+
+#[test]
+fn two_sets_in_chunks(rt: HostRuntime) -> Result<(), Fail> {
+    assert_two_sets::<ChunkedSet, _>(&rt)?;
+    assert_two_sets::<ClosedChunkedSet, _>(&rt)
 }

@@ -1,21 +1,21 @@
 //! Rows over closed ranges made by both replays, where every call is accepted.
 
-use crate::tables::{check_changes, check_closed_replay};
+use crate::tables::{
+    check_bytes_in_chunks, check_changes, check_closed_replay, check_signed_bytes_in_chunks,
+};
 use std::test::Fail;
 use tests_support::SignedSteps;
 
 #[test]
 fn ends_are_reached_and_removed(rt: HostRuntime) -> Result<(), Fail> {
-    check_closed_replay::<u8>(
-        rt.alloc(),
-        "new, insert 0..=127 false, insert 128..=255 true, insert 128..=255 false | ++++ | \
-        0..=255 false",
-    )?;
-    check_closed_replay::<i8>(
-        rt.alloc(),
-        "from -128..=127 true, clone, remove -128..=-128, remove 127..=127 | ++++ | \
-        -127..=126 true; -128..=127 true",
-    )
+    let row = "new, insert 0..=127 false, insert 128..=255 true, insert 128..=255 false | ++++ | \
+        0..=255 false";
+    check_closed_replay::<u8>(rt.alloc(), row)?;
+    check_bytes_in_chunks(rt.alloc(), row)?;
+    let row = "from -128..=127 true, clone, remove -128..=-128, remove 127..=127 | ++++ | \
+        -127..=126 true; -128..=127 true";
+    check_closed_replay::<i8>(rt.alloc(), row)?;
+    check_signed_bytes_in_chunks(rt.alloc(), row)
 }
 
 #[test]

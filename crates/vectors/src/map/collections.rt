@@ -1,6 +1,8 @@
-//! Rows about maps that are made of pairs and of other maps, in a sorted vector and in a tree.
+//! Rows about maps that are made of pairs and of other maps, in a sorted vector, in a tree and
+//! in chunks.
 
 use rangemap::map::Map;
+use rangemap_chunked::Chunks;
 use rangemap_core::half_open::HalfOpen;
 use rangemap_core::store::Store;
 use rangemap_sorted::SortedVec;
@@ -65,6 +67,12 @@ fn pairs_are_inserted_in_order(rt: HostRuntime) -> Result<(), Fail> {
 fn pairs_are_inserted_in_order_in_a_tree(rt: HostRuntime) -> Result<(), Fail> {
     check_made::<Tree<u32, char, Global>>(rt.alloc())?;
     check_equality::<Tree<u32, char, Global>>(rt.alloc())
+}
+
+#[test]
+fn pairs_are_inserted_in_order_in_chunks(rt: HostRuntime) -> Result<(), Fail> {
+    check_made::<Chunks<HalfOpen, Range<u32>, char, Global, 2>>(rt.alloc())?;
+    check_equality::<Chunks<HalfOpen, Range<u32>, char, Global, 2>>(rt.alloc())
 }
 
 #[test]

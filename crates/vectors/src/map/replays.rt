@@ -1,6 +1,6 @@
 //! Rows made by `replay`, where every call is accepted, and calls that name no map.
 
-use crate::tables::check_half_open_replay;
+use crate::tables::{check_half_open_replay, check_letters_in_chunks};
 use std::test::Fail;
 
 #[test]
@@ -12,17 +12,19 @@ fn maps_of_maps_and_of_pairs(rt: HostRuntime) -> Result<(), Fail> {
         "new, insert 0..10 false, insert 3..6 true, clone, insert 3..6 false | +++++ | \
         0..10 false; 0..3 false, 3..6 true, 6..10 false",
     )?;
-    check_half_open_replay::<char>(
-        rt.alloc(),
+    let rows = [
         "new, insert 0..5 a, insert 5..9 b, insert 5..7 a | ++++ | 0..7 a, 7..9 b",
-    )?;
-    check_half_open_replay::<char>(
-        rt.alloc(),
         "new, insert 0..10 a, remove 3..6, remove 4..5 | ++++ | 0..3 a, 6..10 a",
-    )?;
-    check_half_open_replay::<char>(
-        rt.alloc(),
         "from 0..10 a + 3..6 b, clone, clear, extend 20..30 c, \
         2: clear, 7: insert 0..1 d, 2: remove 0..1 | ++++--- | 20..30 c; 0..3 a, 3..6 b, 6..10 a",
+    ];
+    for row in rows {
+        check_half_open_replay::<char>(rt.alloc(), row)?;
+        check_letters_in_chunks(rt.alloc(), row)?;
+    }
+    check_letters_in_chunks(
+        rt.alloc(),
+        "new, insert 0..10 a, insert 3..6 b, clone, insert 3..6 a | +++++ | \
+        0..10 a; 0..3 a, 3..6 b, 6..10 a",
     )
 }

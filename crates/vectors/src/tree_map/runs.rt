@@ -1,4 +1,4 @@
-//! One list of commands, run on a sorted vector and on a tree, whose answers were worked out by
+//! One list of commands, run on a sorted vector, a tree and chunks, whose answers were worked out by
 //! hand.
 ghost use Rattle.std.specs.Prelude.{IfOk};
 ghost use Rattle.std.specs.List.{AllByRecursion};
@@ -14,7 +14,7 @@ use std::alloc::{AllocError, Global};
 use std::fmt::Write;
 use std::ops::Range;
 use std::test::Fail;
-use tests_support::check_same;
+use tests_support::{ChunkedMap, check_same};
 
 /// Commands over numbers.
 type Commands = Vec<Command<u32, Range<u32>, char>, Global>;
@@ -73,7 +73,8 @@ where
 }
 
 #[test]
-fn commands_are_answered_by_a_vector_and_a_tree(rt: HostRuntime) -> Result<(), Fail> {
+fn commands_are_answered_by_every_map(rt: HostRuntime) -> Result<(), Fail> {
     check_run::<RangeMap<u32, char>>(rt.alloc())?;
-    check_run::<tree_map::RangeMap<u32, char>>(rt.alloc())
+    check_run::<tree_map::RangeMap<u32, char>>(rt.alloc())?;
+    check_run::<ChunkedMap<HalfOpen, Range<u32>, char, Global, 2>>(rt.alloc())
 }

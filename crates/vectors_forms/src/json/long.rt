@@ -1,7 +1,7 @@
 //! Values that are long or deep.
 
 use super::{debug_text, read_number};
-use rangemap::{Form, RangeMap};
+use rangemap::{Form, RangeMap, chunked};
 use serde_json::Value;
 use std::alloc::{AllocError, Global};
 use std::fmt::Write;
@@ -27,11 +27,30 @@ fn len_or_error(alloc: Global, form: Form, value: &Value) -> Result<String, Fail
     }
 }
 
+/// The same of a map in chunks.
+fn chunked_len_or_error(alloc: Global, form: Form, value: &Value) -> Result<String, Fail> {
+    match chunked::RangeMap::from_value(alloc, form, value, read_number, read_number) {
+        Ok(map) => debug_text(alloc, &map.len()),
+        Err(error) => debug_text(alloc, &error),
+    }
+}
+
 /// Compares what a value is read to in either form.
 fn check_read(alloc: Global, value: &Value, answer: &str) -> Result<(), Fail> {
     for form in [Form::Any, Form::Canonical] {
         let found = len_or_error(alloc, form, value)?;
         check_same(found.as_str(), answer)?;
+    }
+    Ok(())
+}
+
+// In chunks as well, of which it fills 40.
+#[test]
+fn a_long_list_is_read_into_chunks(rt: HostRuntime) -> Result<(), Fail> {
+    let value = spread(rt.alloc(), 20_000)?;
+    for form in [Form::Any, Form::Canonical] {
+        let found = chunked_len_or_error(rt.alloc(), form, &value)?;
+        check_same(found.as_str(), "20000")?;
     }
     Ok(())
 }

@@ -3,13 +3,17 @@
 use super::{Fault, InJson, check_rows, read_number, read_text, write_number, write_text};
 use rangemap::map::Map;
 use rangemap::{Form, RangeInclusiveMap, RangeMap, ReadError, WriteError, tree_map};
+use rangemap_core::closed::Closed;
+use rangemap_core::half_open::HalfOpen;
 use rangemap_core::key_range::KeyRange;
 use rangemap_core::kind::OwnSteps;
 use rangemap_core::store::Store;
 use serde_json::Value;
 use std::alloc::Global;
 use std::fmt::Debug;
+use std::ops::{Range, RangeInclusive};
 use std::test::Fail;
+use tests_support::ChunkedMap;
 
 impl<S: Store<Value = String, Alloc = Global, Range: KeyRange<Key = u32> + Debug> + Drop> InJson
     for Map<S>
@@ -25,10 +29,18 @@ where
     }
 }
 
-/// Compares a table for maps of numbers to texts, in a sorted vector and in a tree.
+/// Compares a table for maps of numbers to texts, in a sorted vector, in a tree and in
+/// chunks.
 fn check_half_open(alloc: Global, table: &str) -> Result<(), Fail> {
     check_rows::<RangeMap<u32, String>>(alloc, table)?;
-    check_rows::<tree_map::RangeMap<u32, String>>(alloc, table)
+    check_rows::<tree_map::RangeMap<u32, String>>(alloc, table)?;
+    check_rows::<ChunkedMap<HalfOpen, Range<u32>, String, Global, 2>>(alloc, table)
+}
+
+/// Compares a table for maps over closed ranges, in a sorted vector and in chunks.
+fn check_closed(alloc: Global, table: &str) -> Result<(), Fail> {
+    check_rows::<RangeInclusiveMap<u32, String>>(alloc, table)?;
+    check_rows::<ChunkedMap<Closed<u32>, RangeInclusive<u32>, String, Global, 2>>(alloc, table)
 }
 
 #[test]
@@ -41,12 +53,16 @@ fn maps_are_written_and_read(rt: HostRuntime) -> Result<(), Fail> {
         written 0..10 a, 3..6 b | [[[0,3],"a"],[[3,6],"b"],[[6,10],"a"]]
         written 0..5 a, 7..9 ? | Caller(Unwritable)
 
+        written 12..14 d, 8..10 c, 4..6 b, 0..2 a | [[[0,2],"a"],[[4,6],"b"],[[8,10],"c"],[[12,14],"d"]]
+
         any [] | {}
+        any [[[12,14],"d"],[[8,10],"c"],[[4,6],"b"],[[0,2],"a"]] | {0..2: "a", 4..6: "b", 8..10: "c", 12..14: "d"}
         any [[[0,10],"a"],[[3,6],"b"]] | {0..3: "a", 3..6: "b", 6..10: "a"}
         any [[[5,10],"a"],[[0,5],"a"]] | {0..10: "a"}
         any [[[7,4294967295],"abc"]] | {7..4294967295: "abc"}
 
         canonical [] | {}
+        canonical [[[0,2],"a"],[[4,6],"b"],[[8,10],"c"],[[12,14],"d"]] | {0..2: "a", 4..6: "b", 8..10: "c", 12..14: "d"}
         canonical [[[0,5],"a"],[[6,10],"a"]] | {0..5: "a", 6..10: "a"}
         canonical [[[0,5],"a"],[[5,10],"b"]] | {0..5: "a", 5..10: "b"}
         "#,
@@ -81,13 +97,15 @@ fn damaged_values_are_refused(rt: HostRuntime) -> Result<(), Fail> {
         canonical [[[5,6],"a"],[[0,1],"b"]] | OutOfOrder { at: 1 }
         canonical [[[0,5],"a"],[[0,5],"a"]] | OutOfOrder { at: 1 }
         canonical [[[0,5],"a"],[[5,10],"a"]] | Uncoalesced { at: 1 }
+        canonical [[[0,2],"a"],[[4,6],"b"],[[6,10],"b"]] | Uncoalesced { at: 2 }
+        canonical [[[0,2],"a"],[[4,6],"b"],[[5,10],"b"]] | OutOfOrder { at: 2 }
         "#,
     )
 }
 
 #[test]
 fn closed_maps_are_written_and_read(rt: HostRuntime) -> Result<(), Fail> {
-    check_rows::<RangeInclusiveMap<u32, String>>(
+    check_closed(
         rt.alloc(),
         r#"
         written | []

@@ -12,13 +12,19 @@ use rangemap_sorted::SortedVec;
 use std::alloc::Global;
 use std::ops::{Range, RangeInclusive};
 use std::test::Fail;
-use tests_support::{FromEnds, InRows, check_row, check_that, made_of};
+use tests_support::{ChunkedMap, ChunkedSet, FromEnds, InRows, check_row, check_that, made_of};
 
 /// A map of numbers in a sorted vector.
 type Numbers<Q, R> = Map<SortedVec<Q, R, u32, Global>>;
 
 /// A set of numbers in a sorted vector.
 type Ranges<Q, R> = Set<SortedVec<Q, R, (), Global>>;
+
+/// A map of numbers in chunks of up to two pairs.
+type ChunkedNumbers<Q, R> = ChunkedMap<Q, R, u32, Global, 2>;
+
+/// A set of numbers in chunks of up to two ranges.
+type ChunkedRanges<Q, R> = ChunkedSet<Q, R, Global, 2>;
 
 /// Reads a map again in either form, and makes one again of its pairs.
 fn check_map<Q: OwnSteps<R>, R: FromEnds<Key = u32>>(
@@ -69,6 +75,55 @@ fn check_set<Q: OwnSteps<R>, R: FromEnds<Key = u32>>(
     check_row(&again, ranges)
 }
 
+/// Reads a map in chunks again in either form, and makes one again of its pairs.
+fn check_chunked_map<Q: OwnSteps<R>, R: FromEnds<Key = u32>>(
+    alloc: Global,
+    inserted: &str,
+    pairs: &str,
+) -> Result<(), Fail> {
+    let map: ChunkedNumbers<Q, R> = made_of(alloc, inserted)?;
+    for form in [Form::Any, Form::Canonical] {
+        let answer = round_trips::reading_what_was_written_is_equal(
+            alloc,
+            alloc,
+            form,
+            &map,
+            (write_number, write_number),
+            (read_number, read_number),
+        );
+        let Ok((_, again)) = answer else {
+            return Err(Fail::new("a map was not read again"));
+        };
+        check_again::<ChunkedNumbers<Q, R>>(&map, &again, pairs)?;
+    }
+    let again: ChunkedNumbers<Q, R> = round_trips::from_iter_of_into_iter_is_equal(alloc, map)?;
+    check_row(&again, pairs)
+}
+
+/// The same of a set.
+fn check_chunked_set<Q: OwnSteps<R>, R: FromEnds<Key = u32>>(
+    alloc: Global,
+    ranges: &str,
+) -> Result<(), Fail> {
+    let set: ChunkedRanges<Q, R> = made_of(alloc, ranges)?;
+    for form in [Form::Any, Form::Canonical] {
+        let answer = set_round_trips::reading_what_was_written_is_equal(
+            alloc,
+            alloc,
+            form,
+            &set,
+            write_number,
+            read_number,
+        );
+        let Ok((_, again)) = answer else {
+            return Err(Fail::new("a set was not read again"));
+        };
+        check_again::<ChunkedRanges<Q, R>>(&set, &again, ranges)?;
+    }
+    let again: ChunkedRanges<Q, R> = set_round_trips::from_iter_of_into_iter_is_equal(alloc, set)?;
+    check_row(&again, ranges)
+}
+
 /// Compares a container that was made again with the one that it was made of, and with its pairs.
 fn check_again<M: InRows>(made: &M, again: &M, pairs: &str) -> Result<(), Fail> {
     check_that(again == made, "what was made again differs")?;
@@ -97,4 +152,28 @@ fn sets_are_made_again(rt: HostRuntime) -> Result<(), Fail> {
 #[test]
 fn closed_sets_are_made_again(rt: HostRuntime) -> Result<(), Fail> {
     check_set::<Closed<u32>, RangeInclusive<u32>>(rt.alloc(), "0..=3, 6..=10")
+}
+
+#[test]
+fn maps_in_chunks_are_made_again(rt: HostRuntime) -> Result<(), Fail> {
+    let pairs = "0..3 1, 3..6 2, 6..10 1, 12..14 4, 16..18 4";
+    check_chunked_map::<HalfOpen, Range<u32>>(
+        rt.alloc(),
+        "0..10 1, 3..6 2, 16..18 4, 12..14 4",
+        pairs,
+    )?;
+    check_chunked_map::<Closed<u32>, RangeInclusive<u32>>(
+        rt.alloc(),
+        "0..=9 1, 3..=5 2, 16..=17 4, 12..=13 4",
+        "0..=2 1, 3..=5 2, 6..=9 1, 12..=13 4, 16..=17 4",
+    )
+}
+
+#[test]
+fn sets_in_chunks_are_made_again(rt: HostRuntime) -> Result<(), Fail> {
+    check_chunked_set::<HalfOpen, Range<u32>>(rt.alloc(), "0..3, 6..10, 12..14, 16..18, 20..22")?;
+    check_chunked_set::<Closed<u32>, RangeInclusive<u32>>(
+        rt.alloc(),
+        "0..=3, 6..=10, 12..=14, 16..=18, 20..=22",
+    )
 }

@@ -3,13 +3,17 @@
 use super::{Fault, InJson, check_rows, read_number, write_number};
 use rangemap::range_set::Set;
 use rangemap::{Form, RangeInclusiveSet, RangeSet, ReadError, WriteError, tree_set};
+use rangemap_core::closed::Closed;
+use rangemap_core::half_open::HalfOpen;
 use rangemap_core::key_range::KeyRange;
 use rangemap_core::kind::OwnSteps;
 use rangemap_core::store::Store;
 use serde_json::Value;
 use std::alloc::Global;
 use std::fmt::Debug;
+use std::ops::{Range, RangeInclusive};
 use std::test::Fail;
+use tests_support::ChunkedSet;
 
 impl<S: Store<Value = (), Alloc = Global, Range: KeyRange<Key = u32> + Debug> + Drop> InJson
     for Set<S>
@@ -25,10 +29,17 @@ where
     }
 }
 
-/// Compares a table for sets of numbers, in a sorted vector and in a tree.
+/// Compares a table for sets of numbers, in a sorted vector, in a tree and in chunks.
 fn check_half_open(alloc: Global, table: &str) -> Result<(), Fail> {
     check_rows::<RangeSet<u32>>(alloc, table)?;
-    check_rows::<tree_set::RangeSet<u32>>(alloc, table)
+    check_rows::<tree_set::RangeSet<u32>>(alloc, table)?;
+    check_rows::<ChunkedSet<HalfOpen, Range<u32>, Global, 2>>(alloc, table)
+}
+
+/// Compares a table for sets over closed ranges, in a sorted vector and in chunks.
+fn check_closed(alloc: Global, table: &str) -> Result<(), Fail> {
+    check_rows::<RangeInclusiveSet<u32>>(alloc, table)?;
+    check_rows::<ChunkedSet<Closed<u32>, RangeInclusive<u32>, Global, 2>>(alloc, table)
 }
 
 #[test]
@@ -39,7 +50,10 @@ fn sets_are_written_and_read(rt: HostRuntime) -> Result<(), Fail> {
         written | []
         written 0..100, 200..300 | [[0,100],[200,300]]
 
+        written 12..14, 8..10, 4..6, 0..2 | [[0,2],[4,6],[8,10],[12,14]]
+
         any [] | {}
+        any [[12,14],[8,10],[4,6],[0,2]] | {0..2, 4..6, 8..10, 12..14}
         any [[0,10],[5,15]] | {0..15}
         any [[5,10],[0,5]] | {0..10}
         any [[20,30],[7,9]] | {7..9, 20..30}
@@ -66,7 +80,7 @@ fn sets_are_written_and_read(rt: HostRuntime) -> Result<(), Fail> {
 
 #[test]
 fn closed_sets_are_written_and_read(rt: HostRuntime) -> Result<(), Fail> {
-    check_rows::<RangeInclusiveSet<u32>>(
+    check_closed(
         rt.alloc(),
         "
         written | []

@@ -1,23 +1,44 @@
-//! Rows about sets that are made of ranges and of other sets.
+//! Rows about sets that are made of ranges and of other sets, in a sorted vector and in
+//! chunks.
 
+use rangemap::range_set::Set as SetOver;
 use rangemap::{RangeInclusiveSet, range_inclusive_set};
+use rangemap_chunked::Chunks;
+use rangemap_core::closed::Closed;
+use rangemap_core::store::Store;
+use rangemap_sorted::SortedVec;
+use std::alloc::Global;
+use std::ops::RangeInclusive;
 use std::test::Fail;
 use tests_support::check_text;
 
 /// A set of numbers.
 type Set = RangeInclusiveSet<u32>;
 
-#[test]
-fn ranges_are_inserted_in_order(rt: HostRuntime) -> Result<(), Fail> {
-    let mut set: Set = RangeInclusiveSet::from(rt.alloc(), [0..=4, 5..=8])?;
+/// Compares a set of two ranges that a chain extends, a clone made before, and one that a chain makes.
+fn check_made<S>(alloc: Global) -> Result<(), Fail>
+where
+    S: Store<Kind = Closed<u32>, Range = RangeInclusive<u32>, Value = (), Alloc = Global> + Drop,
+{
+    let mut set: SetOver<S> = SetOver::from(alloc, [0..=4, 5..=8])?;
     let copy = set.clone()?;
     set.extend((1u32..3).map(|i| 10 * i..=10 * i + 4))?;
-    let made = RangeInclusiveSet::from_iter(rt.alloc(), (0u32..3).map(|i| 10 * i..=10 * i + 4))?;
+    let made: SetOver<S> = SetOver::from_iter(alloc, (0u32..3).map(|i| 10 * i..=10 * i + 4))?;
+    let mut all = Vec::new(alloc);
+    all.push(set)?;
+    all.push(copy)?;
+    all.push(made)?;
     check_text(
-        rt.alloc(),
-        &[set, copy, made],
+        alloc,
+        &all,
         "[{0..=8, 10..=14, 20..=24}, {0..=8}, {0..=4, 10..=14, 20..=24}]",
     )
+}
+
+#[test]
+fn ranges_are_inserted_in_order(rt: HostRuntime) -> Result<(), Fail> {
+    check_made::<SortedVec<Closed<u32>, RangeInclusive<u32>, (), Global>>(rt.alloc())?;
+    check_made::<Chunks<Closed<u32>, RangeInclusive<u32>, (), Global, 2>>(rt.alloc())
 }
 
 #[test]

@@ -1,23 +1,44 @@
-//! Rows about sets that are made of ranges and of other sets.
+//! Rows about sets that are made of ranges and of other sets, in a sorted vector and in
+//! chunks.
 
+use rangemap::range_set::Set as SetOver;
 use rangemap::{RangeSet, range_set};
+use rangemap_chunked::Chunks;
+use rangemap_core::half_open::HalfOpen;
+use rangemap_core::store::Store;
+use rangemap_sorted::SortedVec;
+use std::alloc::Global;
+use std::ops::Range;
 use std::test::Fail;
 use tests_support::check_text;
 
 /// A set of numbers.
 type Set = RangeSet<u32>;
 
-#[test]
-fn ranges_are_inserted_in_order(rt: HostRuntime) -> Result<(), Fail> {
-    let mut set: Set = RangeSet::from(rt.alloc(), [0..5, 5..9])?;
+/// Compares a set of two ranges that a chain extends, a clone made before, and one that a chain makes.
+fn check_made<S>(alloc: Global) -> Result<(), Fail>
+where
+    S: Store<Kind = HalfOpen, Range = Range<u32>, Value = (), Alloc = Global> + Drop,
+{
+    let mut set: SetOver<S> = SetOver::from(alloc, [0..5, 5..9])?;
     let copy = set.clone()?;
     set.extend((1u32..3).map(|i| 10 * i..10 * i + 5))?;
-    let made = RangeSet::from_iter(rt.alloc(), (0u32..3).map(|i| 10 * i..10 * i + 5))?;
+    let made: SetOver<S> = SetOver::from_iter(alloc, (0u32..3).map(|i| 10 * i..10 * i + 5))?;
+    let mut all = Vec::new(alloc);
+    all.push(set)?;
+    all.push(copy)?;
+    all.push(made)?;
     check_text(
-        rt.alloc(),
-        &[set, copy, made],
+        alloc,
+        &all,
         "[{0..9, 10..15, 20..25}, {0..9}, {0..5, 10..15, 20..25}]",
     )
+}
+
+#[test]
+fn ranges_are_inserted_in_order(rt: HostRuntime) -> Result<(), Fail> {
+    check_made::<SortedVec<HalfOpen, Range<u32>, (), Global>>(rt.alloc())?;
+    check_made::<Chunks<HalfOpen, Range<u32>, (), Global, 2>>(rt.alloc())
 }
 
 #[test]

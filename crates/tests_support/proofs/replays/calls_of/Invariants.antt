@@ -1,5 +1,5 @@
 use Rattle.std.specs.List.{AllByRecursion}
-use Rattle.rangemap_replay.specs.Histories.{HasNonEmptyRanges}
+use Rattle.rangemap.specs.Histories.{HasNonEmptyRanges}
 use Rattle.tests_support.proofs.replays.calls_of.Given as goal
 
 abbrev pub invariant-loop-call : goal.invariant-loop-call

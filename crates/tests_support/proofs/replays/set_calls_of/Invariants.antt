@@ -1,5 +1,5 @@
 use Rattle.std.specs.List.{AllByRecursion}
-use Rattle.rangemap_replay.specs.SetHistories.{SetHasNonEmptyRanges}
+use Rattle.rangemap.specs.SetHistories.{SetHasNonEmptyRanges}
 use Rattle.tests_support.proofs.replays.set_calls_of.Given as goal
 
 abbrev pub invariant-loop-call : goal.invariant-loop-call

@@ -1,0 +1,82 @@
+//! A desk that guests share: who has it at which hour, on which days nobody has, and both as JSON.
+ghost use Rattle.std.specs.Ordering.{nat_cmp};
+ghost use Rattle.std.specs.Prelude.{◌<◌, ◌^◌, ◌≡◌, ◌↔◌, ◌≤◌, IfOk, IsTrue, count_by, nat_eq, true, ℕ};
+ghost use Rattle.rangemap.specs.Json.{IsForm, IsReading, map_reader, map_writer};
+ghost use Rattle.rangemap.specs.Ranges.{half_open, overlapped};
+ghost use Rattle.examples.specs.Desk.{is_closed, reads_number, writes_number};
+
+use rangemap::{Form, RangeInclusiveSet, RangeMap, ReadError, WriteError};
+use serde_json::Value;
+use std::alloc::Global;
+use std::ops::Range;
+
+/// A value that is no number of 32 bits.
+#[derive(Clone, Copy, Debug, PartialEq, Eq)]
+pub struct NotANumber;
+
+/// Returns how many bookings of a guest overlap some hours.
+pub fn bookings_of(sheet: &RangeMap<u32, u32>, hours: &Range<u32>, guest: u32) -> usize
+    ensures { result ≡ count_by (λ booking. nat_eq booking.1 guest) (overlapped (half_open nat_cmp) sheet.now hours.now) }
+{
+    let _stored = sheet.len();
+    let mut count = 0;
+    for (_, who) in sheet.overlapping(hours) {
+        if *who == guest {
+            count += 1;
+        }
+    }
+    count
+}
+
+/// Returns whether the house is closed on no day but those from `first` to `last`.
+pub fn is_closed_only_within(days: &RangeInclusiveSet<u32>, first: u32, last: u32) -> bool
+    ensures { IsTrue result ↔ ((day : ℕ) → day < 2 ^ 32 → is_closed days.now day ≡ true → (first ≤ day) × (day ≤ last)) }
+{
+    for range in days.iter() {
+        if *range.start() < first || *range.end() > last {
+            return false;
+        }
+    }
+    true
+}
+
+/// Returns a number as JSON.
+pub fn write_number(number: &u32) -> Result<Value, NotANumber>
+    ensures { writes_number number.now result }
+{
+    Ok(Value::from(*number))
+}
+
+/// Returns the number that a JSON value is.
+pub fn read_number(value: &Value) -> Result<u32, NotANumber>
+    ensures { reads_number value.now result }
+{
+    match value.as_u64() {
+        Some(number) if number <= 4_294_967_295 => Ok(number as u32),
+        _ => Err(NotANumber),
+    }
+}
+
+/// Returns the bookings as JSON, a list of `[[start, end], guest]`.
+pub fn to_json(alloc: Global, sheet: &RangeMap<u32, u32>) -> Result<Value, WriteError<NotANumber>>
+    ensures { IfOk result (IsForm (half_open nat_cmp) (map_writer writes_number writes_number) sheet.now) }
+{
+    sheet.to_value(
+        alloc,
+        |hour| write_number(hour),
+        |guest| write_number(guest),
+    )
+}
+
+/// Returns the bookings that a JSON value holds, whose entries are in order and joined.
+pub fn from_json(alloc: Global, value: &Value) -> Result<RangeMap<u32, u32>, ReadError<NotANumber>>
+    ensures { IfOk result (IsReading (half_open nat_cmp) (map_reader reads_number reads_number) nat_eq Form.Canonical value.now) }
+{
+    RangeMap::from_value(
+        alloc,
+        Form::Canonical,
+        value,
+        |hour| read_number(hour),
+        |guest| read_number(guest),
+    )
+}

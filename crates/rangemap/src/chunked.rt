@@ -1,0 +1,138 @@
+//! The containers that keep their ranges in chunks, for many thousands of ranges that change at
+//! random places: the maps and the sets over half-open and closed ranges, and the runs of any calls
+//! that make or change them.
+//!
+//! They have every call that the containers in a sorted vector have, with the same contracts. Each
+//! chunk owns a handle of the allocator, so `A` has to be one that can be cloned, as in std's B-tree.
+
+use crate::range_set::{Set, calls as set_calls};
+use rangemap_chunked::chunks::{Chunks, SIZE};
+use rangemap_chunked::{into_iter, iter, overlapping};
+use rangemap_core::closed::Closed;
+use rangemap_core::gaps;
+use rangemap_core::half_open::HalfOpen;
+pub use rangemap_maps::range_map::Map;
+use rangemap_maps::range_map::calls as map_calls;
+use rangemap_replay::calls;
+pub use rangemap_replay::replay::{replay, replay as replay_with_step_fns};
+use rangemap_unions::{self as unions, IntoRanges, Ranges};
+use std::alloc::Global;
+use std::ops::{Range, RangeInclusive};
+
+/// A map of disjoint half-open ranges, `a..b`, to values, in chunks.
+///
+/// It has the calls that stand at `map::RangeMap`, each described, with its contract, at `Map`.
+pub type RangeMap<K, V, A = Global> = Map<Chunks<HalfOpen, Range<K>, V, A, SIZE>>;
+
+/// A map of disjoint closed ranges, `a..=b`, to values, in chunks. `StepFnsT` is the type whose
+/// steps tell which of them touch, mostly `K` itself.
+///
+/// It has the calls that stand at `inclusive_map::RangeInclusiveMap`, each described, with its
+/// contract, at `Map`.
+pub type RangeInclusiveMap<K, V, StepFnsT = K, A = Global> = Map<
+    Chunks<Closed<StepFnsT>, RangeInclusive<K>, V, A, SIZE>,
+>;
+
+/// A set of keys in disjoint half-open ranges, `a..b`, in chunks.
+///
+/// It has the calls that stand at `set::RangeSet`, each described, with its contract, at `Set`.
+pub type RangeSet<T, A = Global> = Set<Chunks<HalfOpen, Range<T>, (), A, SIZE>>;
+
+/// A set of keys in disjoint closed ranges, `a..=b`, in chunks. `StepFnsT` is the type whose steps
+/// tell which of them touch, mostly `T` itself.
+///
+/// It has the calls that stand at `inclusive_set::RangeInclusiveSet`, each described, with its
+/// contract, at `Set`.
+pub type RangeInclusiveSet<T, StepFnsT = T, A = Global> = Set<
+    Chunks<Closed<StepFnsT>, RangeInclusive<T>, (), A, SIZE>,
+>;
+
+/// The pairs of a map over half-open ranges, in order and from both ends.
+pub type Iter<'a, K, V, A = Global> = iter::Iter<'a, Range<K>, V, A>;
+
+/// The pairs that such a map hands over, in order and from both ends.
+pub type IntoIter<K, V, A = Global> = into_iter::IntoIter<Range<K>, V, A>;
+
+/// The pairs of such a map that overlap a range, in order and from both ends.
+pub type Overlapping<'a, K, V, A = Global> = overlapping::Overlapping<'a, Range<K>, V, A>;
+
+/// The parts of a range that such a map does not cover, in order.
+pub type Gaps<'a, K, V, A = Global> = gaps::Gaps<'a, HalfOpen, Range<K>, Overlapping<'a, K, V, A>>;
+
+/// The pairs of a map over closed ranges, in order and from both ends.
+pub type InclusiveIter<'a, K, V, A = Global> = iter::Iter<'a, RangeInclusive<K>, V, A>;
+
+/// The pairs that such a map hands over, in order and from both ends.
+pub type InclusiveIntoIter<K, V, A = Global> = into_iter::IntoIter<RangeInclusive<K>, V, A>;
+
+/// The pairs of such a map that overlap a range, in order and from both ends.
+pub type InclusiveOverlapping<'a, K, V, A = Global> = overlapping::Overlapping<
+    'a,
+    RangeInclusive<K>,
+    V,
+    A,
+>;
+
+/// The parts of a range that such a map does not cover, in order.
+pub type InclusiveGaps<'a, K, V, StepFnsT = K, A = Global> = gaps::Gaps<
+    'a,
+    Closed<StepFnsT>,
+    RangeInclusive<K>,
+    InclusiveOverlapping<'a, K, V, A>,
+>;
+
+/// The ranges of a set over half-open ranges, in order and from both ends.
+pub type SetIter<'a, T, A = Global> = Ranges<Iter<'a, T, (), A>>;
+
+/// The ranges that such a set hands over, in order and from both ends.
+pub type SetIntoIter<T, A = Global> = IntoRanges<IntoIter<T, (), A>>;
+
+/// The ranges of such a set that overlap a range, in order and from both ends.
+pub type SetOverlapping<'a, T, A = Global> = Ranges<Overlapping<'a, T, (), A>>;
+
+/// The parts of a range that such a set does not cover, in order.
+pub type SetGaps<'a, T, A = Global> = Gaps<'a, T, (), A>;
+
+/// The ranges of two such sets, joined where they overlap, in order.
+pub type Union<'a, T, A = Global> = unions::Union<Iter<'a, T, (), A>>;
+
+/// The parts that two such sets have in common, in order.
+pub type Intersection<'a, T, A = Global> = unions::Intersection<Iter<'a, T, (), A>>;
+
+/// The ranges of a set over closed ranges, in order and from both ends.
+pub type InclusiveSetIter<'a, T, A = Global> = Ranges<InclusiveIter<'a, T, (), A>>;
+
+/// The ranges that such a set hands over, in order and from both ends.
+pub type InclusiveSetIntoIter<T, A = Global> = IntoRanges<InclusiveIntoIter<T, (), A>>;
+
+/// The ranges of such a set that overlap a range, in order and from both ends.
+pub type InclusiveSetOverlapping<'a, T, A = Global> = Ranges<InclusiveOverlapping<'a, T, (), A>>;
+
+/// The parts of a range that such a set does not cover, in order.
+pub type InclusiveSetGaps<'a, T, StepFnsT = T, A = Global> = InclusiveGaps<'a, T, (), StepFnsT, A>;
+
+/// The ranges of two such sets, joined where they overlap, in order.
+pub type InclusiveUnion<'a, T, A = Global> = unions::Union<InclusiveIter<'a, T, (), A>>;
+
+/// The parts that two such sets have in common, in order.
+pub type InclusiveIntersection<'a, T, A = Global> = unions::Intersection<
+    InclusiveIter<'a, T, (), A>,
+>;
+
+/// A call that makes a map over half-open ranges, or changes the one at a place of a list.
+pub type Call<K, V, A = Global> = map_calls::Call<Range<K>, V, A>;
+
+/// A call that every such map has, as a `Call` holds it.
+pub type Change<K, V> = calls::Change<Range<K>, V>;
+
+/// A call that makes a map over closed ranges, or changes the one at a place of a list.
+pub type InclusiveCall<K, V, A = Global> = map_calls::Call<RangeInclusive<K>, V, A>;
+
+/// A call that such a map over any steps has: those of `InclusiveCall` but the two that take pairs.
+pub type InclusiveChange<K, V> = calls::Change<RangeInclusive<K>, V>;
+
+/// A call that makes a set over half-open ranges, or changes the one at a place of a list.
+pub type SetCall<T, A = Global> = set_calls::SetCall<Range<T>, A>;
+
+/// A call that makes a set over closed ranges, or changes the one at a place of a list.
+pub type InclusiveSetCall<T, A = Global> = set_calls::SetCall<RangeInclusive<T>, A>;

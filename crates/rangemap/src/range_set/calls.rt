@@ -1,0 +1,108 @@
+//! Calls on a list of sets, as values, each made by the public call of the set at its place.
+ghost use Rattle.std.specs.Prelude.{◌≡◌, ◌+◌, ◌<◌, ◌≤◌, vec_len, vec_capacity};
+ghost use Rattle.rangemap.specs.Clones.{KeysCloneFaithfully};
+ghost use Rattle.rangemap.specs.Histories.{Makes};
+ghost use Rattle.rangemap.specs.Joined.{joining};
+ghost use Rattle.rangemap.specs.Ranges.{unit_eq, with_unit};
+ghost use Rattle.rangemap.specs.SetHistories.{SetStep};
+
+use super::Set;
+use crate::operator::Operator;
+use rangemap_core::key_range::KeyRange;
+use rangemap_core::kind::{Kind, OwnSteps};
+use rangemap_core::store::Store;
+use rangemap_replay::calls::Change;
+use rangemap_replay::replay::{CallOn, add};
+use std::alloc::Allocator;
+use std::vec::Vec;
+
+/// A call that makes a set or changes one, over ranges of type `R`. It names a set by its place in
+/// the list.
+#[derive(Drop)]
+pub enum SetCall<R, A: Allocator> {
+    /// Makes an empty set.
+    New,
+    /// Adds the keys of the range to the set at the place.
+    Insert { at: usize, range: R },
+    /// Takes the keys of the range out of the set at the place.
+    Remove { at: usize, range: R },
+    /// Empties the set at the place.
+    Clear { at: usize },
+    /// Makes a clone of the set at the place.
+    Clone { at: usize },
+    /// Makes a set of the ranges, inserted in order.
+    FromIter { ranges: Vec<R, A> },
+    /// Inserts the ranges, in order, into the set at the place.
+    Extend { at: usize, ranges: Vec<R, A> },
+    /// Makes the set of the keys of either of two sets.
+    Union { left: usize, right: usize },
+    /// Makes the set of the keys of both of two sets.
+    Intersection { left: usize, right: usize },
+}
+
+impl<S: Store<Value = ()> + Drop> CallOn<Set<S>> for SetCall<S::Range, S::Alloc>
+where
+    S::Alloc: Clone,
+    S::Kind: OwnSteps<S::Range>,
+{
+    ghost use Rattle.rangemap.specs.SetHistories.{SetHasNonEmptyRanges, SetStep};
+
+    ghost has_non_empty = { SetHasNonEmptyRanges S.Kind.kind };
+
+    ghost step = { SetStep S.Kind.kind };
+
+    fn make(self, alloc: S::Alloc, sets: &mut Vec<Set<S>, S::Alloc>) -> bool {
+        match self {
+            SetCall::New => add(sets, Ok(Set::new(alloc))),
+            SetCall::Insert { at, range } => Change::Insert {
+                at,
+                range,
+                value: (),
+            }
+            .make(alloc, sets),
+            SetCall::Remove { at, range } => Change::Remove { at, range }.make(alloc, sets),
+            SetCall::Clear { at } => Change::Clear { at }.make(alloc, sets),
+            SetCall::Clone { at } => Change::Clone { at }.make(alloc, sets),
+            SetCall::FromIter { ranges } => add(sets, Set::from_iter(alloc, ranges)),
+            SetCall::Extend { at, ranges } => match sets.get_mut(at) {
+                Some(set) => set.extend(ranges).is_ok(),
+                None => false,
+            },
+            SetCall::Union { left, right } => add_joined(&Operator::Union, sets, left, right),
+            SetCall::Intersection { left, right } => add_joined(
+                &Operator::Intersection,
+                sets,
+                left,
+                right,
+            ),
+        }
+    }
+}
+
+fn add_joined<S: Store<Value = ()> + Drop>(
+    operator: &Operator,
+    sets: &mut Vec<Set<S>, S::Alloc>,
+    left: usize,
+    right: usize,
+) -> bool
+where
+    S::Alloc: Clone,
+    S::Kind: OwnSteps<S::Range>,
+    requires room { vec_len sets.old < vec_capacity sets.old }
+    requires faithful_keys { KeysCloneFaithfully S.Range.Key.is_clone S.Range.Key.cmp }
+    ensures made { Makes S.Kind.kind (unit_eq S.Kind.kind) (with_unit S.Kind.kind) (SetStep {A = S.Alloc} S.Kind.kind) sets.old.items (joining operator.now left right) result sets.new.items }
+    ensures len { vec_len sets.new ≤ vec_len sets.old + 1 }
+    ensures capacity { vec_capacity sets.old ≤ vec_capacity sets.new }
+{
+    let Some(first) = sets.get(left) else {
+        return false;
+    };
+    let Some(second) = sets.get(right) else {
+        return false;
+    };
+    let Ok(set) = operator.join(first, second) else {
+        return false;
+    };
+    sets.push_reserved(set);
+    true
+}

@@ -1,0 +1,15 @@
+pub mod CutLemmas
+pub mod MoveLemmas
+pub mod BorderLemmas
+pub mod ChangeLemmas
+pub mod ChunkLemmas
+pub mod StoreLemmas
+pub mod GatherLemmas
+pub mod MeetLemmas
+pub mod OverlapLemmas
+pub mod CloneLemmas
+pub mod WideLemmas
+pub mod OverLemmas
+pub mod TouchLemmas
+pub mod HalvesLemmas
+pub mod PeekLemmas

@@ -1,0 +1,143 @@
+-- Which pairs of a list in chunks a query meets: some of the chunk where it starts, all of those behind it, and some of the last.
+use Rattle.std.proofs.Common.{arith, ◌≡◌, ℕ, suc, ◌+◌, ◌-◌, ◌<◌, ◌≤◌, Bool, true, false, ◌&&◌, cond, List, [], ◌∷◌, ◌++◌, length, take, drop, get_or, Option, Some, refl, sym, ap, ◌∙◌, subst, append-nil, length-drop, add-one, Less, is_lt, is_gt}
+use Rattle.std.proofs.lemmas.List.{drop-drop, get_or-drop}
+use Rattle.std.proofs.lemmas.List.Elements.{filter-append}
+use Rattle.std.specs.List.{AllWithin, filter}
+use Rattle.std.specs.Cmp.{IsTotalOrder, IsEquivalence}
+use Rattle.rangemap_core.specs.Ranges.{RangeKind, IsStorable, overlapped}
+use Rattle.rangemap_core.specs.engine.Endpoints.{IsAsked, IsPlaced, EndpointOf}
+use Rattle.rangemap_core.specs.engine.Places.{place_cmp}
+use Rattle.rangemap_core.specs.engine.Shape.{IsSpaced}
+use Rattle.rangemap_core.specs.engine.Stretch.{Every}
+use Rattle.rangemap_core.proofs.ListLemmas.{Every-right, IsSpaced-right}
+use Rattle.rangemap_core.proofs.PlaceLemmas.{S, places}
+use Rattle.rangemap_core.proofs.PlaceOrderLemmas.{le_lt_trans, less_from, lt_le_trans}
+use Rattle.rangemap_core.proofs.SearchLemmas.{Every-at}
+use Rattle.rangemap_core.proofs.StoredLemmas.{all_storable}
+use Rattle.rangemap_chunked.specs.Chunks.{IsClearBefore, AreChunks, IsPastBehind, IsPastStart, chunk_below, starts_below, whole}
+use Rattle.rangemap_chunked.proofs.BorderLemmas.{Every-left, Every-zip}
+use Rattle.rangemap_chunked.proofs.ChunkLemmas.{Every-further, before_first, filled_is, passed_first, spaced_whole, whole_around}
+
+and_false : (b : Bool) → (b && false) ≡ false
+and_false true = refl
+and_false false = refl
+
+filter_all : {Y : Type 0} (f : Y → Bool) (ys : List Y) → Every (λ y. f y ≡ true) ys → filter f ys ≡ ys
+filter_all f [] h = refl
+filter_all f (y ∷ ys) h = ap (λ b. cond b (y ∷ filter f ys) (filter f ys)) h.0 ∙ ap (λ zs. y ∷ zs) (filter_all f ys h.1)
+
+module _ {K X : Type 0} (k : RangeKind K X) {V : Type 0} (q : X) where
+  overlapped_append : (xs ys : List (X × V)) → overlapped k (xs ++ ys) q ≡ overlapped k xs q ++ overlapped k ys q
+  overlapped_append xs ys = filter-append (λ (a : X × V). k.meets q a.0) xs ys
+
+module _ {K X : Type 0} {k : RangeKind K X} {end_place : X → Option K} {chunk : EndpointOf X → EndpointOf X → X} (p : IsPlaced k end_place chunk) {V : Type 0} {eq : V → V → Bool} (e : IsEquivalence eq) (q : X) (q_asked : IsAsked k q)
+    (chunks : List (List (X × V))) (h : AreChunks k eq chunks) (at end : ℕ) (here : at < length chunks) (bound : end ≤ length chunks) (clear : IsClearBefore (S p eq) chunks q at) (behind : IsPastBehind (S p eq) chunks q end) where
+  o : IsTotalOrder (place_cmp k.cmp)
+  o = places p eq
+
+  -- pairs that end before the query starts
+  before_missed : (xs : List (X × V)) → Every (λ a. IsStorable k a.0) xs → Every (λ a. place_cmp k.cmp (end_place a.0) (Some (k.start q)) ≡ Less) xs → overlapped k xs q ≡ []
+  before_missed [] st m = refl
+  before_missed (a ∷ xs) st m =
+      let late : is_lt (place_cmp k.cmp (Some (k.start q)) (end_place a.0)) ≡ false = grind (arith, m.0, o.antisymm (Some (k.start q)) (end_place a.0)) in
+      ap (λ b. cond b (a ∷ overlapped k xs q) (overlapped k xs q)) (p.meets q a.0 q_asked st.0 ∙ ap (λ b. b && is_lt (place_cmp k.cmp (Some (k.start a.0)) (end_place q))) late) ∙ before_missed xs st.1 m.1
+
+  -- pairs that start where it ends, or behind
+  behind_missed : (xs : List (X × V)) → Every (λ a. IsStorable k a.0) xs → Every (λ a. is_gt (place_cmp k.cmp (end_place q) (Some (k.start a.0))) ≡ false) xs → overlapped k xs q ≡ []
+  behind_missed [] st m = refl
+  behind_missed (a ∷ xs) st m =
+      let late : is_lt (place_cmp k.cmp (Some (k.start a.0)) (end_place q)) ≡ false = grind (arith, m.0, o.antisymm (Some (k.start a.0)) (end_place q)) in
+      ap (λ b. cond b (a ∷ overlapped k xs q) (overlapped k xs q)) (p.meets q a.0 q_asked st.0 ∙ ap (λ b. is_lt (place_cmp k.cmp (Some (k.start q)) (end_place a.0)) && b) late ∙ and_false _) ∙ behind_missed xs st.1 m.1
+
+  stored : Every (λ a. IsStorable k a.0) (whole chunks)
+  stored = all_storable k eq (whole chunks) h.canonical
+
+  first : List (X × V)
+  first = get_or chunks at []
+
+  tail : List (List (X × V))
+  tail = drop (suc at) chunks
+
+  stored_around : Every (λ a. IsStorable k a.0) (whole (take at chunks) ++ (get_or chunks at [] ++ whole (drop (suc at) chunks)))
+  stored_around = subst (Every (λ a. IsStorable k a.0)) (whole_around chunks at [] here) stored
+
+  stored_tail : Every (λ a. IsStorable k a.0) (whole (drop (suc at) chunks))
+  stored_tail = Every-right (λ (a : X × V). IsStorable k a.0) (get_or chunks at []) (whole (drop (suc at) chunks)) (Every-right (λ (a : X × V). IsStorable k a.0) (whole (take at chunks)) (get_or chunks at [] ++ whole (drop (suc at) chunks)) stored_around)
+
+  from_first : overlapped k (whole chunks) q ≡ overlapped k (get_or chunks at []) q ++ overlapped k (whole (drop (suc at) chunks)) q
+  from_first =
+      ap (λ xs. overlapped k xs q) (whole_around chunks at [] here) ∙ overlapped_append k q (whole (take at chunks)) (get_or chunks at [] ++ whole (drop (suc at) chunks))
+      ∙ ap (λ xs. xs ++ overlapped k (get_or chunks at [] ++ whole (drop (suc at) chunks)) q) (before_missed (whole (take at chunks)) (Every-left (λ (a : X × V). IsStorable k a.0) (whole (take at chunks)) (get_or chunks at [] ++ whole (drop (suc at) chunks)) stored_around) clear)
+      ∙ overlapped_append k q (get_or chunks at []) (whole (drop (suc at) chunks))
+
+  -- where the query ends in the chunk where it starts
+  pub met_alone : end ≤ at + 1 → overlapped k (whole chunks) q ≡ overlapped k (get_or chunks at []) q
+  met_alone le =
+      let past : IsPastBehind (S p eq) chunks q (suc at) = Every-further (λ (b : X × V). is_gt (place_cmp k.cmp (end_place q) (Some (k.start b.0))) ≡ false) chunks end (suc at) (omega arith) behind in
+      from_first ∙ ap (λ xs. overlapped k (get_or chunks at []) q ++ xs) (behind_missed (whole (drop (suc at) chunks)) stored_tail past) ∙ append-nil (overlapped k (get_or chunks at []) q)
+
+  -- and where it ends in a later one
+  module _ (last : ℕ) (is : end ≡ suc last) (more : at + 1 ≤ last) (past : IsPastStart (S p eq) chunks q (at + 1)) (begun : AllWithin (λ xs. chunk_below (S p eq) (end_place q) xs ≡ true) chunks 0 end) where
+    m : ℕ
+    m = last - (at + 1)
+
+    in_tail : last - (at + 1) < length (drop (suc at) chunks)
+    in_tail = omega (arith, length-drop (suc at) chunks)
+
+    at_last : get_or (drop (suc at) chunks) (last - (at + 1)) [] ≡ get_or chunks last []
+    at_last = let place : suc at + (last - (at + 1)) ≡ last = omega arith in get_or-drop (suc at) chunks (last - (at + 1)) [] ∙ ap (λ n. get_or chunks n []) place
+
+    behind_last : drop (suc (last - (at + 1))) (drop (suc at) chunks) ≡ drop end chunks
+    behind_last = let place : suc at + suc (last - (at + 1)) ≡ end = omega arith in drop-drop (suc (last - (at + 1))) (suc at) chunks ∙ ap (λ n. drop n chunks) place
+
+    mid : List (List (X × V))
+    mid = take (last - (at + 1)) (drop (suc at) chunks)
+
+    whole_tail : whole (drop (suc at) chunks) ≡ whole (take (last - (at + 1)) (drop (suc at) chunks)) ++ (get_or chunks last [] ++ whole (drop end chunks))
+    whole_tail = whole_around (drop (suc at) chunks) (last - (at + 1)) [] in_tail ∙ (λ i. whole (take (last - (at + 1)) (drop (suc at) chunks)) ++ (at_last i ++ whole (behind_last i)))
+
+    stored_parts : Every (λ a. IsStorable k a.0) (whole (take (last - (at + 1)) (drop (suc at) chunks)) ++ (get_or chunks last [] ++ whole (drop end chunks)))
+    stored_parts = subst (Every (λ a. IsStorable k a.0)) whole_tail stored_tail
+
+    past_mid : Every (λ (b : X × V). is_gt (place_cmp k.cmp (Some (k.start q)) (Some (k.start b.0))) ≡ false) (whole (take (last - (at + 1)) (drop (suc at) chunks)))
+    past_mid = Every-left (λ (b : X × V). is_gt (place_cmp k.cmp (Some (k.start q)) (Some (k.start b.0))) ≡ false) (whole (take (last - (at + 1)) (drop (suc at) chunks))) (get_or chunks last [] ++ whole (drop end chunks))
+        (subst (Every (λ (b : X × V). is_gt (place_cmp k.cmp (Some (k.start q)) (Some (k.start b.0))) ≡ false)) whole_tail (subst (λ n. IsPastStart (S p eq) chunks q n) (add-one at) past))
+
+    spaced_tail : IsSpaced (S p eq) (whole (drop (suc at) chunks))
+    spaced_tail = IsSpaced-right (S p eq) o (get_or chunks at []) (whole (drop (suc at) chunks)) (IsSpaced-right (S p eq) o (whole (take at chunks)) (get_or chunks at [] ++ whole (drop (suc at) chunks)) (subst (IsSpaced (S p eq)) (whole_around chunks at [] here) (spaced_whole p e chunks h)))
+
+    first_of_last : (a : X × V) × (rest : List (X × V)) × (get_or chunks last [] ≡ a ∷ rest)
+    first_of_last = filled_is (get_or chunks last []) (Every-at (λ (xs : List (X × V)). 0 < length xs) chunks h.filled last [] (omega arith))
+
+    starts_before : Every (λ (a : X × V). place_cmp k.cmp (Some (k.start a.0)) (end_place q) ≡ Less) (whole (take (last - (at + 1)) (drop (suc at) chunks)))
+    starts_before =
+        let b = first_of_last in
+        let below : place_cmp k.cmp (Some (k.start b.0.0)) (end_place q) ≡ Less = less_from _ (passed_first (starts_below (S p eq) (end_place q)) (get_or chunks last []) b.0 b.1 true b.2 (begun last [] (omega arith) (omega arith))) in
+        Every-zip (λ (a : X × V). is_gt (place_cmp k.cmp (end_place a.0) (Some (k.start b.0.0))) ≡ false) (λ (a : X × V). IsStorable k a.0) (λ (a : X × V). place_cmp k.cmp (Some (k.start a.0)) (end_place q) ≡ Less) (whole (take (last - (at + 1)) (drop (suc at) chunks)))
+        (λ a apart st. o.trans (Some (k.start a.0)) (Some (k.start b.0.0)) (end_place q) (lt_le_trans o (Some (k.start a.0)) (end_place a.0) (Some (k.start b.0.0)) (p.non_empty a.0 st) apart) below)
+        (before_first (S p eq) o e (drop (suc at) chunks) spaced_tail (last - (at + 1)) [] in_tail b.0 b.1 (at_last ∙ b.2))
+        (Every-left (λ (a : X × V). IsStorable k a.0) (whole (take (last - (at + 1)) (drop (suc at) chunks))) (get_or chunks last [] ++ whole (drop end chunks)) stored_parts)
+
+    all_meet : Every (λ (a : X × V). k.meets q a.0 ≡ true) (whole (take (last - (at + 1)) (drop (suc at) chunks)))
+    all_meet =
+        Every-zip (λ (a : X × V). IsStorable k a.0) (λ (a : X × V). (is_gt (place_cmp k.cmp (Some (k.start q)) (Some (k.start a.0))) ≡ false) × (place_cmp k.cmp (Some (k.start a.0)) (end_place q) ≡ Less)) (λ (a : X × V). k.meets q a.0 ≡ true) (whole (take (last - (at + 1)) (drop (suc at) chunks)))
+        (λ a st both.
+        let above : place_cmp k.cmp (Some (k.start q)) (end_place a.0) ≡ Less = le_lt_trans o (Some (k.start q)) (Some (k.start a.0)) (end_place a.0) both.0 (p.non_empty a.0 st) in
+        p.meets q a.0 q_asked st ∙ (λ i. is_lt (above i) && is_lt (both.1 i)))
+        (Every-left (λ (a : X × V). IsStorable k a.0) (whole (take (last - (at + 1)) (drop (suc at) chunks))) (get_or chunks last [] ++ whole (drop end chunks)) stored_parts)
+        (Every-zip (λ (a : X × V). is_gt (place_cmp k.cmp (Some (k.start q)) (Some (k.start a.0))) ≡ false) (λ (a : X × V). place_cmp k.cmp (Some (k.start a.0)) (end_place q) ≡ Less) (λ (a : X × V). (is_gt (place_cmp k.cmp (Some (k.start q)) (Some (k.start a.0))) ≡ false) × (place_cmp k.cmp (Some (k.start a.0)) (end_place q) ≡ Less)) (whole (take (last - (at + 1)) (drop (suc at) chunks))) (λ a s t. (s, t)) past_mid starts_before)
+
+    stored_last : Every (λ a. IsStorable k a.0) (get_or chunks last [] ++ whole (drop end chunks))
+    stored_last = Every-right (λ (a : X × V). IsStorable k a.0) (whole (take (last - (at + 1)) (drop (suc at) chunks))) (get_or chunks last [] ++ whole (drop end chunks)) stored_parts
+
+    met_tail : overlapped k (whole (drop (suc at) chunks)) q ≡ whole (take (last - (at + 1)) (drop (suc at) chunks)) ++ overlapped k (get_or chunks last []) q
+    met_tail =
+        ap (λ xs. overlapped k xs q) whole_tail ∙ overlapped_append k q (whole (take (last - (at + 1)) (drop (suc at) chunks))) (get_or chunks last [] ++ whole (drop end chunks))
+        ∙ ap (λ xs. xs ++ overlapped k (get_or chunks last [] ++ whole (drop end chunks)) q) (filter_all (λ (a : X × V). k.meets q a.0) (whole (take (last - (at + 1)) (drop (suc at) chunks))) all_meet)
+        ∙ ap (λ xs. whole (take (last - (at + 1)) (drop (suc at) chunks)) ++ xs)
+        (overlapped_append k q (get_or chunks last []) (whole (drop end chunks))
+        ∙ ap (λ xs. overlapped k (get_or chunks last []) q ++ xs) (behind_missed (whole (drop end chunks)) (Every-right (λ (a : X × V). IsStorable k a.0) (get_or chunks last []) (whole (drop end chunks)) stored_last) behind)
+        ∙ append-nil (overlapped k (get_or chunks last []) q))
+
+    pub met_over : overlapped k (whole chunks) q ≡ overlapped k (get_or chunks at []) q ++ (whole (take (last - (at + 1)) (drop (at + 1) chunks)) ++ overlapped k (get_or chunks last []) q)
+    met_over = from_first ∙ ap (λ xs. overlapped k (get_or chunks at []) q ++ xs) (met_tail ∙ ap (λ n. whole (take (last - (at + 1)) (drop n chunks)) ++ overlapped k (get_or chunks last []) q) (sym (add-one at)))

@@ -1,0 +1,12 @@
+use Rattle.std.proofs.Common.{◌∙◌, List, ap, subst, sym}
+use Rattle.std.specs.Prelude.{slice_get}
+use Rattle.rangemap_chunked.specs.Chunks.{AreFilled, whole}
+use Rattle.rangemap_chunked.proofs.PeekLemmas.{first_pair}
+use Rattle.rangemap_chunked.proofs.chunks.ChunksStore.first.Goals as goal
+
+pub returns : goal.returns
+returns g c =
+    let item = c.in_ok-chunk.ensures.item in
+    c.first-2.ensures
+    ∙ first_pair c.deref.result.now c.in_ok-chunk.chunk.now item.3.0 (subst (λ (ps : List (List (g.row.R.Denot × g.row.V.Denot))). AreFilled ps) (sym c.deref.ensures.value) c.self.invariant.0.filled) item.1
+    ∙ ap (λ (ps : List (g.row.R.Denot × g.row.V.Denot)). slice_get ps 0) (ap (λ (ps : List (List (g.row.R.Denot × g.row.V.Denot))). whole ps) c.deref.ensures.value ∙ c.self.view_is)

@@ -1,0 +1,240 @@
+use Rattle.std.proofs.Common.{arith, ◌≡◌, ◌∙◌, ◌+◌, ◌-◌, ◌<◌, ◌++◌, [], List, ap, drop, get_or, length, refl, subst, suc, sym, take}
+use Rattle.std.specs.Option.{IfSome}
+use Rattle.std.proofs.Math.ListN.{set}
+use Rattle.std.proofs.lemmas.List.{get_or_default}
+use Rattle.rangemap_core.specs.Ranges.{IsCanonical, IsCanonOf, IsStorable, value_at}
+use Rattle.rangemap_core.proofs.PlaceLemmas.{S}
+use Rattle.rangemap_core.proofs.SearchLemmas.{Every-at}
+use Rattle.rangemap_sorted.specs.Changes.{changed}
+use Rattle.rangemap_chunked.specs.Chunks.{AreFilled, IsClearBehind, IsLastTouched, IsPastBehind, whole}
+use Rattle.rangemap_chunked.proofs.CutLemmas.{canonical_chunk}
+use Rattle.rangemap_chunked.proofs.OverLemmas.{all_filled, changed_behind, changed_whole, count_less, count_more, kept_front, over_canonical, over_changed, set_length, sums}
+use Rattle.rangemap_chunked.proofs.StoreLemmas.{Every-drop_n, Every-take_n, changed_fills, if_some_weaker}
+use Rattle.rangemap_chunked.proofs.wide.change_over.Goals as goal
+
+pub last_touched-place-requires-clause-filled : goal.last_touched-place-requires-clause-filled
+last_touched-place-requires-clause-filled g c =
+    let xs = c.args.chunks.now.items in
+    subst (λ (ys : List (g.row.R.Denot × g.row.V.Denot)). 0 < length ys) (sym c.index.ensures) (Every-at (λ (ys : List (g.row.R.Denot × g.row.V.Denot)). 0 < length ys) xs c.requires.chunked.filled (c.args.end - 1) c.index.result.now (omega (arith, c.requires.several, c.requires.end)))
+
+pub last_touched-place-requires-clause-canonical : goal.last_touched-place-requires-clause-canonical
+last_touched-place-requires-clause-canonical g c =
+    let k = g.Q.Kind.kind in
+    let eq = g.V.PartialEq.eq in
+    subst (IsCanonical k eq) (sym c.index.ensures) (canonical_chunk k eq c.args.chunks.now.items c.requires.chunked.canonical (c.args.end - 1) c.index.result.now (omega (arith, c.requires.several, c.requires.end)))
+
+pub count-requires : goal.count-requires
+count-requires g c =
+    let xs = c.args.chunks.now.items in
+    let at = c.args.at in
+    let last = c.args.end - 1 in
+    let place = c.last_touched-place.result in
+    let order : at < last = omega (arith, c.requires.several) in
+    let l : last < length xs = omega (arith, c.requires.several, c.requires.end) in
+    let found : IsLastTouched (S g.met.Q.Kind.placed g.V.PartialEq.eq) c.args.range (get_or xs last []) place = subst (λ (ys : List (g.row.R.Denot × g.row.V.Denot)). IsLastTouched (S g.met.Q.Kind.placed g.V.PartialEq.eq) c.args.range ys place) (c.index.ensures ∙ get_or_default xs last c.index.result.now [] l) c.last_touched-place.ensures in
+    let less = count_less xs at last order l place found.in_bounds _ refl in
+    let same = ap (λ (ps : List (List (g.row.R.Denot × g.row.V.Denot))). length (whole (take (last - at) (drop at ps)))) c.deref.ensures.value in
+    omega (arith, less, same, c.requires.fits)
+
+pub overflow_add-before : goal.overflow_add-before
+overflow_add-before g c =
+    let xs = c.args.chunks.now.items in
+    let at = c.args.at in
+    let last = c.args.end - 1 in
+    let place = c.last_touched-place.result in
+    let order : at < last = omega (arith, c.requires.several) in
+    let l : last < length xs = omega (arith, c.requires.several, c.requires.end) in
+    let found : IsLastTouched (S g.met.Q.Kind.placed g.V.PartialEq.eq) c.args.range (get_or xs last []) place = subst (λ (ys : List (g.row.R.Denot × g.row.V.Denot)). IsLastTouched (S g.met.Q.Kind.placed g.V.PartialEq.eq) c.args.range ys place) (c.index.ensures ∙ get_or_default xs last c.index.result.now [] l) c.last_touched-place.ensures in
+    let n_is : c.count.result ≡ length (whole (take (last - at) (drop at xs))) = c.count.ensures ∙ ap (λ (ps : List (List (g.row.R.Denot × g.row.V.Denot))). length (whole (take (last - at) (drop at ps)))) c.deref.ensures.value in
+    let less = count_less xs at last order l place found.in_bounds c.count.result n_is in
+    omega (arith, less, c.requires.fits)
+
+pub overflow_add-before-2 : goal.overflow_add-before-2
+overflow_add-before-2 g c =
+    let xs = c.args.chunks.now.items in
+    let at = c.args.at in
+    let last = c.args.end - 1 in
+    let place = c.last_touched-place.result in
+    let order : at < last = omega (arith, c.requires.several) in
+    let l : last < length xs = omega (arith, c.requires.several, c.requires.end) in
+    let found : IsLastTouched (S g.met.Q.Kind.placed g.V.PartialEq.eq) c.args.range (get_or xs last []) place = subst (λ (ys : List (g.row.R.Denot × g.row.V.Denot)). IsLastTouched (S g.met.Q.Kind.placed g.V.PartialEq.eq) c.args.range ys place) (c.index.ensures ∙ get_or_default xs last c.index.result.now [] l) c.last_touched-place.ensures in
+    let n_is : c.count.result ≡ length (whole (take (last - at) (drop at xs))) = c.count.ensures ∙ ap (λ (ps : List (List (g.row.R.Denot × g.row.V.Denot))). length (whole (take (last - at) (drop at ps)))) c.deref.ensures.value in
+    let less = count_less xs at last order l place found.in_bounds c.count.result n_is in
+    omega (arith, less, c.requires.fits)
+
+pub change_between-requires-clause-canonical : goal.change_between-requires-clause-canonical
+change_between-requires-clause-canonical g c =
+    let xs = c.args.chunks.now.items in
+    let at = c.args.at in
+    let last = c.args.end - 1 in
+    let place = c.last_touched-place.result in
+    let order : at < last = omega (arith, c.requires.several) in
+    let l : last < length xs = omega (arith, c.requires.several, c.requires.end) in
+    let found : IsLastTouched (S g.met.Q.Kind.placed g.V.PartialEq.eq) c.args.range (get_or xs last []) place = subst (λ (ys : List (g.row.R.Denot × g.row.V.Denot)). IsLastTouched (S g.met.Q.Kind.placed g.V.PartialEq.eq) c.args.range ys place) (c.index.ensures ∙ get_or_default xs last c.index.result.now [] l) c.last_touched-place.ensures in
+    let stored : IsStorable g.Q.Kind.kind c.args.range = record { start_is_key = c.known_ends.ensures.start_is_key; end_is_key = c.known_ends.ensures.end_is_key; non_empty = c.requires.non_empty } in
+    over_canonical g.met.Q.Kind.placed g.met.V.Eq.laws xs c.requires.chunked c.args.range stored at last order l place found c.requires.past
+
+pub give_back_at-requires : goal.give_back_at-requires
+give_back_at-requires g c =
+    let xs = c.args.chunks.now.items in
+    let at = c.args.at in
+    let last = c.args.end - 1 in
+    let place = c.last_touched-place.result in
+    let order : at < last = omega (arith, c.requires.several) in
+    let l : last < length xs = omega (arith, c.requires.several, c.requires.end) in
+    let found : IsLastTouched (S g.met.Q.Kind.placed g.V.PartialEq.eq) c.args.range (get_or xs last []) place = subst (λ (ys : List (g.row.R.Denot × g.row.V.Denot)). IsLastTouched (S g.met.Q.Kind.placed g.V.PartialEq.eq) c.args.range ys place) (c.index.ensures ∙ get_or_default xs last c.index.result.now [] l) c.last_touched-place.ensures in
+    let new = get_or c.change_between.new.chunks.items at [] in
+    let rest = drop (place + 1) (get_or xs last []) in
+    let long = ap length c.in_ok-change_between.ensures.items ∙ set_length (set xs at new) last rest ∙ set_length xs at new in
+    omega (arith, long, l)
+
+pub drop_between-requires-clause-in_bounds : goal.drop_between-requires-clause-in_bounds
+drop_between-requires-clause-in_bounds g c =
+    let xs = c.args.chunks.now.items in
+    let at = c.args.at in
+    let last = c.args.end - 1 in
+    let place = c.last_touched-place.result in
+    let order : at < last = omega (arith, c.requires.several) in
+    let l : last < length xs = omega (arith, c.requires.several, c.requires.end) in
+    let found : IsLastTouched (S g.met.Q.Kind.placed g.V.PartialEq.eq) c.args.range (get_or xs last []) place = subst (λ (ys : List (g.row.R.Denot × g.row.V.Denot)). IsLastTouched (S g.met.Q.Kind.placed g.V.PartialEq.eq) c.args.range ys place) (c.index.ensures ∙ get_or_default xs last c.index.result.now [] l) c.last_touched-place.ensures in
+    let new = get_or c.change_between.new.chunks.items at [] in
+    let rest = drop (place + 1) (get_or xs last []) in
+    let items_is = c.give_back_at.ensures ∙ c.in_ok-change_between.ensures.items in
+    let long = ap length items_is ∙ set_length (set xs at new) last rest ∙ set_length xs at new in
+    omega (arith, long, l)
+
+pub returns-clause-ok : goal.returns-clause-ok
+returns-clause-ok g c =
+    let xs = c.args.chunks.now.items in
+    let at = c.args.at in
+    let last = c.args.end - 1 in
+    let place = c.last_touched-place.result in
+    let order : at < last = omega (arith, c.requires.several) in
+    let l : last < length xs = omega (arith, c.requires.several, c.requires.end) in
+    let found : IsLastTouched (S g.met.Q.Kind.placed g.V.PartialEq.eq) c.args.range (get_or xs last []) place = subst (λ (ys : List (g.row.R.Denot × g.row.V.Denot)). IsLastTouched (S g.met.Q.Kind.placed g.V.PartialEq.eq) c.args.range ys place) (c.index.ensures ∙ get_or_default xs last c.index.result.now [] l) c.last_touched-place.ensures in
+    let stored : IsStorable g.Q.Kind.kind c.args.range = record { start_is_key = c.known_ends.ensures.start_is_key; end_is_key = c.known_ends.ensures.end_is_key; non_empty = c.requires.non_empty } in
+    let next : c.args.end ≡ suc last = omega (arith, c.requires.several) in
+    let new = get_or c.change_between.new.chunks.items at [] in
+    let rest = drop (place + 1) (get_or xs last []) in
+    let items_is = c.give_back_at.ensures ∙ c.in_ok-change_between.ensures.items in
+    let whole_is = c.drop_between.ensures.whole ∙ (λ i. whole (take (at + 1) (items_is i)) ++ whole (drop last (items_is i))) ∙ changed_whole xs at last order l new rest in
+    let k = g.Q.Kind.kind in
+    let eq = g.V.PartialEq.eq in
+    subst (λ (ys : List (g.row.R.Denot × g.row.V.Denot)). IsCanonOf k eq (changed k (value_at k (whole xs)) c.args.range c.args.value) ys) (sym whole_is)
+    (over_changed g.met.Q.Kind.placed g.met.V.Eq.laws xs c.requires.chunked c.args.range stored at last order l place found c.requires.past c.requires.before new c.args.value c.in_ok-change_between.ensures.ok
+    (subst (λ n. IsPastBehind (S g.met.Q.Kind.placed eq) xs c.args.range n) next c.requires.behind)
+    (subst (λ n. IfSome c.args.value (λ _. IsClearBehind (S g.met.Q.Kind.placed eq) xs c.args.range n)) next c.requires.clear))
+
+pub returns-clause-filled : goal.returns-clause-filled
+returns-clause-filled g c =
+    let xs = c.args.chunks.now.items in
+    let at = c.args.at in
+    let last = c.args.end - 1 in
+    let place = c.last_touched-place.result in
+    let order : at < last = omega (arith, c.requires.several) in
+    let l : last < length xs = omega (arith, c.requires.several, c.requires.end) in
+    let found : IsLastTouched (S g.met.Q.Kind.placed g.V.PartialEq.eq) c.args.range (get_or xs last []) place = subst (λ (ys : List (g.row.R.Denot × g.row.V.Denot)). IsLastTouched (S g.met.Q.Kind.placed g.V.PartialEq.eq) c.args.range ys place) (c.index.ensures ∙ get_or_default xs last c.index.result.now [] l) c.last_touched-place.ensures in
+    let stored : IsStorable g.Q.Kind.kind c.args.range = record { start_is_key = c.known_ends.ensures.start_is_key; end_is_key = c.known_ends.ensures.end_is_key; non_empty = c.requires.non_empty } in
+    let new = get_or c.change_between.new.chunks.items at [] in
+    let rest = drop (place + 1) (get_or xs last []) in
+    let items_is = c.give_back_at.ensures ∙ c.in_ok-change_between.ensures.items in
+    let behind = c.drop_between.ensures.filled (subst AreFilled (sym (ap (drop (last + 1)) items_is ∙ changed_behind xs at last order l new rest)) (Every-drop_n _ (suc last) xs c.requires.chunked.filled)) in
+    let front_is = c.drop_between.ensures.before ∙ ap (take (at + 1)) items_is in
+    let fills = changed_fills g.met.Q.Kind.placed g.met.V.Eq.laws (value_at g.Q.Kind.kind (get_or xs at [] ++ take 1 (drop place (get_or xs last [])))) c.args.range c.args.value new stored c.in_ok-change_between.ensures.ok in
+    if_some_weaker c.args.value (all_filled xs at last order l new rest c.drop_between.new.chunks.items front_is c.requires.chunked.filled behind) fills
+
+pub returns-clause-filled_before : goal.returns-clause-filled_before
+returns-clause-filled_before g c =
+    let xs = c.args.chunks.now.items in
+    let at = c.args.at in
+    let last = c.args.end - 1 in
+    let place = c.last_touched-place.result in
+    let order : at < last = omega (arith, c.requires.several) in
+    let l : last < length xs = omega (arith, c.requires.several, c.requires.end) in
+    let found : IsLastTouched (S g.met.Q.Kind.placed g.V.PartialEq.eq) c.args.range (get_or xs last []) place = subst (λ (ys : List (g.row.R.Denot × g.row.V.Denot)). IsLastTouched (S g.met.Q.Kind.placed g.V.PartialEq.eq) c.args.range ys place) (c.index.ensures ∙ get_or_default xs last c.index.result.now [] l) c.last_touched-place.ensures in
+    let new = get_or c.change_between.new.chunks.items at [] in
+    let rest = drop (place + 1) (get_or xs last []) in
+    let items_is = c.give_back_at.ensures ∙ c.in_ok-change_between.ensures.items in
+    let front_is = c.drop_between.ensures.before ∙ ap (take (at + 1)) items_is in
+    subst AreFilled (sym (kept_front xs at last order l new rest c.drop_between.new.chunks.items front_is)) (Every-take_n _ at xs c.requires.chunked.filled)
+
+pub returns-clause-filled_behind : goal.returns-clause-filled_behind
+returns-clause-filled_behind g c =
+    let xs = c.args.chunks.now.items in
+    let at = c.args.at in
+    let last = c.args.end - 1 in
+    let place = c.last_touched-place.result in
+    let order : at < last = omega (arith, c.requires.several) in
+    let l : last < length xs = omega (arith, c.requires.several, c.requires.end) in
+    let found : IsLastTouched (S g.met.Q.Kind.placed g.V.PartialEq.eq) c.args.range (get_or xs last []) place = subst (λ (ys : List (g.row.R.Denot × g.row.V.Denot)). IsLastTouched (S g.met.Q.Kind.placed g.V.PartialEq.eq) c.args.range ys place) (c.index.ensures ∙ get_or_default xs last c.index.result.now [] l) c.last_touched-place.ensures in
+    let new = get_or c.change_between.new.chunks.items at [] in
+    let rest = drop (place + 1) (get_or xs last []) in
+    let items_is = c.give_back_at.ensures ∙ c.in_ok-change_between.ensures.items in
+    let behind = c.drop_between.ensures.filled (subst AreFilled (sym (ap (drop (last + 1)) items_is ∙ changed_behind xs at last order l new rest)) (Every-drop_n _ (suc last) xs c.requires.chunked.filled)) in
+    behind
+
+pub returns-clause-change : goal.returns-clause-change
+returns-clause-change g c =
+    let xs = c.args.chunks.now.items in
+    let at = c.args.at in
+    let last = c.args.end - 1 in
+    let place = c.last_touched-place.result in
+    let order : at < last = omega (arith, c.requires.several) in
+    let l : last < length xs = omega (arith, c.requires.several, c.requires.end) in
+    let found : IsLastTouched (S g.met.Q.Kind.placed g.V.PartialEq.eq) c.args.range (get_or xs last []) place = subst (λ (ys : List (g.row.R.Denot × g.row.V.Denot)). IsLastTouched (S g.met.Q.Kind.placed g.V.PartialEq.eq) c.args.range ys place) (c.index.ensures ∙ get_or_default xs last c.index.result.now [] l) c.last_touched-place.ensures in
+    let n_is : c.count.result ≡ length (whole (take (last - at) (drop at xs))) = c.count.ensures ∙ ap (λ (ps : List (List (g.row.R.Denot × g.row.V.Denot))). length (whole (take (last - at) (drop at ps)))) c.deref.ensures.value in
+    let new = get_or c.change_between.new.chunks.items at [] in
+    let rest = drop (place + 1) (get_or xs last []) in
+    let items_is = c.give_back_at.ensures ∙ c.in_ok-change_between.ensures.items in
+    let whole_is = c.drop_between.ensures.whole ∙ (λ i. whole (take (at + 1) (items_is i)) ++ whole (drop last (items_is i))) ∙ changed_whole xs at last order l new rest in
+    let sum = sums xs at last order l place found.in_bounds c.count.result n_is new c.drop_between.new.chunks.items whole_is in
+    let made = c.change_between.new.chunks.items in
+    let long : length made ≡ length xs = ap length c.in_ok-change_between.ensures.items ∙ set_length (set xs at (get_or made at [])) last (drop (place + 1) (get_or xs last [])) ∙ set_length xs at (get_or made at []) in
+    let after : c.len-after.result ≡ length (get_or made at []) = c.len-after.ensures ∙ ap (λ (ps : List (g.row.R.Denot × g.row.V.Denot)). length ps) (c.index-2.ensures ∙ get_or_default made at c.index-2.result.now [] (omega (arith, long, order, l))) in
+    omega (arith, sum, after)
+
+pub returns-clause-some : goal.returns-clause-some
+returns-clause-some g c =
+    let xs = c.args.chunks.now.items in
+    let at = c.args.at in
+    let last = c.args.end - 1 in
+    let place = c.last_touched-place.result in
+    let order : at < last = omega (arith, c.requires.several) in
+    let l : last < length xs = omega (arith, c.requires.several, c.requires.end) in
+    let found : IsLastTouched (S g.met.Q.Kind.placed g.V.PartialEq.eq) c.args.range (get_or xs last []) place = subst (λ (ys : List (g.row.R.Denot × g.row.V.Denot)). IsLastTouched (S g.met.Q.Kind.placed g.V.PartialEq.eq) c.args.range ys place) (c.index.ensures ∙ get_or_default xs last c.index.result.now [] l) c.last_touched-place.ensures in
+    let n_is : c.count.result ≡ length (whole (take (last - at) (drop at xs))) = c.count.ensures ∙ ap (λ (ps : List (List (g.row.R.Denot × g.row.V.Denot))). length (whole (take (last - at) (drop at ps)))) c.deref.ensures.value in
+    let less = count_less xs at last order l place found.in_bounds c.count.result n_is in
+    omega (arith, less)
+
+pub returns-clause-growth : goal.returns-clause-growth
+returns-clause-growth g c =
+    let xs = c.args.chunks.now.items in
+    let at = c.args.at in
+    let last = c.args.end - 1 in
+    let place = c.last_touched-place.result in
+    let order : at < last = omega (arith, c.requires.several) in
+    let l : last < length xs = omega (arith, c.requires.several, c.requires.end) in
+    let found : IsLastTouched (S g.met.Q.Kind.placed g.V.PartialEq.eq) c.args.range (get_or xs last []) place = subst (λ (ys : List (g.row.R.Denot × g.row.V.Denot)). IsLastTouched (S g.met.Q.Kind.placed g.V.PartialEq.eq) c.args.range ys place) (c.index.ensures ∙ get_or_default xs last c.index.result.now [] l) c.last_touched-place.ensures in
+    let n_is : c.count.result ≡ length (whole (take (last - at) (drop at xs))) = c.count.ensures ∙ ap (λ (ps : List (List (g.row.R.Denot × g.row.V.Denot))). length (whole (take (last - at) (drop at ps)))) c.deref.ensures.value in
+    let more = count_more xs at last order l place found.in_bounds c.count.result n_is in
+    let made = c.change_between.new.chunks.items in
+    let long : length made ≡ length xs = ap length c.in_ok-change_between.ensures.items ∙ set_length (set xs at (get_or made at [])) last (drop (place + 1) (get_or xs last [])) ∙ set_length xs at (get_or made at []) in
+    let after : c.len-after.result ≡ length (get_or made at []) = c.len-after.ensures ∙ ap (λ (ps : List (g.row.R.Denot × g.row.V.Denot)). length ps) (c.index-2.ensures ∙ get_or_default made at c.index-2.result.now [] (omega (arith, long, order, l))) in
+    omega (arith, more, after, c.in_ok-change_between.ensures.growth)
+
+pub returns-clause-growth_where_all_are_equal : goal.returns-clause-growth_where_all_are_equal
+returns-clause-growth_where_all_are_equal g c = λ equal.
+    let xs = c.args.chunks.now.items in
+    let at = c.args.at in
+    let last = c.args.end - 1 in
+    let place = c.last_touched-place.result in
+    let order : at < last = omega (arith, c.requires.several) in
+    let l : last < length xs = omega (arith, c.requires.several, c.requires.end) in
+    let found : IsLastTouched (S g.met.Q.Kind.placed g.V.PartialEq.eq) c.args.range (get_or xs last []) place = subst (λ (ys : List (g.row.R.Denot × g.row.V.Denot)). IsLastTouched (S g.met.Q.Kind.placed g.V.PartialEq.eq) c.args.range ys place) (c.index.ensures ∙ get_or_default xs last c.index.result.now [] l) c.last_touched-place.ensures in
+    let n_is : c.count.result ≡ length (whole (take (last - at) (drop at xs))) = c.count.ensures ∙ ap (λ (ps : List (List (g.row.R.Denot × g.row.V.Denot))). length (whole (take (last - at) (drop at ps)))) c.deref.ensures.value in
+    let more = count_more xs at last order l place found.in_bounds c.count.result n_is in
+    let made = c.change_between.new.chunks.items in
+    let long : length made ≡ length xs = ap length c.in_ok-change_between.ensures.items ∙ set_length (set xs at (get_or made at [])) last (drop (place + 1) (get_or xs last [])) ∙ set_length xs at (get_or made at []) in
+    let after : c.len-after.result ≡ length (get_or made at []) = c.len-after.ensures ∙ ap (λ (ps : List (g.row.R.Denot × g.row.V.Denot)). length ps) (c.index-2.ensures ∙ get_or_default made at c.index-2.result.now [] (omega (arith, long, order, l))) in
+    let less = c.in_ok-change_between.ensures.growth_where_all_are_equal equal in
+    omega (arith, more, after, less)

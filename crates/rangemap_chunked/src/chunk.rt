@@ -1,0 +1,206 @@
+//! A chunk: pairs in one vector.
+//!
+//! It does not say that its pairs are canonical, as `SortedVec` does: what lends chunks would have
+//! to name the kind of their ranges then, and a function could take few of such iterators.
+ghost use Rattle.std.specs.Prelude.{◌≡◌, ◌≤◌, ◌<◌, ◌+◌, ◌-◌, true, [], ◌++◌, length, slice_get, take, drop, IfOk, IsOk, OnErr, OnOk, None as NoneWord};
+ghost use Rattle.std.specs.Option.{option_map};
+ghost use Rattle.rangemap_core.specs.Clones.{KeysCloneFaithfully, ValuesCloneFaithfully};
+ghost use Rattle.rangemap_core.specs.Ranges.{IsCanonical, IsCanonOf, overlapped, same_pairs, value_at};
+ghost use Rattle.rangemap_sorted.specs.Changes.{changed, grown};
+
+use crate::moves::{drop_first, move_back, move_one};
+use rangemap_core::key_range::KeyRange;
+use rangemap_core::kind::Kind;
+use rangemap_core::pairs::clone_pair;
+use rangemap_sorted::entries::changes;
+use rangemap_sorted::into_iter::IntoIter;
+use std::alloc::{AllocError, Allocator};
+use std::marker::Model;
+
+/// Pairs of a range and a value in one vector.
+#[derive(Drop)]
+pub struct Chunk<R, V, A: Allocator> {
+    pairs: Vec<(R, V), A>,
+}
+
+impl<R, V, A: Allocator> Model for Chunk<R, V, A> {
+    ghost use Rattle.std.specs.Prelude.{List};
+
+    ghost Value = { List (R × V) };
+
+    ghost view = { λ s. s.pairs.items };
+}
+
+impl<R, V, A: Allocator> Chunk<R, V, A> {
+    /// Returns the empty chunk, whose memory comes from `alloc`. It takes none yet.
+    pub fn empty(alloc: A) -> Self
+        ensures { result ≡ [] }
+    {
+        Chunk {
+            pairs: Vec::new(alloc),
+        }
+    }
+
+    /// Returns what the memory comes from.
+    pub fn allocator(&self) -> &A {
+        self.pairs.allocator()
+    }
+
+    /// Returns the number of pairs.
+    pub fn len(&self) -> usize
+        ensures { result ≡ length self.now }
+    {
+        self.pairs.len()
+    }
+
+    /// Returns the first pair, if there is one.
+    pub fn first(&self) -> Option<(&R, &V)>
+        ensures { option_map (λ pair. (pair.0.now, pair.1.now)) result ≡ slice_get self.now 0 }
+    {
+        let pair = self.pairs.first()?;
+        Some((&pair.0, &pair.1))
+    }
+
+    /// Returns the last pair, if there is one.
+    pub fn last(&self) -> Option<(&R, &V)>
+        ensures { option_map (λ pair. (pair.0.now, pair.1.now)) result ≡ slice_get self.now (length self.now - 1) }
+    {
+        let pair = self.pairs.last()?;
+        Some((&pair.0, &pair.1))
+    }
+
+    /// Returns the pairs.
+    pub fn as_slice(&self) -> &[(R, V)]
+        ensures { result.now ≡ self.now }
+    {
+        self.pairs.as_slice()
+    }
+
+    /// Hands the pairs over.
+    pub fn into_pairs(self) -> IntoIter<R, V, A>
+        ensures { result ≡ self }
+    {
+        let Chunk { pairs } = self;
+        IntoIter::over(pairs)
+    }
+
+    /// Takes the pairs from the place `at` on out, as a chunk of their own. None is cloned.
+    ///
+    /// # Errors
+    ///
+    /// Memory was refused: then the chunk is as it was.
+    pub fn split_off(&mut self, at: usize) -> Result<Self, AllocError>
+    where
+        A: Clone,
+        requires { at ≤ length self.old }
+        ensures ok { OnOk result (self.new ≡ take at self.old) }
+        ensures rest { IfOk result (λ rest. rest ≡ drop at self.old) }
+        ensures err { OnErr result (self.new ≡ self.old) }
+    {
+        let pairs = self.pairs.split_off(at)?;
+        Ok(Chunk { pairs })
+    }
+
+    /// Moves the pairs of `other` behind those of this chunk. None is cloned.
+    ///
+    /// # Errors
+    ///
+    /// Memory was refused: then both chunks are as they were.
+    pub fn append(&mut self, other: &mut Self) -> Result<(), AllocError>
+        ensures ok { OnOk result ((self.new ≡ self.old ++ other.old) × (other.new ≡ [])) }
+        ensures err { OnErr result ((self.new ≡ self.old) × (other.new ≡ other.old)) }
+    {
+        self.pairs.append(&mut other.pairs)
+    }
+
+    /// Gives memory back where more than half of the room is unused, and it is room for more than
+    /// `least` pairs. Where that is refused the room stays.
+    pub fn give_back(&mut self, least: usize)
+        ensures { self.new ≡ self.old }
+    {
+        let room = self.pairs.capacity();
+        let len = self.pairs.len();
+        if least < room && len < room / 2 {
+            self.pairs.shrink_to((len + len / 2).max(least));
+        }
+    }
+}
+
+impl<R: KeyRange, V: Eq + Clone, A: Allocator> Chunk<R, V, A> {
+    /// Gives every key of `range` the `value`, or takes it out where there is none.
+    ///
+    /// # Errors
+    ///
+    /// Memory or a clone of a key or value was refused: then the chunk is as it was.
+    pub fn change<Q: Kind<R>>(&mut self, range: R, value: Option<V>) -> Result<(), AllocError>
+        requires canonical { IsCanonical Q.kind V.eq self.old }
+        requires non_empty { Q.kind.IsNonEmpty range }
+        requires faithful_keys { KeysCloneFaithfully R.Key.is_clone R.Key.cmp }
+        requires faithful_values { ValuesCloneFaithfully V.is_clone V.eq }
+        ensures ok { OnOk result (IsCanonOf Q.kind V.eq (changed Q.kind (value_at Q.kind self.old) range value) self.new) }
+        ensures err { OnErr result (self.new ≡ self.old) }
+        ensures growth { OnOk result (length self.new ≤ length self.old + grown value) }
+        ensures growth_where_all_are_equal { OnOk result (((v w : V) → V.eq v w ≡ true) → length self.new ≤ length self.old + 1) }
+        ensures meets_nothing { value ≡ NoneWord → overlapped Q.kind self.old range ≡ [] → IsOk result × (self.new ≡ self.old) }
+    {
+        changes::change::<Q, R, V, A>(&mut self.pairs, range, value)
+    }
+
+    /// Does what `change` does in this chunk with one pair more: that of `other` at `place`, which is
+    /// moved behind all. The pairs of `other` before it are dropped.
+    ///
+    /// # Requires
+    ///
+    /// The pairs of this chunk and the one of `other` are a canonical list.
+    ///
+    /// # Errors
+    ///
+    /// As for `change`: then both chunks are as they were.
+    pub fn change_with<Q: Kind<R>>(
+        &mut self,
+        other: &mut Self,
+        place: usize,
+        range: R,
+        value: Option<V>,
+    ) -> Result<(), AllocError>
+        requires in_bounds { place < length other.old }
+        requires canonical { IsCanonical Q.kind V.eq (self.old ++ take 1 (drop place other.old)) }
+        requires non_empty { Q.kind.IsNonEmpty range }
+        requires faithful_keys { KeysCloneFaithfully R.Key.is_clone R.Key.cmp }
+        requires faithful_values { ValuesCloneFaithfully V.is_clone V.eq }
+        ensures ok { OnOk result (IsCanonOf Q.kind V.eq (changed Q.kind (value_at Q.kind (self.old ++ take 1 (drop place other.old))) range value) self.new) }
+        ensures rest { OnOk result (other.new ≡ drop (place + 1) other.old) }
+        ensures err { OnErr result ((self.new ≡ self.old) × (other.new ≡ other.old)) }
+        ensures growth { OnOk result (length self.new ≤ length self.old + 1 + grown value) }
+        ensures growth_where_all_are_equal { OnOk result (((v w : V) → V.eq v w ≡ true) → length self.new ≤ length self.old + 2) }
+    {
+        let pairs = &mut self.pairs;
+        let others = &mut other.pairs;
+        move_one(pairs, others, place)?;
+        let Ok(()) = changes::change::<Q, R, V, A>(pairs, range, value) else {
+            move_back(pairs, others, place);
+            return Err(AllocError);
+        };
+        drop_first(others, place);
+        Ok(())
+    }
+
+    /// Makes an equal chunk out of clones, in memory of `alloc`.
+    ///
+    /// # Errors
+    ///
+    /// Memory or a clone was refused.
+    pub fn copy<Q: Kind<R>>(&self, alloc: A) -> Result<Self, AllocError>
+        requires canonical { IsCanonical Q.kind V.eq self.now }
+        requires faithful_keys { KeysCloneFaithfully R.Key.is_clone R.Key.cmp }
+        requires faithful_values { ValuesCloneFaithfully V.is_clone V.eq }
+        ensures same { IfOk result (λ copy. same_pairs Q.kind V.eq self.now copy ≡ true) }
+        ensures canon { IfOk result (λ copy. IsCanonOf Q.kind V.eq (value_at Q.kind self.now) copy) }
+    {
+        let mut pairs = Vec::with_capacity(alloc, self.pairs.len())?;
+        for pair in &self.pairs {
+            pairs.push_reserved(clone_pair::<Q, R, V>(&pair.0, &pair.1)?);
+        }
+        Ok(Chunk { pairs })
+    }
+}

@@ -1,0 +1,198 @@
+//! Where a key or a range lies among the chunks.
+//!
+//! No chunk is empty, and their lists, one after the other, are canonical.
+ghost use Rattle.std.specs.Prelude.{◌≡◌, ◌⊎◌, true, false, ◌+◌, ◌<◌, ◌≤◌, [], length, slice_index_or, nat_lt, IfSome, Some as SomeWord, None as NoneWord, MatchOption};
+ghost use Rattle.std.specs.List.{AllWithin};
+ghost use Rattle.rangemap_core.specs.Ranges.{IsCanonical, covering, overlapped};
+ghost use Rattle.rangemap_core.specs.engine.Shape.{shape_of, starts_by};
+ghost use Rattle.rangemap_chunked.specs.Chunks.{IsClearBefore, IsClearBehind, IsLastTouched, AreChunks, IsPastBehind, IsPastStart, chunk_below, chunk_by, whole};
+
+use crate::chunk::Chunk;
+use rangemap_core::key_range::KeyRange;
+use rangemap_core::kind::{Endpoint, Kind, known_ends};
+use rangemap_sorted::overlapping::Overlapping;
+use std::alloc::Allocator;
+use std::cmp::Ordering;
+use std::iter::Iterator;
+
+// Whether the first start of a chunk is not after the key.
+fn starts_by<Q: Kind<R>, R: KeyRange, V: Eq, A: Allocator>(
+    chunk: &Chunk<R, V, A>,
+    key: &R::Key,
+) -> bool
+    ensures { result ≡ chunk_by (shape_of Q.kind Q.end_place V.eq) (SomeWord key.now) chunk.now }
+{
+    match chunk.as_slice().first() {
+        Some(pair) => match key.cmp(pair.0.start()) {
+            Ordering::Less => false,
+            _ => true,
+        },
+        None => true,
+    }
+}
+
+// Whether the first start of a chunk is before the key.
+fn starts_below<Q: Kind<R>, R: KeyRange, V: Eq, A: Allocator>(
+    chunk: &Chunk<R, V, A>,
+    key: &R::Key,
+) -> bool
+    ensures { result ≡ chunk_below (shape_of Q.kind Q.end_place V.eq) (SomeWord key.now) chunk.now }
+{
+    match chunk.as_slice().first() {
+        Some(pair) => match pair.0.start().cmp(key) {
+            Ordering::Less => true,
+            _ => false,
+        },
+        None => true,
+    }
+}
+
+// Whether the first range of a chunk starts before the given one ends, or there.
+fn begins_by_end<Q: Kind<R>, R: KeyRange, V: Eq, A: Allocator>(
+    chunk: &Chunk<R, V, A>,
+    range: &R,
+) -> bool
+    ensures { result ≡ chunk_by (shape_of Q.kind Q.end_place V.eq) (Q.end_place range.now) chunk.now }
+{
+    match chunk.as_slice().first() {
+        Some(pair) => !Q::is_before(Endpoint::End(range), Endpoint::Start(&pair.0)),
+        None => true,
+    }
+}
+
+// Whether the first range of a chunk starts before the given one ends.
+fn begins_below_end<Q: Kind<R>, R: KeyRange, V: Eq, A: Allocator>(
+    chunk: &Chunk<R, V, A>,
+    range: &R,
+) -> bool
+    ensures { result ≡ chunk_below (shape_of Q.kind Q.end_place V.eq) (Q.end_place range.now) chunk.now }
+{
+    match chunk.as_slice().first() {
+        Some(pair) => Q::is_before(Endpoint::Start(&pair.0), Endpoint::End(range)),
+        None => true,
+    }
+}
+
+/// Returns the one chunk that may have the key.
+pub fn chunk_with<'a, Q: Kind<R>, R: KeyRange, V: Eq, A: Allocator>(
+    chunks: &'a [Chunk<R, V, A>],
+    key: &R::Key,
+) -> Option<&'a Chunk<R, V, A>>
+    requires { AreChunks Q.kind V.eq chunks.now }
+    ensures same { MatchOption result (covering Q.kind (whole chunks.now) key.now ≡ NoneWord) (λ chunk. covering Q.kind (whole chunks.now) key.now ≡ covering Q.kind chunk.now key.now) }
+    ensures canonical { IfSome result (λ chunk. IsCanonical Q.kind V.eq chunk.now) }
+{
+    Q::known(key);
+    let count = chunks.partition_point(|chunk| starts_by::<Q, R, V, A>(chunk, key));
+    let at = count.saturating_sub(1);
+    if at < chunks.len() {
+        Some(&chunks[at])
+    } else {
+        None
+    }
+}
+
+/// Returns the chunk from which on pairs may overlap the range or touch it.
+pub fn start_of<Q: Kind<R>, R: KeyRange, V: Eq, A: Allocator>(
+    chunks: &[Chunk<R, V, A>],
+    range: &R,
+) -> usize
+    requires { AreChunks Q.kind V.eq chunks.now }
+    ensures bound { result ≤ length chunks.now }
+    ensures in_bounds { 0 < length chunks.now → result < length chunks.now }
+    ensures clear { IsClearBefore (shape_of Q.kind Q.end_place V.eq) chunks.now range.now result }
+    ensures past { IsPastStart (shape_of Q.kind Q.end_place V.eq) chunks.now range.now (result + 1) }
+{
+    let start = range.start();
+    let count = chunks.partition_point(|chunk| starts_below::<Q, R, V, A>(chunk, start));
+    count.saturating_sub(1)
+}
+
+/// Returns the chunk from which on no pair overlaps the range or touches it.
+pub fn end_touched<Q: Kind<R>, R: KeyRange, V: Eq, A: Allocator>(
+    chunks: &[Chunk<R, V, A>],
+    range: &R,
+) -> usize
+    requires { AreChunks Q.kind V.eq chunks.now }
+    ensures bound { result ≤ length chunks.now }
+    ensures clear { IsClearBehind (shape_of Q.kind Q.end_place V.eq) chunks.now range.now result }
+    ensures begun { AllWithin (λ chunk. chunk_by (shape_of Q.kind Q.end_place V.eq) (Q.end_place range.now) chunk ≡ true) chunks.now 0 result }
+{
+    chunks.partition_point(|chunk| begins_by_end::<Q, R, V, A>(chunk, range))
+}
+
+/// Returns the chunk from which on no pair overlaps the range.
+pub fn end_overlapped<Q: Kind<R>, R: KeyRange, V: Eq, A: Allocator>(
+    chunks: &[Chunk<R, V, A>],
+    range: &R,
+) -> usize
+    requires { AreChunks Q.kind V.eq chunks.now }
+    ensures bound { result ≤ length chunks.now }
+    ensures clear { IsPastBehind (shape_of Q.kind Q.end_place V.eq) chunks.now range.now result }
+    ensures begun { AllWithin (λ chunk. chunk_below (shape_of Q.kind Q.end_place V.eq) (Q.end_place range.now) chunk ≡ true) chunks.now 0 result }
+{
+    chunks.partition_point(|chunk| begins_below_end::<Q, R, V, A>(chunk, range))
+}
+
+// Whether the pair starts before the range ends, or there.
+fn starts_by_end<Q: Kind<R>, R: KeyRange, V: Eq>(pair: &(R, V), range: &R) -> bool
+    ensures { result ≡ starts_by (shape_of Q.kind Q.end_place V.eq) (Q.end_place range.now) pair.now }
+{
+    !Q::is_before(Endpoint::End(range), Endpoint::Start(&pair.0))
+}
+
+/// Returns the place of the last pair of a chunk that starts before the range ends, or there. The
+/// first one does.
+pub fn last_touched<Q: Kind<R>, R: KeyRange, V: Eq, A: Allocator>(
+    chunk: &Chunk<R, V, A>,
+    range: &R,
+) -> usize
+    requires canonical { IsCanonical Q.kind V.eq chunk.now }
+    requires filled { 0 < length chunk.now }
+    requires begun { chunk_by (shape_of Q.kind Q.end_place V.eq) (Q.end_place range.now) chunk.now ≡ true }
+    ensures { IsLastTouched (shape_of Q.kind Q.end_place V.eq) range.now chunk.now result }
+{
+    let pairs = chunk.as_slice();
+    let count = pairs.partition_point(|pair| starts_by_end::<Q, R, V>(pair, range));
+    count.saturating_sub(1)
+}
+
+// Whether a pair of the chunk overlaps the range.
+fn overlaps<Q: Kind<R>, R: KeyRange, V: Eq, A: Allocator>(chunk: &Chunk<R, V, A>, range: &R) -> bool
+    requires { IsCanonical Q.kind V.eq chunk.now }
+    ensures { result ≡ nat_lt 0 (length (overlapped Q.kind chunk.now range.now)) }
+{
+    Overlapping::new::<Q>(chunk.as_slice(), range)
+        .next()
+        .is_some()
+}
+
+/// Returns whether a removal may make the map longer than a number can say, and is to be refused.
+/// The range overlaps only chunks from `at` up to `end`.
+pub fn is_refused<Q: Kind<R>, R: KeyRange, V: Eq, A: Allocator>(
+    chunks: &[Chunk<R, V, A>],
+    len: usize,
+    at: usize,
+    end: usize,
+    range: &R,
+) -> bool
+    requires chunked { AreChunks Q.kind V.eq chunks.now }
+    requires in_bounds { at < length chunks.now }
+    requires end { end ≤ length chunks.now }
+    requires past { IsPastStart (shape_of Q.kind Q.end_place V.eq) chunks.now range.now (at + 1) }
+    requires begun { AllWithin (λ chunk. chunk_below (shape_of Q.kind Q.end_place V.eq) (Q.end_place range.now) chunk ≡ true) chunks.now 0 end }
+    requires non_empty { Q.kind.IsNonEmpty range.now }
+    ensures alone { overlapped Q.kind (whole chunks.now) range.now ≡ [] → end ≤ at + 1 }
+    ensures refused { result ≡ true → overlapped Q.kind (whole chunks.now) range.now ≡ [] → ⊥ }
+    ensures allowed { result ≡ false → (len < 18446744073709551615) ⊎ ((end ≤ at + 1) × (overlapped Q.kind (slice_index_or chunks.now at []) range.now ≡ [])) }
+{
+    known_ends::<Q, R>(range);
+    let chunk = &chunks[at];
+    if len < usize::MAX {
+        return false;
+    }
+    if at + 1 < end {
+        return true;
+    }
+    overlaps::<Q, R, V, A>(chunk, range)
+}

@@ -1,0 +1,131 @@
+//! Changes of a range that reaches over chunks.
+//!
+//! What lies within the range is dropped and never moved. Only one pair behind the first chunk can
+//! reach past the range, or touch it: the last that starts before the range ends, or there. It is
+//! moved into the first chunk, which is changed as any other then. Where memory is refused it goes
+//! back, and nothing changed.
+ghost use Rattle.std.specs.Prelude.{◌≡◌, true, ◌<◌, ◌≤◌, ◌+◌, ◌++◌, [], length, take, drop, slice_index_or, slice_set, OnOk, OnErr, IfOk, IfSome};
+ghost use Rattle.std.specs.List.{AllWithin};
+ghost use Rattle.rangemap_core.specs.Clones.{KeysCloneFaithfully, ValuesCloneFaithfully};
+ghost use Rattle.rangemap_core.specs.Ranges.{IsCanonical, IsCanonOf, value_at};
+ghost use Rattle.rangemap_core.specs.engine.Shape.{shape_of};
+ghost use Rattle.rangemap_sorted.specs.Changes.{changed, grown};
+ghost use Rattle.rangemap_chunked.specs.Chunks.{AreChunks, AreFilled, IsClearBefore, IsClearBehind, IsPastBehind, IsPastStart, chunk_by, whole};
+
+use crate::changes::Change;
+use crate::chunk::Chunk;
+use crate::joins::{drop_between, give_back_at};
+use crate::search::last_touched;
+use rangemap_core::key_range::KeyRange;
+use rangemap_core::kind::{Kind, known_ends};
+use std::alloc::{AllocError, Allocator};
+
+/// Gives every key of the range the value, or takes it out where there is none. The range overlaps
+/// or touches chunks from `at` up to `end`, which are two or more. Where there is no value, the
+/// chunk at `at` may be empty then.
+pub fn change_over<Q: Kind<R>, R: KeyRange, V: Eq + Clone, A: Allocator>(
+    chunks: &mut Vec<Chunk<R, V, A>, A>,
+    at: usize,
+    end: usize,
+    range: R,
+    value: Option<V>,
+) -> Result<Change, AllocError>
+    requires chunked { AreChunks Q.kind V.eq chunks.old.items }
+    requires fits { length (whole chunks.old.items) ≤ 18446744073709551615 }
+    requires several { at + 1 < end }
+    requires end { end ≤ length chunks.old.items }
+    requires before { IsClearBefore (shape_of Q.kind Q.end_place V.eq) chunks.old.items range at }
+    requires past { IsPastStart (shape_of Q.kind Q.end_place V.eq) chunks.old.items range (at + 1) }
+    requires begun { AllWithin (λ chunk. chunk_by (shape_of Q.kind Q.end_place V.eq) (Q.end_place range) chunk ≡ true) chunks.old.items 0 end }
+    requires behind { IsPastBehind (shape_of Q.kind Q.end_place V.eq) chunks.old.items range end }
+    requires clear { IfSome value (λ _. IsClearBehind (shape_of Q.kind Q.end_place V.eq) chunks.old.items range end) }
+    requires non_empty { Q.kind.IsNonEmpty range }
+    requires faithful_keys { KeysCloneFaithfully R.Key.is_clone R.Key.cmp }
+    requires faithful_values { ValuesCloneFaithfully V.is_clone V.eq }
+    ensures ok { OnOk result (IsCanonOf Q.kind V.eq (changed Q.kind (value_at Q.kind (whole chunks.old.items)) range value) (whole chunks.new.items)) }
+    ensures filled { IfSome value (λ _. AreFilled chunks.new.items) }
+    ensures filled_before { AreFilled (take at chunks.new.items) }
+    ensures filled_behind { AreFilled (drop (at + 1) chunks.new.items) }
+    ensures in_bounds { at < length chunks.new.items }
+    ensures err { OnErr result (chunks.new.items ≡ chunks.old.items) }
+    ensures change { IfOk result (λ change. length (whole chunks.new.items) + change.before ≡ length (whole chunks.old.items) + change.after) }
+    ensures some { IfOk result (λ change. change.before ≤ length (whole chunks.old.items)) }
+    ensures growth { IfOk result (λ change. change.after ≤ change.before + grown value) }
+    ensures growth_where_all_are_equal { IfOk result (λ change. ((v w : V) → V.eq v w ≡ true) → change.after ≤ change.before + 1) }
+{
+    known_ends::<Q, R>(&range);
+    let last = end - 1;
+    let place = last_touched::<Q, R, V, A>(&chunks[last], &range);
+    let before = count(&chunks[at..last]) + place + 1;
+    change_between::<Q, R, V, A>(chunks, at, last, place, range, value)?;
+    let after = chunks[at].len();
+    give_back_at(chunks, last);
+    drop_between(chunks, at + 1, last);
+    Ok(Change { before, after })
+}
+
+// How many pairs chunks have.
+fn count<R, V, A: Allocator>(chunks: &[Chunk<R, V, A>]) -> usize
+    requires { length (whole chunks.now) ≤ 18446744073709551615 }
+    ensures { result ≡ length (whole chunks.now) }
+{
+    let mut count = 0;
+    for chunk in chunks {
+        count += chunk.len();
+    }
+    count
+}
+
+// Changes one chunk so, with the pair of a later one at a place.
+fn change_between<Q: Kind<R>, R: KeyRange, V: Eq + Clone, A: Allocator>(
+    chunks: &mut Vec<Chunk<R, V, A>, A>,
+    at: usize,
+    last: usize,
+    place: usize,
+    range: R,
+    value: Option<V>,
+) -> Result<(), AllocError>
+    requires order { at < last }
+    requires last { last < length chunks.old.items }
+    requires in_bounds { place < length (slice_index_or chunks.old.items last []) }
+    requires canonical { IsCanonical Q.kind V.eq (slice_index_or chunks.old.items at [] ++ take 1 (drop place (slice_index_or chunks.old.items last []))) }
+    requires non_empty { Q.kind.IsNonEmpty range }
+    requires faithful_keys { KeysCloneFaithfully R.Key.is_clone R.Key.cmp }
+    requires faithful_values { ValuesCloneFaithfully V.is_clone V.eq }
+    ensures ok { OnOk result (IsCanonOf Q.kind V.eq (changed Q.kind (value_at Q.kind (slice_index_or chunks.old.items at [] ++ take 1 (drop place (slice_index_or chunks.old.items last [])))) range value) (slice_index_or chunks.new.items at [])) }
+    ensures items { OnOk result (chunks.new.items ≡ slice_set (slice_set chunks.old.items at (slice_index_or chunks.new.items at [])) last (drop (place + 1) (slice_index_or chunks.old.items last []))) }
+    ensures err { OnErr result (chunks.new.items ≡ chunks.old.items) }
+    ensures growth { OnOk result (length (slice_index_or chunks.new.items at []) ≤ length (slice_index_or chunks.old.items at []) + 1 + grown value) }
+    ensures growth_where_all_are_equal { OnOk result (((v w : V) → V.eq v w ≡ true) → length (slice_index_or chunks.new.items at []) ≤ length (slice_index_or chunks.old.items at []) + 2) }
+{
+    let (front, back) = chunks.split_at_mut(last);
+    change_in::<Q, R, V, A>(front, at, back, place, range, value)
+}
+
+// The same, where the later chunk is the first of another slice.
+fn change_in<Q: Kind<R>, R: KeyRange, V: Eq + Clone, A: Allocator>(
+    front: &mut [Chunk<R, V, A>],
+    at: usize,
+    back: &mut [Chunk<R, V, A>],
+    place: usize,
+    range: R,
+    value: Option<V>,
+) -> Result<(), AllocError>
+    requires at { at < length front.old }
+    requires some { 0 < length back.old }
+    requires in_bounds { place < length (slice_index_or back.old 0 []) }
+    requires canonical { IsCanonical Q.kind V.eq (slice_index_or front.old at [] ++ take 1 (drop place (slice_index_or back.old 0 []))) }
+    requires non_empty { Q.kind.IsNonEmpty range }
+    requires faithful_keys { KeysCloneFaithfully R.Key.is_clone R.Key.cmp }
+    requires faithful_values { ValuesCloneFaithfully V.is_clone V.eq }
+    ensures ok { OnOk result (IsCanonOf Q.kind V.eq (changed Q.kind (value_at Q.kind (slice_index_or front.old at [] ++ take 1 (drop place (slice_index_or back.old 0 [])))) range value) (slice_index_or front.new at [])) }
+    ensures front { front.new ≡ slice_set front.old at (slice_index_or front.new at []) }
+    ensures back { OnOk result (back.new ≡ slice_set back.old 0 (drop (place + 1) (slice_index_or back.old 0 []))) }
+    ensures err { OnErr result ((front.new ≡ front.old) × (back.new ≡ back.old)) }
+    ensures growth { OnOk result (length (slice_index_or front.new at []) ≤ length (slice_index_or front.old at []) + 1 + grown value) }
+    ensures growth_where_all_are_equal { OnOk result (((v w : V) → V.eq v w ≡ true) → length (slice_index_or front.new at []) ≤ length (slice_index_or front.old at []) + 2) }
+{
+    let first = &mut front[at];
+    let last = &mut back[0];
+    first.change_with::<Q>(last, place, range, value)
+}

@@ -1,0 +1,29 @@
+-- What calls that take pairs make of the functions that maps stand for.
+use Rattle.std.proofs.Common.{arith, ◌≡◌, ℕ, ◌<◌, ◌≤◌, true, false, List, [], ◌∷◌, ◌++◌, Bool, length, take, get_or, set, Option, Result, Ok, Err, OnOk, OnErr, Vec, is_ok, refl, subst, inl, inr}
+use Rattle.std.specs.Cmp.{IsEquivalence}
+use Rattle.std.specs.declared.alloc.AllocError.{AllocError}
+use Rattle.rangemap_core.specs.Ranges.{RangeKind, IsCanonOf, Overrides, nothing, override_all}
+use Rattle.rangemap_core.proofs.CanonLemmas.{override_all_of}
+use Rattle.rangemap_core.proofs.ZipLemmas.{added, as_long, changed}
+use Rattle.rangemap_replay.specs.Histories.{Makes}
+use Rattle.rangemap_maps.specs.MapHistories.{Step}
+use Rattle.rangemap_maps.specs.declared.range_map.calls.Call.TheVariants.{FromIter, Extend}
+
+module _ {K X V A : Type 0} (k : RangeKind K X) {eq : V → V → Bool} (e : IsEquivalence eq) (ls : List (List (X × V))) (pairs : Vec (X × V) A) where
+  -- the function at a map's place has the map's list
+  abbrev Shows : (K → Option V) → List (X × V) → Type 0
+  Shows f m = IsCanonOf k eq f m
+
+  pub from_iter_made : (m : List (X × V)) → IsCanonOf k eq (override_all k nothing pairs.items) m → Makes k eq (λ map. map) (Step k) ls (FromIter pairs) true (ls ++ m ∷ [])
+  from_iter_made m all fs h = (_, refl, added Shows fs ls (override_all k nothing pairs.items) m h all)
+
+  module _ (at : ℕ) where
+    pub extend_past : length ls ≤ at → Makes k eq (λ map. map) (Step k) ls (Extend at pairs) false ls
+    extend_past past fs h = (fs, inl (omega (arith, as_long Shows fs ls h), refl), h)
+
+    -- the map at the place was l and is m
+    pub extend_here : (l m : List (X × V)) → at < length ls → l ≡ get_or ls at l → (xs : List (X × V)) (res : Result (Unit {0}) AllocError) → Overrides k eq l xs m → OnOk res (xs ≡ pairs.items) → OnErr res (xs ≡ take (length xs) pairs.items) → Makes k eq (λ map. map) (Step k) ls (Extend at pairs) (is_ok res) (set ls at m)
+    extend_here l m here is xs (Ok u) o ok err fs h = changed Shows fs ls at l m (λ f. override_all k f pairs.items) h here is (λ f c. subst (λ ps. IsCanonOf k eq (override_all k f ps) m) ok (override_all_of k e f xs l m c o))
+    extend_here l m here is xs (Err u) o ok err fs h =
+        let r = changed Shows fs ls at l m (λ f. override_all k f (take (length xs) pairs.items)) h here is (λ f c. subst (λ ps. IsCanonOf k eq (override_all k f ps) m) err (override_all_of k e f xs l m c o)) in
+        (r.0, inr (length xs, r.1), r.2)

@@ -1,0 +1,52 @@
+use Rattle.std.proofs.Common.{◌≡◌, ◌++◌, ◌∷◌, [], ap, length, refl, subst, take, ◌∙◌}
+use Rattle.std.proofs.IntoIterSteps.{All-taken}
+use Rattle.std.proofs.lemmas.Result.{IfOk-weaker, MatchResult-weaker}
+use Rattle.std.specs.Vec.Iter.{into_iter_items}
+use Rattle.rangemap_core.specs.Ranges.{IsCanonOf, nothing, override_all}
+use Rattle.rangemap_core.proofs.IncomingLemmas.{listed, taken_front}
+use Rattle.rangemap_replay.specs.Histories.{Makes}
+use Rattle.rangemap_replay.proofs.ReplayLemmas.{added_or_not, new_made}
+use Rattle.rangemap_maps.specs.MapHistories.{HasNonEmptyRanges, Step}
+use Rattle.rangemap_maps.specs.declared.range_map.calls.Call.TheVariants.{FromIter}
+use Rattle.rangemap_maps.proofs.MapReplayLemmas.{extend_here, extend_past, from_iter_made}
+use Rattle.rangemap_maps.proofs.range_map.calls.CallRangeValueAllocCallOnMap.make.Goals as goal
+
+pub returns-in-Change-New-clause-made : goal.returns-in-Change-New-clause-made
+returns-in-Change-New-clause-made g c =
+    let added : c.add.new.maps.items ≡ c.args.maps.now.items ++ c.new.result ∷ [] = c.add.ensures.ok in
+    rw c.in-Change-New.is (rw c.in-Change-New.field-0-is (rw c.add.ensures.answer (rw added (new_made g.S.Kind.Kind.kind g.met.S.Value.Eq.laws (λ map. map) c.args.maps.now.items c.new.result c.new.ensures))))
+
+pub from_iter-requires-clause-non_empty : goal.from_iter-requires-clause-non_empty
+from_iter-requires-clause-non_empty g c it h =
+    listed g.S.Kind.Kind.kind into_iter_items h.3 it _ h.0 (subst (HasNonEmptyRanges g.S.Kind.Kind.kind) c.in-FromIter.is c.requires.non_empty)
+
+pub returns-in-FromIter-clause-made : goal.returns-in-FromIter-clause-made
+returns-in-FromIter-clause-made g c =
+    let k = g.S.Kind.Kind.kind in
+    let maps = c.args.maps.now.items in
+    let pairs = c.in-FromIter.pairs in
+    rw c.in-FromIter.is (
+    added_or_not (λ map. IsCanonOf k g.S.Value.PartialEq.eq (override_all k nothing pairs.items) map)
+    (Makes k g.S.Value.PartialEq.eq (λ map. map) (Step k) maps (FromIter pairs))
+    maps c.add-in-FromIter.new.maps.items c.from_iter.result c.add-in-FromIter.result
+    (from_iter_made k g.met.S.Value.Eq.laws maps pairs)
+    (λ fs h. (fs, refl, h))
+    (IfOk-weaker c.from_iter.result _ _ (λ map made. subst (λ ps. IsCanonOf k g.S.Value.PartialEq.eq (override_all k nothing ps) map) (All-taken made.0 made.1 made.3 ∙ made.2.0) made.4) c.from_iter.ensures)
+    c.add-in-FromIter.ensures.answer c.add-in-FromIter.ensures.ok c.add-in-FromIter.ensures.err)
+
+pub extend-requires-clause-non_empty : goal.extend-requires-clause-non_empty
+extend-requires-clause-non_empty g c it h =
+    listed g.S.Kind.Kind.kind into_iter_items h.3 it _ h.0 (subst (HasNonEmptyRanges g.S.Kind.Kind.kind) c.in-Extend.is c.requires.non_empty)
+
+pub returns-in-Some-clause-made : goal.returns-in-Some-clause-made
+returns-in-Some-clause-made g c =
+    let ran = c.extend.ensures in
+    rw c.in-Extend.is (
+    rw c.is_ok.ensures.value (extend_here g.S.Kind.Kind.kind g.met.S.Value.Eq.laws c.args.maps.now.items c.in-Extend.pairs c.in-Extend.at c.in-Some.map.now c.extend.new.self c.in-Some.ensures.item.3.0 c.in-Some.ensures.value
+    ran.1 c.extend.result ran.3
+    (MatchResult-weaker c.extend.result ran.4 (λ u d. All-taken ran.0 ran.1 d ∙ ran.2.0) (λ _ _. tt))
+    (MatchResult-weaker c.extend.result ran.4 (λ _ _. tt) (λ u y. taken_front ran.0 ran.1 y.0 y.1 ∙ ap (take (length ran.1)) ran.2.0))))
+
+pub returns-clause-made : goal.returns-clause-made
+returns-clause-made g c =
+    rw c.in-Extend.is (extend_past g.S.Kind.Kind.kind g.met.S.Value.Eq.laws c.args.maps.now.items c.in-Extend.pairs c.in-Extend.at c.in-None.ensures.item.3)

@@ -1,0 +1,46 @@
+//! Calls on a list of maps, as values, each made by the public call of the map at its place.
+
+use super::Map;
+use rangemap_core::key_range::KeyRange;
+use rangemap_core::kind::OwnSteps;
+use rangemap_core::store::Store;
+use rangemap_replay::calls::Change;
+use rangemap_replay::replay::{CallOn, add};
+use std::alloc::Allocator;
+use std::vec::Vec;
+
+/// A call that makes a map or changes one, over ranges of type `R`. It names a map by its place in
+/// the list.
+#[derive(Drop)]
+pub enum Call<R, V, A: Allocator> {
+    /// A call that every map has, where `New` makes the map by `new`.
+    Change(Change<R, V>),
+    /// Makes a map of the pairs, inserted in order.
+    FromIter { pairs: Vec<(R, V), A> },
+    /// Inserts the pairs, in order, into the map at the place.
+    Extend { at: usize, pairs: Vec<(R, V), A> },
+}
+
+impl<S: Store + Drop> CallOn<Map<S>> for Call<S::Range, S::Value, S::Alloc>
+where
+    S::Alloc: Clone,
+    S::Kind: OwnSteps<S::Range>,
+{
+    ghost use Rattle.rangemap_maps.specs.MapHistories.{HasNonEmptyRanges, Step};
+
+    ghost has_non_empty = { HasNonEmptyRanges S.Kind.kind };
+
+    ghost step = { Step S.Kind.kind };
+
+    fn make(self, alloc: S::Alloc, maps: &mut Vec<Map<S>, S::Alloc>) -> bool {
+        match self {
+            Call::Change(Change::New) => add(maps, Ok(Map::new(alloc))),
+            Call::Change(change) => change.make(alloc, maps),
+            Call::FromIter { pairs } => add(maps, Map::from_iter(alloc, pairs)),
+            Call::Extend { at, pairs } => match maps.get_mut(at) {
+                Some(map) => map.extend(pairs).is_ok(),
+                None => false,
+            },
+        }
+    }
+}

@@ -1,0 +1,39 @@
+//! What a set keeps of ranges that stand apart.
+ghost use Rattle.rangemap.specs.Clones.{KeysCloneFaithfully};
+
+use super::{extend_until, insert_until};
+use crate::row::Answer;
+use std::test::Fail;
+use tests_support::{Heap, InRows, OwnCalls, check_that, items_of, pairs_of};
+
+/// Tries `extend`, which has to keep what inserts of the same ranges keep: the first of them.
+pub fn try_growths<S: InRows<Value = ()> + OwnCalls>(
+    heap: &Heap,
+    alloc: S::Alloc,
+    given: &str,
+    left: u64,
+) -> Answer
+    requires faithful_keys { KeysCloneFaithfully S.Range.Key.is_clone S.Range.Key.cmp }
+{
+    let inserted = insert_until::<S>(heap, alloc, pairs_of::<S>(alloc, given)?, left);
+    let extended = extend_until::<S>(heap, alloc, items_of::<S>(alloc, given)?, left);
+    let first = first_of::<S>(alloc, given, extended.0.len())?;
+    check_that(
+        extended == inserted && extended.0 == first,
+        "an `extend` keeps other ranges than inserts",
+    )?;
+    Ok(extended.1)
+}
+
+/// Makes a set of the first ranges, of which there are so many.
+fn first_of<S: InRows<Value = ()>>(alloc: S::Alloc, given: &str, count: usize) -> Result<S, Fail>
+    requires faithful_keys { KeysCloneFaithfully S.Range.Key.is_clone S.Range.Key.cmp }
+{
+    let mut set = S::new_with_step_fns(alloc);
+    for range in given.split(" + ") {
+        if set.len() < count {
+            set.insert(S::range(alloc, range)?, ())?;
+        }
+    }
+    Ok(set)
+}
