@@ -2,13 +2,12 @@
 ghost use Rattle.std.specs.Prelude.{◌<◌};
 
 use crate::value::Stored;
-use rangemap_core::key_range::KeyRange;
 use std::alloc::AllocError;
 use std::ops::{Range, RangeInclusive};
-use tests_support::{ReadsGaps, ReadsPairs};
+use tests_support::{FromEnds, ReadsGaps, ReadsPairs};
 
 /// A range of keys, told by its first key and the one behind its last.
-pub trait Keys: KeyRange<Key = u64> {
+pub trait Keys: FromEnds<Key = u64> {
     /// The range from its first key up to the one behind its last.
     fn up_to(first: u64, behind: u64) -> Self
         ensures non_empty { first < behind → Self.has_key result }

@@ -4,15 +4,15 @@ use crate::digest::Keys;
 use crate::value::Stored;
 use rangemap::{RangeInclusiveMap, RangeInclusiveSet, RangeMap, RangeSet, chunked, tree_map};
 use std::alloc::Global;
-use tests_support::Told;
+use tests_support::InRows;
 
 /// A map from ranges of `u64` keys to values. A set is one to nothing.
 ///
 /// It builds on one trait alone: over two that share a third, each function here takes many times
 /// as long to prove.
-pub trait Store: Told<Range: Keys, Value: Stored, Alloc = Global> {}
+pub trait Store: InRows<Range: Keys, Value: Stored, Alloc = Global> {}
 
-impl<M: Told<Range: Keys, Value: Stored, Alloc = Global>> Store for M {}
+impl<M: InRows<Range: Keys, Value: Stored, Alloc = Global>> Store for M {}
 
 /// The map over half-open ranges.
 pub type HalfOpenStore = RangeMap<u64, u32>;

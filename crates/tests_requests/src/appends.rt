@@ -2,7 +2,9 @@
 ghost use Rattle.rangemap.specs.Clones.{KeysCloneFaithfully, ValuesCloneFaithfully};
 
 use crate::row::{Answer, Row};
-use tests_support::{Heap, InRows, check_that, first_word, made_of, pairs_of};
+use tests_support::{
+    Heap, InRows, Word, check_that, first_word, is_range, made_of, pairs_of, range_of,
+};
 
 /// Two lists of pairs.
 type Lists<R, V, A> = (Vec<(R, V), A>, Vec<(R, V), A>);
@@ -15,9 +17,9 @@ pub fn try_appends<M: InRows>(heap: &Heap, alloc: M::Alloc, row: &Row<'_>, left:
 {
     let (query, list) = first_word(first_word(row.call).1);
     let map: M = made_of(alloc, row.given)?;
-    let query = M::range(alloc, query)?;
-    let found = pairs_of::<M>(alloc, list)?;
-    let all = pairs_of::<M>(alloc, list)?;
+    let query = range_of::<M::Kind, M::Range, M::Alloc>(alloc, query)?;
+    let found = pairs_of::<M::Kind, M::Range, M::Value, M::Alloc>(alloc, list)?;
+    let all = pairs_of::<M::Kind, M::Range, M::Value, M::Alloc>(alloc, list)?;
     append_both::<M>(heap, &map, &query, (found, all), row, left)
 }
 
@@ -55,7 +57,7 @@ fn are_pairs<M: InRows>(pairs: &[(M::Range, M::Value)], list: &str) -> bool {
     for (range, value) in pairs {
         let (pair, others) = rest.split_once(", ").unwrap_or((rest, ""));
         let (text, word) = first_word(pair);
-        if !M::is_range(range, text) || !M::is_value(value, word) {
+        if !is_range::<M::Range, M::Alloc>(range, text) || !value.is(word) {
             return false;
         }
         rest = others;

@@ -47,7 +47,7 @@ fn call_until<M: InRows>(
     requires faithful_keys { KeysCloneFaithfully M.Range.Key.is_clone M.Range.Key.cmp }
     requires faithful_values { ValuesCloneFaithfully M.Value.is_clone M.Value.eq }
 {
-    let change = read_change::<M>(alloc, 0, row.call)?;
+    let change = read_change::<M::Kind, M::Range, M::Value, M::Alloc>(alloc, 0, row.call)?;
     heap.refuse_after(left);
     let is_accepted = match change {
         Change::Insert { range, value, .. } => map.insert(range, value).is_ok(),

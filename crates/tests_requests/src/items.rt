@@ -3,7 +3,7 @@
 use crate::row::Answer;
 use std::alloc::AllocError;
 use std::test::Fail;
-use tests_support::{Heap, InRows, MANY, Tries};
+use tests_support::{Heap, InRows, MANY, Tries, is_range};
 
 /// Tries to ask for the first of two items of a list, by `try_next` and, of the same items again,
 /// by `next`, which clone alike.
@@ -75,7 +75,7 @@ where
 /// Whether an item is the one that a text names.
 fn is_item<M: InRows>(item: Option<M::Range>, text: &str) -> bool {
     match item {
-        Some(range) => M::is_range(&range, text),
+        Some(range) => is_range::<M::Range, M::Alloc>(&range, text),
         None => text.is_empty(),
     }
 }

@@ -7,31 +7,33 @@ ghost use Rattle.rangemap.specs.Ranges.{AreNonEmpty};
 use crate::calls::is_made;
 use crate::row::{Answer, Row};
 use rangemap::container::insert_pairs;
-use std::alloc::AllocError;
+use rangemap_core::key_range::KeyRange;
+use rangemap_core::kind::Kind;
+use std::alloc::{AllocError, Allocator};
 use std::test::Fail;
 use tests_support::{
-    Heap, InRows, MANY, OwnCalls, check_row, check_that, extend_by, items_of, made_from, pair_of,
-    pairs_of,
+    Heap, InRows, MANY, OwnCalls, Word, check_row, check_that, extend_by, items_of, made_from,
+    pair_of, pairs_of,
 };
 
 mod growths;
 
 pub use growths::try_growths;
 
-/// Two pairs of a container.
+/// Two pairs of ranges and values.
 type TwoPairs<R, V> = ((R, V), (R, V));
 
-/// Makes the two pairs that a text names.
-pub fn two_pairs<M: InRows>(
-    alloc: M::Alloc,
+/// Makes the two pairs that a text names, of a container's kind.
+pub fn two_pairs<Q: Kind<R>, R: KeyRange<Key: Word<A>>, V: Word<A>, A: Allocator + Copy>(
+    alloc: A,
     pairs: &str,
-) -> Result<TwoPairs<M::Range, M::Value>, Fail>
-    ensures first { IfOk result (λ pairs. M.Kind.kind.IsNonEmpty pairs.0.0) }
-    ensures second { IfOk result (λ pairs. M.Kind.kind.IsNonEmpty pairs.1.0) }
+) -> Result<TwoPairs<R, V>, Fail>
+    ensures first { IfOk result (λ pairs. Q.kind.IsNonEmpty pairs.0.0) }
+    ensures second { IfOk result (λ pairs. Q.kind.IsNonEmpty pairs.1.0) }
 {
     let (first, second) = pairs.split_once(" + ").ok_or("there are two pairs")?;
-    let first = pair_of::<M>(alloc, first)?;
-    Ok((first, pair_of::<M>(alloc, second)?))
+    let first = pair_of::<Q, R, V, A>(alloc, first)?;
+    Ok((first, pair_of::<Q, R, V, A>(alloc, second)?))
 }
 
 /// Inserts the pairs into an empty container, until the request is refused that comes after `left`
@@ -110,7 +112,12 @@ pub fn try_makers<M: InRows + OwnCalls>(
     requires faithful_keys { KeysCloneFaithfully M.Range.Key.is_clone M.Range.Key.cmp }
     requires faithful_values { ValuesCloneFaithfully M.Value.is_clone M.Value.eq }
 {
-    let inserted = insert_until::<M>(heap, alloc, pairs_of::<M>(alloc, row.given)?, left);
+    let inserted = insert_until::<M>(
+        heap,
+        alloc,
+        pairs_of::<M::Kind, M::Range, M::Value, M::Alloc>(alloc, row.given)?,
+        left,
+    );
     let extended = extend_until::<M>(heap, alloc, items_of::<M>(alloc, row.given)?, left);
     let made = collect_until::<M>(heap, alloc, items_of::<M>(alloc, row.given)?, left);
     check_kept(inserted, extended, made, kept(row.outcome, left)?)

@@ -18,7 +18,8 @@ pub fn try_changes<M: InRows>(heap: &Heap, alloc: M::Alloc, row: &Row<'_>, left:
     requires faithful_keys { KeysCloneFaithfully M.Range.Key.is_clone M.Range.Key.cmp }
     requires faithful_values { ValuesCloneFaithfully M.Value.is_clone M.Value.eq }
 {
-    try_replay::<M, _>(heap, alloc, changes_of::<M>(alloc, row.given), row, left)
+    let calls = changes_of::<M::Kind, M::Range, M::Value, M::Alloc>(alloc, row.given);
+    try_replay::<M, _>(heap, alloc, calls, row, left)
 }
 
 /// Tries to replay calls, which were made, from no container on, of which the request that comes after `left` others

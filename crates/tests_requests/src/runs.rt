@@ -48,7 +48,7 @@ pub fn try_run<M: InRows>(heap: &Heap, alloc: M::Alloc, row: &Row<'_>, left: u64
     requires faithful_values { ValuesCloneFaithfully M.Value.is_clone M.Value.eq }
 {
     let mut map = M::new_with_step_fns(alloc);
-    let (first, second) = two_pairs::<M>(alloc, row.given)?;
+    let (first, second) = two_pairs::<M::Kind, M::Range, M::Value, M::Alloc>(alloc, row.given)?;
     let commands = commands::<M>(alloc, first, second)?;
     heap.refuse_after(left);
     match run(alloc, &mut map, commands) {

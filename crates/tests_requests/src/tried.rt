@@ -7,7 +7,7 @@ mod sets;
 use crate::row::{Answer, Row};
 use std::alloc::Allocator;
 use std::test::Fail;
-use tests_support::{Heap, InRows, MANY, check_that, made_of};
+use tests_support::{Heap, InRows, MANY, check_that, made_of, range_of};
 
 /// What rows are tried on.
 ///
@@ -40,7 +40,7 @@ fn with_range<M: InRows>(alloc: M::Alloc, pairs: &str, range: &str) -> Result<(M
     requires faithful_values { ValuesCloneFaithfully M.Value.is_clone M.Value.eq }
 {
     let map = made_of(alloc, pairs)?;
-    Ok((map, M::range(alloc, range)?))
+    Ok((map, range_of::<M::Kind, M::Range, M::Alloc>(alloc, range)?))
 }
 
 /// Tries the calls of a text, one on each line.

@@ -3,7 +3,7 @@ ghost use Rattle.rangemap.specs.Clones.{KeysCloneFaithfully};
 
 use rangemap_core::key_range::KeyRange;
 use std::alloc::AllocError;
-use tests_support::{Compared, InRows, first_word, is_pair};
+use tests_support::{Compared, InRows, Word, first_word, is_pair};
 
 /// Whether a query overlaps the pairs of a list.
 pub(crate) fn has_overlapping<M: InRows>(
@@ -33,7 +33,7 @@ pub(crate) fn has_gaps<M: InRows>(
 pub(crate) fn has_found<M: InRows>(map: &M, key: &<M::Range as KeyRange>::Key, pair: &str) -> bool {
     let pair = if pair.is_empty() { None } else { Some(pair) };
     let is_value = match (map.get(key), pair) {
-        (Some(value), Some(pair)) => M::is_value(value, first_word(pair).1),
+        (Some(value), Some(pair)) => value.is(first_word(pair).1),
         (value, pair) => value.is_none() && pair.is_none(),
     };
     is_value

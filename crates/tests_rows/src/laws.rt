@@ -5,7 +5,7 @@ use crate::answers::has_gaps;
 use rangemap_core::key_range::KeyRange;
 use rangemap_laws::laws;
 use std::test::Fail;
-use tests_support::{InRows, first_word, holds, pair_of, take_item};
+use tests_support::{InRows, first_word, holds, is_range, pair_of, query_of, range_of, take_item};
 
 /// Runs a law on two containers that are equal, or on the first alone, and compares what it leaves.
 pub(crate) fn keeps_law<M: InRows>(
@@ -39,7 +39,7 @@ fn keeps_insert<M: InRows>(
     requires faithful_keys { KeysCloneFaithfully M.Range.Key.is_clone M.Range.Key.cmp }
     requires faithful_values { ValuesCloneFaithfully M.Value.is_clone M.Value.eq }
 {
-    let (range, value) = pair_of::<M>(alloc, pair)?;
+    let (range, value) = pair_of::<M::Kind, M::Range, M::Value, M::Alloc>(alloc, pair)?;
     laws::insert_changes_its_range_alone(&mut map, range, value)?;
     Ok(holds(&map, pairs)?)
 }
@@ -54,7 +54,10 @@ fn keeps_remove<M: InRows>(
     requires faithful_keys { KeysCloneFaithfully M.Range.Key.is_clone M.Range.Key.cmp }
     requires faithful_values { ValuesCloneFaithfully M.Value.is_clone M.Value.eq }
 {
-    laws::remove_changes_its_range_alone(&mut map, M::range(alloc, range)?)?;
+    laws::remove_changes_its_range_alone(
+        &mut map,
+        range_of::<M::Kind, M::Range, M::Alloc>(alloc, range)?,
+    )?;
     Ok(holds(&map, pairs)?)
 }
 
@@ -68,7 +71,7 @@ fn is_parted<M: InRows>(
     requires faithful_keys { KeysCloneFaithfully M.Range.Key.is_clone M.Range.Key.cmp }
     requires faithful_values { ValuesCloneFaithfully M.Value.is_clone M.Value.eq }
 {
-    let outer_range = M::query(alloc, outer_range)?;
+    let outer_range = query_of(alloc, outer_range)?;
     let found = laws::gaps_and_covered_keys_make_up_a_range(alloc, map, &outer_range)?;
     Ok(are_ranges::<M>(found.as_slice(), gaps) && has_gaps(map, &outer_range, gaps)?)
 }
@@ -78,7 +81,7 @@ fn are_ranges<M: InRows>(ranges: &[M::Range], list: &str) -> bool {
     let mut rest = list;
     for range in ranges {
         match take_item(&mut rest) {
-            Some(item) if M::is_range(range, item) => {}
+            Some(item) if is_range::<M::Range, M::Alloc>(range, item) => {}
             _ => return false,
         }
     }
@@ -99,8 +102,8 @@ fn commute<M: InRows>(
     requires faithful_values { ValuesCloneFaithfully M.Value.is_clone M.Value.eq }
 {
     let (first, second) = inserted.split_once(" + ").ok_or("two inserts commute")?;
-    let first = pair_of::<M>(alloc, first)?;
-    let second = pair_of::<M>(alloc, second)?;
+    let first = pair_of::<M::Kind, M::Range, M::Value, M::Alloc>(alloc, first)?;
+    let second = pair_of::<M::Kind, M::Range, M::Value, M::Alloc>(alloc, second)?;
     if first.0.reaches(second.0.start()) {
         return Err(Fail::new("inserts that commute have a key in common"));
     }
@@ -133,7 +136,7 @@ fn are_alike<M: InRows>(
         return Ok(false);
     }
     let (name, pair) = first_word(law);
-    let (range, value) = pair_of::<M>(alloc, pair)?;
+    let (range, value) = pair_of::<M::Kind, M::Range, M::Value, M::Alloc>(alloc, pair)?;
     match name {
         "twice" => laws::insert_twice_equals_once(&mut one, &mut other, &range, &value)?,
         "back" => laws::remove_after_insert_equals_remove(&mut one, &mut other, &range, &value)?,

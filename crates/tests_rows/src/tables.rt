@@ -12,7 +12,9 @@ ghost use Rattle.rangemap.specs.Clones.{KeysCloneFaithfully, ValuesCloneFaithful
 use crate::answers::{has_found, has_gaps, has_overlapping};
 use crate::laws::keeps_law;
 use std::test::Fail;
-use tests_support::{InRows, check_that, first_word, holds, insert_all, make, parts, rows};
+use tests_support::{
+    InRows, Word, check_that, first_word, holds, insert_all, make, parts, query_of, rows,
+};
 
 /// Compares the answer of each row of a table.
 pub fn check_rows<M: InRows>(alloc: M::Alloc, table: &str) -> Result<(), Fail>
@@ -42,9 +44,9 @@ fn is_answered<M: InRows>(alloc: M::Alloc, row: &str) -> Result<bool, Fail>
             let copy = map.clone()?;
             Ok(copy == map && holds(&copy, answer)?)
         }
-        "overlapping" => Ok(has_overlapping(&map, &M::query(alloc, operand)?, answer)?),
-        "gaps" => Ok(has_gaps(&map, &M::query(alloc, operand)?, answer)?),
-        "at" => Ok(has_found(&map, &M::key(alloc, operand)?, answer)),
+        "overlapping" => Ok(has_overlapping(&map, &query_of(alloc, operand)?, answer)?),
+        "gaps" => Ok(has_gaps(&map, &query_of(alloc, operand)?, answer)?),
+        "at" => Ok(has_found(&map, &Word::read(alloc, operand)?, answer)),
         "equals" => {
             insert_all(&mut other, alloc, operand)?;
             let (is_equal, differs) = (map == other, map != other);

@@ -5,35 +5,43 @@ ghost use Rattle.rangemap_replay.specs.Histories.{HasNonEmptyRange};
 
 use crate::grammar::first_word;
 use crate::in_rows::InRows;
+use crate::ranges::range_of;
+use crate::words::Word;
+use rangemap_core::key_range::KeyRange;
+use rangemap_core::kind::Kind;
 use rangemap_replay::calls::Change;
+use std::alloc::Allocator;
 use std::test::Fail;
 
 /// Makes the range and the value of a pair.
-pub fn pair_of<M: InRows>(alloc: M::Alloc, pair: &str) -> Result<(M::Range, M::Value), Fail>
-    ensures { IfOk result (λ pair. M.Kind.kind.IsNonEmpty pair.0) }
+pub fn pair_of<Q: Kind<R>, R: KeyRange<Key: Word<A>>, V: Word<A>, A: Allocator + Copy>(
+    alloc: A,
+    pair: &str,
+) -> Result<(R, V), Fail>
+    ensures { IfOk result (λ pair. Q.kind.IsNonEmpty pair.0) }
 {
     let (range, value) = first_word(pair);
-    let range = M::range(alloc, range)?;
-    Ok((range, M::value(alloc, value)?))
+    let range = range_of::<Q, R, A>(alloc, range)?;
+    Ok((range, V::read(alloc, value)?))
 }
 
 /// Makes the call that a text names, on the container at a place of a list: `insert` of a range and
 /// a value, `remove` of a range, `clear`, `clone` or `new`.
-pub fn read_change<M: InRows>(
-    alloc: M::Alloc,
+pub fn read_change<Q: Kind<R>, R: KeyRange<Key: Word<A>>, V: Word<A>, A: Allocator + Copy>(
+    alloc: A,
     at: usize,
     text: &str,
-) -> Result<Change<M::Range, M::Value>, Fail>
-    ensures { IfOk result (HasNonEmptyRange M.Kind.kind) }
+) -> Result<Change<R, V>, Fail>
+    ensures { IfOk result (HasNonEmptyRange Q.kind) }
 {
     let (name, operand) = first_word(text);
     match name {
         "insert" => {
-            let (range, value) = pair_of::<M>(alloc, operand)?;
+            let (range, value) = pair_of::<Q, R, V, A>(alloc, operand)?;
             Ok(Change::Insert { at, range, value })
         }
         "remove" => {
-            let range = M::range(alloc, operand)?;
+            let range = range_of::<Q, R, A>(alloc, operand)?;
             Ok(Change::Remove { at, range })
         }
         "clear" => Ok(Change::Clear { at }),
@@ -49,7 +57,7 @@ pub fn make<M: InRows>(map: &mut M, alloc: M::Alloc, calls: &str) -> Result<(), 
     requires faithful_values { ValuesCloneFaithfully M.Value.is_clone M.Value.eq }
 {
     for call in calls.split(", ") {
-        match read_change::<M>(alloc, 0, call)? {
+        match read_change::<M::Kind, M::Range, M::Value, M::Alloc>(alloc, 0, call)? {
             Change::Insert { range, value, .. } => map.insert(range, value)?,
             Change::Remove { range, .. } => map.remove(range)?,
             Change::Clear { .. } => map.clear(),
@@ -77,7 +85,7 @@ pub fn insert_all<M: InRows>(map: &mut M, alloc: M::Alloc, pairs: &str) -> Resul
 {
     for pair in pairs.split(", ") {
         if !pair.is_empty() {
-            let (range, value) = pair_of::<M>(alloc, pair)?;
+            let (range, value) = pair_of::<M::Kind, M::Range, M::Value, M::Alloc>(alloc, pair)?;
             map.insert(range, value)?;
         }
     }

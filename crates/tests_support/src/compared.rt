@@ -2,8 +2,10 @@
 
 use crate::grammar::{first_word, last_item, take_item};
 use crate::in_rows::InRows;
+use crate::ranges::is_range;
 use crate::readers::{ReadsGaps, ReadsPairs};
 use crate::same::check_that;
+use crate::words::Word;
 use std::alloc::AllocError;
 use std::marker::PhantomData;
 use std::test::Fail;
@@ -47,7 +49,7 @@ impl<'t, M: InRows> ReadsPairs<M::Range, M::Value> for Compared<'t, M> {
 impl<'t, M: InRows> ReadsGaps<M::Range> for Compared<'t, M> {
     fn gap(&mut self, gap: M::Range) -> Result<(), AllocError> {
         match take_item(&mut self.rest) {
-            Some(item) => self.are_equal &= M::is_range(&gap, item),
+            Some(item) => self.are_equal &= is_range::<M::Range, M::Alloc>(&gap, item),
             None => self.are_equal = false,
         }
         Ok(())
@@ -59,7 +61,7 @@ pub fn is_pair<M: InRows>(found: Option<(&M::Range, &M::Value)>, item: Option<&s
     match (found, item) {
         (Some((range, value)), Some(item)) => {
             let (text, word) = first_word(item);
-            M::is_range(range, text) && M::is_value(value, word)
+            is_range::<M::Range, M::Alloc>(range, text) && value.is(word)
         }
         (None, None) => true,
         _ => false,

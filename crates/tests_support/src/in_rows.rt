@@ -1,105 +1,190 @@
-//! What rows ask of a container: to make what a text names, and to compare with it.
-ghost use Rattle.std.specs.Prelude.{IfOk};
+//! The containers that rows speak of, each of which tells what its iterators give.
+ghost use Rattle.rangemap.specs.Clones.{KeysCloneFaithfully};
 
-use crate::readers::Told;
+use crate::chunked::{ChunkedMap, ChunkedSet};
+use crate::ranges::FromEnds;
+use crate::readers::{ReadsGaps, ReadsPairs, tell_gaps, tell_pairs, tell_ranges};
 use crate::words::Word;
-use rangemap_core::key_range::KeyRange;
-use std::ops::{Range, RangeInclusive};
-use std::test::Fail;
+use rangemap::container::Container;
+use rangemap::map::Map;
+use rangemap::range_set::Set;
+use rangemap::{tree_map, tree_set};
+use rangemap_core::kind::Kind;
+use rangemap_sorted::SortedVec;
+use std::alloc::{AllocError, Allocator};
+use std::ops::Range;
 
-/// Why a text names no range of a container.
-const OTHER_KIND: &str = "a range of a row is of the other kind";
-
-/// A container that rows speak of.
+/// A container of which a text names the ranges and the values, and which tells what it holds, by its
+/// own iterators.
 ///
 /// It builds on one trait alone: over two that share a third, each function here takes many times
-/// as long to prove.
-pub trait InRows: Told<Alloc: Copy> {
-    /// Makes the key that a word names.
-    fn key(alloc: Self::Alloc, word: &str) -> Result<<Self::Range as KeyRange>::Key, Fail>;
+/// as long to prove. And each container has an impl of its own: one for all that have what is asked
+/// would make every use of a container twice as long to prove.
+pub trait InRows: Container<
+    Alloc: Copy,
+    Range: FromEnds<Key: Word<Self::Alloc>>,
+    Value: Word<Self::Alloc>,
+> {
+    /// Tells a reader of all pairs, in order.
+    fn read_all<U: ReadsPairs<Self::Range, Self::Value>>(
+        &self,
+        reader: &mut U,
+    ) -> Result<(), AllocError>;
 
-    /// Makes the range that a text names, which has to hold a key.
-    fn range(alloc: Self::Alloc, text: &str) -> Result<Self::Range, Fail>
-        ensures { IfOk result (λ range. Self.Kind.kind.IsNonEmpty range) };
+    /// Tells a reader of the pairs that overlap `range`, in order.
+    fn read_overlapping<U: ReadsPairs<Self::Range, Self::Value>>(
+        &self,
+        range: &Self::Range,
+        reader: &mut U,
+    ) -> Result<(), AllocError>;
 
-    /// Makes the range that a query names, which may be empty or reversed.
-    fn query(alloc: Self::Alloc, text: &str) -> Result<Self::Range, Fail>;
-
-    /// Makes the value that a word names.
-    fn value(alloc: Self::Alloc, word: &str) -> Result<Self::Value, Fail>;
-
-    /// Whether a range is the one that a text names.
-    fn is_range(range: &Self::Range, text: &str) -> bool;
-
-    /// Whether a value is the one that a word names.
-    fn is_value(value: &Self::Value, word: &str) -> bool;
+    /// Tells a reader of the gaps in `outer_range`, in order. `Err` may say that a gap was refused.
+    fn read_gaps<U: ReadsGaps<Self::Range>>(
+        &self,
+        outer_range: &Self::Range,
+        reader: &mut U,
+    ) -> Result<(), AllocError>
+        requires faithful_keys { KeysCloneFaithfully Self.Range.Key.is_clone Self.Range.Key.cmp };
 }
 
-/// A range of any two ends.
-pub trait FromEnds: KeyRange {
-    /// Makes the range from a start to an end.
-    fn from_ends(start: Self::Key, end: Self::Key) -> Self;
-}
+impl<Q: Kind<R>, R: FromEnds<Key: Word<A>>, V: Eq + Clone + Word<A>, A: Allocator + Copy> InRows
+    for Map<SortedVec<Q, R, V, A>> {
+    fn read_all<U: ReadsPairs<R, V>>(&self, reader: &mut U) -> Result<(), AllocError> {
+        tell_pairs(self.iter(), reader)
+    }
 
-impl<K: Ord + Clone> FromEnds for Range<K> {
-    fn from_ends(start: K, end: K) -> Self {
-        start..end
+    fn read_overlapping<U: ReadsPairs<R, V>>(
+        &self,
+        range: &R,
+        reader: &mut U,
+    ) -> Result<(), AllocError> {
+        tell_pairs(self.overlapping(range), reader)
+    }
+
+    fn read_gaps<U: ReadsGaps<R>>(
+        &self,
+        outer_range: &R,
+        reader: &mut U,
+    ) -> Result<(), AllocError> {
+        tell_gaps(self.gaps(outer_range), reader)
     }
 }
 
-impl<K: Ord + Clone> FromEnds for RangeInclusive<K> {
-    fn from_ends(start: K, end: K) -> Self {
-        start..=end
+impl<K: Ord + Clone + Word<A>, V: Eq + Clone + Word<A>, A: Allocator + Copy> InRows
+    for tree_map::RangeMap<K, V, A> {
+    fn read_all<U: ReadsPairs<Range<K>, V>>(&self, reader: &mut U) -> Result<(), AllocError> {
+        tell_pairs(self.iter(), reader)
+    }
+
+    fn read_overlapping<U: ReadsPairs<Range<K>, V>>(
+        &self,
+        range: &Range<K>,
+        reader: &mut U,
+    ) -> Result<(), AllocError> {
+        tell_pairs(self.overlapping(range), reader)
+    }
+
+    fn read_gaps<U: ReadsGaps<Range<K>>>(
+        &self,
+        outer_range: &Range<K>,
+        reader: &mut U,
+    ) -> Result<(), AllocError> {
+        tell_gaps(self.gaps(outer_range), reader)
     }
 }
 
-/// The words between which a text has a range, unless it is one of the other kind.
-fn ends<R: KeyRange>(text: &str) -> Option<(&str, &str)> {
-    let (start, end) = text.split_once(R::dots())?;
-    if end.starts_with('=') {
-        None
-    } else {
-        Some((start, end))
+impl<Q: Kind<R>, R: FromEnds<Key: Word<A>>, A: Allocator + Copy> InRows
+    for Set<SortedVec<Q, R, (), A>> {
+    fn read_all<U: ReadsPairs<R, ()>>(&self, reader: &mut U) -> Result<(), AllocError> {
+        tell_ranges(self.iter(), reader)
+    }
+
+    fn read_overlapping<U: ReadsPairs<R, ()>>(
+        &self,
+        range: &R,
+        reader: &mut U,
+    ) -> Result<(), AllocError> {
+        tell_ranges(self.overlapping(range), reader)
+    }
+
+    fn read_gaps<U: ReadsGaps<R>>(
+        &self,
+        outer_range: &R,
+        reader: &mut U,
+    ) -> Result<(), AllocError> {
+        tell_gaps(self.gaps(outer_range), reader)
     }
 }
 
-impl<M: Told<Alloc: Copy, Range: FromEnds>> InRows for M
-where
-    <M::Range as KeyRange>::Key: Word<M::Alloc>,
-    M::Value: Word<M::Alloc>,
-{
-    fn key(alloc: M::Alloc, word: &str) -> Result<<M::Range as KeyRange>::Key, Fail> {
-        <<M::Range as KeyRange>::Key as Word<M::Alloc>>::read(alloc, word)
+impl<T: Ord + Clone + Word<A>, A: Allocator + Copy> InRows for tree_set::RangeSet<T, A> {
+    fn read_all<U: ReadsPairs<Range<T>, ()>>(&self, reader: &mut U) -> Result<(), AllocError> {
+        tell_ranges(self.iter(), reader)
     }
 
-    fn range(alloc: M::Alloc, text: &str) -> Result<M::Range, Fail> {
-        let (start, end) = ends::<M::Range>(text).ok_or(OTHER_KIND)?;
-        let start = Self::key(alloc, start)?;
-        let end = Self::key(alloc, end)?;
-        Ok(M::Range::between(start, end).ok_or("a range of a row is empty")?)
+    fn read_overlapping<U: ReadsPairs<Range<T>, ()>>(
+        &self,
+        range: &Range<T>,
+        reader: &mut U,
+    ) -> Result<(), AllocError> {
+        tell_ranges(self.overlapping(range), reader)
     }
 
-    fn query(alloc: M::Alloc, text: &str) -> Result<M::Range, Fail> {
-        let (start, end) = ends::<M::Range>(text).ok_or(OTHER_KIND)?;
-        let start = Self::key(alloc, start)?;
-        Ok(M::Range::from_ends(start, Self::key(alloc, end)?))
+    fn read_gaps<U: ReadsGaps<Range<T>>>(
+        &self,
+        outer_range: &Range<T>,
+        reader: &mut U,
+    ) -> Result<(), AllocError> {
+        tell_gaps(self.gaps(outer_range), reader)
+    }
+}
+
+impl<
+    Q: Kind<R>,
+    R: FromEnds<Key: Word<A>>,
+    V: Eq + Clone + Word<A>,
+    A: Allocator + Copy,
+    const N: usize,
+> InRows for ChunkedMap<Q, R, V, A, N> {
+    fn read_all<U: ReadsPairs<R, V>>(&self, reader: &mut U) -> Result<(), AllocError> {
+        tell_pairs(self.iter(), reader)
     }
 
-    fn value(alloc: M::Alloc, word: &str) -> Result<M::Value, Fail> {
-        <M::Value as Word<M::Alloc>>::read(alloc, word)
+    fn read_overlapping<U: ReadsPairs<R, V>>(
+        &self,
+        range: &R,
+        reader: &mut U,
+    ) -> Result<(), AllocError> {
+        tell_pairs(self.overlapping(range), reader)
     }
 
-    fn is_range(range: &M::Range, text: &str) -> bool {
-        match ends::<M::Range>(text) {
-            Some((start, end)) => {
-                <<M::Range as KeyRange>::Key as Word<M::Alloc>>::is(range.start(), start)
-                    && <<M::Range as KeyRange>::Key as Word<M::Alloc>>::is(range.end(), end)
-            }
-            None => false,
-        }
+    fn read_gaps<U: ReadsGaps<R>>(
+        &self,
+        outer_range: &R,
+        reader: &mut U,
+    ) -> Result<(), AllocError> {
+        tell_gaps(self.gaps(outer_range), reader)
+    }
+}
+
+impl<Q: Kind<R>, R: FromEnds<Key: Word<A>>, A: Allocator + Copy, const N: usize> InRows
+    for ChunkedSet<Q, R, A, N> {
+    fn read_all<U: ReadsPairs<R, ()>>(&self, reader: &mut U) -> Result<(), AllocError> {
+        tell_ranges(self.iter(), reader)
     }
 
-    fn is_value(value: &M::Value, word: &str) -> bool {
-        <M::Value as Word<M::Alloc>>::is(value, word)
+    fn read_overlapping<U: ReadsPairs<R, ()>>(
+        &self,
+        range: &R,
+        reader: &mut U,
+    ) -> Result<(), AllocError> {
+        tell_ranges(self.overlapping(range), reader)
+    }
+
+    fn read_gaps<U: ReadsGaps<R>>(
+        &self,
+        outer_range: &R,
+        reader: &mut U,
+    ) -> Result<(), AllocError> {
+        tell_gaps(self.gaps(outer_range), reader)
     }
 }

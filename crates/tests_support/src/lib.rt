@@ -1,10 +1,10 @@
 //! Test support: what the libraries of tests stand on.
 //!
-//! `words`, `grammar` and `in_rows` say what the text of a row means, and `calls`, `replays` and
-//! `compared` make containers and calls of it and compare what a container holds. `own_calls` has the
-//! calls that maps and sets do not have in common, `readers` tells what a container's own iterators
-//! give, `chunked` names containers in small chunks, `refusing` is an allocator that refuses memory,
-//! and beside them stand keys, values and steps of the tests' own.
+//! `words`, `ranges` and `grammar` say what the text of a row means, `in_rows` which containers it
+//! speaks of, and `calls`, `replays` and `compared` make containers and calls of it and compare what a
+//! container holds. `own_calls` has the calls that maps and sets do not have in common, `readers` is
+//! told what a container's own iterators give, `chunked` names containers in small chunks, `refusing`
+//! is an allocator that refuses memory, and beside them stand keys, values and steps of the tests' own.
 #![tactic(auto)]
 
 mod calls;
@@ -21,7 +21,6 @@ mod refusing;
 mod replays;
 mod same;
 mod signed;
-mod told;
 mod tries;
 mod words;
 
@@ -31,10 +30,10 @@ pub use compared::{Compared, check_row, holds, is_pair};
 pub use costly::{Costly, CostlyMap, CostlySet, CostlyTree, CostlyTreeSet, HalfOpenCostlySet};
 pub use grammar::{first_word, lists, parts, rows, take_item, two_lists, two_parts};
 pub use heaps::{Heap, MANY, Text, Texts};
-pub use in_rows::{FromEnds, InRows};
+pub use in_rows::InRows;
 pub use own_calls::{OwnCalls, extend_by, made_from};
-pub use ranges::filled;
-pub use readers::{ReadsGaps, ReadsPairs, Told, tell_gaps, tell_pairs, tell_ranges};
+pub use ranges::{FromEnds, filled, is_range, query_of, range_of};
+pub use readers::{ReadsGaps, ReadsPairs, tell_gaps, tell_pairs, tell_ranges};
 pub use refusing::Refusing;
 pub use replays::{calls_of, changes_of, items_of, pairs_of, ranges_of, set_calls_of};
 pub use same::{check_same, check_text, check_that};

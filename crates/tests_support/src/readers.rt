@@ -3,9 +3,7 @@
 //! Tests compare a container with a row so, also where its memory is refused, and the bench times a
 //! container's own iterators so. A reader may be told anything: no contract says what.
 ghost use Rattle.std.specs.Iterator.{IsFinite};
-ghost use Rattle.rangemap.specs.Clones.{KeysCloneFaithfully};
 
-use rangemap::container::Container;
 use std::alloc::AllocError;
 use std::iter::Iterator;
 
@@ -19,30 +17,6 @@ pub trait ReadsPairs<R, V> {
 pub trait ReadsGaps<R> {
     /// Takes note of a gap. `Err` says that it could not, and is told of no more.
     fn gap(&mut self, gap: R) -> Result<(), AllocError>;
-}
-
-/// A container that tells what it holds, by its own iterators.
-pub trait Told: Container {
-    /// Tells a reader of all pairs, in order.
-    fn read_all<U: ReadsPairs<Self::Range, Self::Value>>(
-        &self,
-        reader: &mut U,
-    ) -> Result<(), AllocError>;
-
-    /// Tells a reader of the pairs that overlap `range`, in order.
-    fn read_overlapping<U: ReadsPairs<Self::Range, Self::Value>>(
-        &self,
-        range: &Self::Range,
-        reader: &mut U,
-    ) -> Result<(), AllocError>;
-
-    /// Tells a reader of the gaps in `outer_range`, in order. `Err` may say that a gap was refused.
-    fn read_gaps<U: ReadsGaps<Self::Range>>(
-        &self,
-        outer_range: &Self::Range,
-        reader: &mut U,
-    ) -> Result<(), AllocError>
-        requires faithful_keys { KeysCloneFaithfully Self.Range.Key.is_clone Self.Range.Key.cmp };
 }
 
 /// Tells a reader of the pairs of an iterator.

@@ -13,9 +13,14 @@ use crate::calls::{pair_of, read_change};
 use crate::grammar::first_word;
 use crate::in_rows::InRows;
 use crate::own_calls::OwnCalls;
+use crate::ranges::range_of;
+use crate::words::Word;
 use rangemap::range_set::calls::SetCall;
+use rangemap_core::key_range::KeyRange;
+use rangemap_core::kind::Kind;
 use rangemap_maps::range_map::calls::Call;
 use rangemap_replay::calls::Change;
+use std::alloc::Allocator;
 use std::test::Fail;
 
 /// Divides the place from a call.
@@ -28,27 +33,30 @@ fn place(text: &str) -> Result<(usize, &str), Fail> {
 
 /// Makes the pairs that a text names.
 #[tactic(auto, using(crate::proofs::OneMore::pairs_and_one))]
-pub fn pairs_of<M: InRows>(
-    alloc: M::Alloc,
+pub fn pairs_of<Q: Kind<R>, R: KeyRange<Key: Word<A>>, V: Word<A>, A: Allocator + Copy>(
+    alloc: A,
     pairs: &str,
-) -> Result<Vec<(M::Range, M::Value), M::Alloc>, Fail>
-    ensures { IfOk result (λ all. AreNonEmpty M.Kind.kind all.items) }
+) -> Result<Vec<(R, V), A>, Fail>
+    ensures { IfOk result (λ all. AreNonEmpty Q.kind all.items) }
 {
     let mut all = Vec::new(alloc);
     for pair in pairs.split(" + ") {
-        all.push(pair_of::<M>(alloc, pair)?)?;
+        all.push(pair_of::<Q, R, V, A>(alloc, pair)?)?;
     }
     Ok(all)
 }
 
 /// Makes the ranges that a text names.
 #[tactic(auto, using(crate::proofs::OneMore::all_and_one))]
-pub fn ranges_of<M: InRows>(alloc: M::Alloc, ranges: &str) -> Result<Vec<M::Range, M::Alloc>, Fail>
-    ensures { IfOk result (λ all. AreNonEmptyRanges M.Kind.kind all.items) }
+pub fn ranges_of<Q: Kind<R>, R: KeyRange<Key: Word<A>>, A: Allocator + Copy>(
+    alloc: A,
+    ranges: &str,
+) -> Result<Vec<R, A>, Fail>
+    ensures { IfOk result (λ all. AreNonEmptyRanges Q.kind all.items) }
 {
     let mut all = Vec::new(alloc);
     for range in ranges.split(" + ") {
-        all.push(M::range(alloc, range)?)?;
+        all.push(range_of::<Q, R, A>(alloc, range)?)?;
     }
     Ok(all)
 }
@@ -63,7 +71,7 @@ pub fn items_of<M: InRows + OwnCalls>(
 {
     let mut all = Vec::new(alloc);
     for item in items.split(" + ") {
-        let (range, value) = pair_of::<M>(alloc, item)?;
+        let (range, value) = pair_of::<M::Kind, M::Range, M::Value, M::Alloc>(alloc, item)?;
         all.push(M::item(range, value))?;
     }
     Ok(all)
@@ -71,88 +79,88 @@ pub fn items_of<M: InRows + OwnCalls>(
 
 /// Makes the calls of a list that take no pairs, and one range at most.
 #[tactic(auto, using(crate::proofs::OneMore::all_and_one))]
-pub fn changes_of<M: InRows>(
-    alloc: M::Alloc,
+pub fn changes_of<Q: Kind<R>, R: KeyRange<Key: Word<A>>, V: Word<A>, A: Allocator + Copy>(
+    alloc: A,
     calls: &str,
-) -> Result<Vec<Change<M::Range, M::Value>, M::Alloc>, Fail>
-    ensures { IfOk result (λ all. AllByRecursion (HasNonEmptyRange M.Kind.kind) all.items) }
+) -> Result<Vec<Change<R, V>, A>, Fail>
+    ensures { IfOk result (λ all. AllByRecursion (HasNonEmptyRange Q.kind) all.items) }
 {
     let mut all = Vec::new(alloc);
     for call in calls.split(", ") {
         let (at, call) = place(call)?;
-        all.push(read_change::<M>(alloc, at, call)?)?;
+        all.push(read_change::<Q, R, V, A>(alloc, at, call)?)?;
     }
     Ok(all)
 }
 
 /// Makes the calls of a list on maps.
 #[tactic(auto, using(crate::proofs::OneMore::all_and_one))]
-pub fn calls_of<M: InRows>(
-    alloc: M::Alloc,
+pub fn calls_of<Q: Kind<R>, R: KeyRange<Key: Word<A>>, V: Word<A>, A: Allocator + Copy>(
+    alloc: A,
     calls: &str,
-) -> Result<Vec<Call<M::Range, M::Value, M::Alloc>, M::Alloc>, Fail>
-    ensures { IfOk result (λ all. AllByRecursion (HasNonEmptyRanges M.Kind.kind) all.items) }
+) -> Result<Vec<Call<R, V, A>, A>, Fail>
+    ensures { IfOk result (λ all. AllByRecursion (HasNonEmptyRanges Q.kind) all.items) }
 {
     let mut all = Vec::new(alloc);
     for call in calls.split(", ") {
-        all.push(read_call::<M>(alloc, call)?)?;
+        all.push(read_call::<Q, R, V, A>(alloc, call)?)?;
     }
     Ok(all)
 }
 
 /// Makes the call on maps that a text names.
-fn read_call<M: InRows>(
-    alloc: M::Alloc,
+fn read_call<Q: Kind<R>, R: KeyRange<Key: Word<A>>, V: Word<A>, A: Allocator + Copy>(
+    alloc: A,
     call: &str,
-) -> Result<Call<M::Range, M::Value, M::Alloc>, Fail>
-    ensures { IfOk result (HasNonEmptyRanges M.Kind.kind) }
+) -> Result<Call<R, V, A>, Fail>
+    ensures { IfOk result (HasNonEmptyRanges Q.kind) }
 {
     let (at, call) = place(call)?;
     let (name, operands) = first_word(call);
     match name {
         "from" => {
-            let pairs = pairs_of::<M>(alloc, operands)?;
+            let pairs = pairs_of::<Q, R, V, A>(alloc, operands)?;
             Ok(Call::FromIter { pairs })
         }
         "extend" => {
-            let pairs = pairs_of::<M>(alloc, operands)?;
+            let pairs = pairs_of::<Q, R, V, A>(alloc, operands)?;
             Ok(Call::Extend { at, pairs })
         }
-        _ => Ok(Call::Change(read_change::<M>(alloc, at, call)?)),
+        _ => Ok(Call::Change(read_change::<Q, R, V, A>(alloc, at, call)?)),
     }
 }
 
 /// Makes the calls of a list on sets.
 #[tactic(auto, using(crate::proofs::OneMore::all_and_one))]
-pub fn set_calls_of<S: InRows<Value = ()>>(
-    alloc: S::Alloc,
+pub fn set_calls_of<Q: Kind<R>, R: KeyRange<Key: Word<A>>, A: Allocator + Copy>(
+    alloc: A,
     calls: &str,
-) -> Result<Vec<SetCall<S::Range, S::Alloc>, S::Alloc>, Fail>
-    ensures { IfOk result (λ all. AllByRecursion (SetHasNonEmptyRanges S.Kind.kind) all.items) }
+) -> Result<Vec<SetCall<R, A>, A>, Fail>
+    ensures { IfOk result (λ all. AllByRecursion (SetHasNonEmptyRanges Q.kind) all.items) }
 {
     let mut all = Vec::new(alloc);
     for call in calls.split(", ") {
-        all.push(read_set_call::<S>(alloc, call)?)?;
+        all.push(read_set_call::<Q, R, A>(alloc, call)?)?;
     }
     Ok(all)
 }
 
 /// Makes the call on sets that a text names.
-fn read_set_call<S: InRows<Value = ()>>(
-    alloc: S::Alloc,
+fn read_set_call<Q: Kind<R>, R: KeyRange<Key: Word<A>>, A: Allocator + Copy>(
+    alloc: A,
     call: &str,
-) -> Result<SetCall<S::Range, S::Alloc>, Fail>
-    ensures { IfOk result (SetHasNonEmptyRanges S.Kind.kind) }
+) -> Result<SetCall<R, A>, Fail>
+    ensures { IfOk result (SetHasNonEmptyRanges Q.kind) }
 {
     let (at, call) = place(call)?;
     let (name, operands) = first_word(call);
     match name {
         "from" => {
-            let ranges = ranges_of::<S>(alloc, operands)?;
+            let ranges = ranges_of::<Q, R, A>(alloc, operands)?;
             Ok(SetCall::FromIter { ranges })
         }
         "extend" => {
-            let ranges = ranges_of::<S>(alloc, operands)?;
+            let ranges = ranges_of::<Q, R, A>(alloc, operands)?;
             Ok(SetCall::Extend { at, ranges })
         }
         "union" => {
@@ -163,7 +171,7 @@ fn read_set_call<S: InRows<Value = ()>>(
             let (left, right) = places(operands)?;
             Ok(SetCall::Intersection { left, right })
         }
-        _ => Ok(set_call::<S>(read_change::<S>(alloc, at, call)?)),
+        _ => Ok(set_call::<Q, R, A>(read_change::<Q, R, (), A>(alloc, at, call)?)),
     }
 }
 
@@ -174,9 +182,9 @@ fn places(operands: &str) -> Result<(usize, usize), Fail> {
 }
 
 /// The call on a set that a change is.
-fn set_call<S: InRows<Value = ()>>(change: Change<S::Range, ()>) -> SetCall<S::Range, S::Alloc>
-    requires { HasNonEmptyRange S.Kind.kind change }
-    ensures { SetHasNonEmptyRanges S.Kind.kind result }
+fn set_call<Q: Kind<R>, R: KeyRange, A: Allocator>(change: Change<R, ()>) -> SetCall<R, A>
+    requires { HasNonEmptyRange Q.kind change }
+    ensures { SetHasNonEmptyRanges Q.kind result }
 {
     match change {
         Change::New => SetCall::New,

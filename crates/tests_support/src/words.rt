@@ -6,7 +6,7 @@ use std::str::FromStr;
 use std::test::Fail;
 
 /// A key or a value that a word names.
-pub trait Word<A: Drop>: Sized {
+pub trait Word<A: Drop>: Drop {
     /// Makes what the word names, in memory of `alloc`.
     fn read(alloc: A, word: &str) -> Result<Self, Fail>;
 
@@ -20,6 +20,8 @@ pub trait Plain: FromStr<Err: Debug + Drop> + PartialEq + Drop {}
 impl Plain for u8 {}
 
 impl Plain for u32 {}
+
+impl Plain for u64 {}
 
 impl Plain for i8 {}
 

@@ -14,7 +14,7 @@ use std::fmt::Debug;
 use std::ops::{Range, RangeInclusive};
 use std::test::Fail;
 use tests_rows::{check_both_ends, check_counted_back, check_three, check_tries};
-use tests_support::{ChunkedMap, FromEnds, InRows, Word, check_text, insert_all, made_of};
+use tests_support::{ChunkedMap, FromEnds, Word, check_text, insert_all, made_of, query_of};
 
 /// A map from keys to letters, in a sorted vector.
 type Letters<Q, R> = Map<SortedVec<Q, R, char, Global>>;
@@ -61,7 +61,7 @@ fn check_gap<Q: Kind<R>, R: FromEnds<Key = u32> + Debug>(
     gap: &str,
 ) -> Result<(), Fail> {
     let map: Letters<Q, R> = made_of(alloc, pairs)?;
-    let outer_range = <Letters<Q, R> as InRows>::query(alloc, outer_range)?;
+    let outer_range: R = query_of(alloc, outer_range)?;
     let gaps = (
         map.gaps(&outer_range),
         map.gaps(&outer_range),
@@ -77,7 +77,7 @@ fn check_ended<Q: OwnSteps<R>, R: FromEnds<Key = u32>>(
     query: &str,
 ) -> Result<(), Fail> {
     let map: Letters<Q, R> = made_of(alloc, pair)?;
-    let query = <Letters<Q, R> as InRows>::query(alloc, query)?;
+    let query: R = query_of(alloc, query)?;
     check_both_ends(map.iter(), map.iter())?;
     check_both_ends(map.overlapping(&query), map.overlapping(&query))?;
     let copy = map.clone()?;
@@ -96,7 +96,7 @@ fn check_chunks<Q: OwnSteps<R>, R: FromEnds<Key = u32> + Debug>(
     let copy = map.clone()?;
     check_three(alloc, map.iter(), pairs, true)?;
     insert_all(&mut map, alloc, others)?;
-    let query = <Chunked<Q, R> as InRows>::query(alloc, query)?;
+    let query: R = query_of(alloc, query)?;
     check_three(alloc, map.overlapping(&query), pairs, false)?;
     check_three(alloc, copy.clone()?.into_iter(), pairs, true)?;
     check_counted_back(alloc, copy.into_iter(), pairs)
@@ -120,7 +120,7 @@ fn check_chunks_ended<Q: Kind<R>, R: FromEnds<Key = u32> + Debug>(
     gap: &str,
 ) -> Result<(), Fail> {
     let map: Chunked<Q, R> = made_of(alloc, pairs)?;
-    let outer_range = <Chunked<Q, R> as InRows>::query(alloc, outer_range)?;
+    let outer_range: R = query_of(alloc, outer_range)?;
     let gaps = (
         map.gaps(&outer_range),
         map.gaps(&outer_range),

@@ -15,20 +15,31 @@ use std::test::Fail;
 use tests_rows::{check_replay, check_rows};
 use tests_support::{ChunkedMap, FromEnds, InRows, SignedSteps, Word, calls_of, changes_of, parts};
 
-/// Compares a table for maps in chunks of up to two pairs, of three, and of four, which are the
-/// fewest where small neighbours become one.
-fn check_in_chunks<
+/// Compares a table for maps in chunks of up to `N` pairs.
+fn check_in_chunks_of<
     Q: Kind<R>,
-    R: FromEnds<Key = K>,
-    K: Ord + Clone + Word<Global>,
+    R: FromEnds<Key: Word<Global>>,
     V: Eq + Clone + Word<Global>,
+    const N: usize,
 >(alloc: Global, table: &str) -> Result<(), Fail>
-    requires faithful_keys { KeysCloneFaithfully K.is_clone K.cmp }
+    requires faithful_keys { KeysCloneFaithfully R.Key.is_clone R.Key.cmp }
     requires faithful_values { ValuesCloneFaithfully V.is_clone V.eq }
 {
-    check_rows::<ChunkedMap<Q, R, V, Global, 2>>(alloc, table)?;
-    check_rows::<ChunkedMap<Q, R, V, Global, 3>>(alloc, table)?;
-    check_rows::<ChunkedMap<Q, R, V, Global, 4>>(alloc, table)
+    check_rows::<ChunkedMap<Q, R, V, Global, N>>(alloc, table)
+}
+
+/// Compares a table for maps in chunks of up to two pairs, of three, and of four, which are the
+/// fewest where small neighbours become one.
+fn check_in_chunks<Q: Kind<R>, R: FromEnds<Key: Word<Global>>, V: Eq + Clone + Word<Global>>(
+    alloc: Global,
+    table: &str,
+) -> Result<(), Fail>
+    requires faithful_keys { KeysCloneFaithfully R.Key.is_clone R.Key.cmp }
+    requires faithful_values { ValuesCloneFaithfully V.is_clone V.eq }
+{
+    check_in_chunks_of::<Q, R, V, 2>(alloc, table)?;
+    check_in_chunks_of::<Q, R, V, 3>(alloc, table)?;
+    check_in_chunks_of::<Q, R, V, 4>(alloc, table)
 }
 
 /// Compares a table for maps of half-open ranges, in a sorted vector, in a tree and in chunks.
@@ -37,7 +48,7 @@ pub fn check_half_open<V: Eq + Clone + Word<Global>>(alloc: Global, table: &str)
 {
     check_rows::<RangeMap<u32, V>>(alloc, table)?;
     check_rows::<tree_map::RangeMap<u32, V>>(alloc, table)?;
-    check_in_chunks::<HalfOpen, Range<u32>, u32, V>(alloc, table)
+    check_in_chunks::<HalfOpen, Range<u32>, V>(alloc, table)
 }
 
 /// Compares a table for maps of closed ranges, by their own steps.
@@ -49,13 +60,13 @@ pub fn check_closed<K: StepLite + Clone + Word<Global>, V: Eq + Clone + Word<Glo
     requires faithful_values { ValuesCloneFaithfully V.is_clone V.eq }
 {
     check_rows::<RangeInclusiveMap<K, V>>(alloc, table)?;
-    check_in_chunks::<Closed<K>, RangeInclusive<K>, K, V>(alloc, table)
+    check_in_chunks::<Closed<K>, RangeInclusive<K>, V>(alloc, table)
 }
 
 /// Compares a table for maps over signed bytes that are made over the steps of another type.
 pub fn check_stepped(alloc: Global, table: &str) -> Result<(), Fail> {
     check_rows::<RangeInclusiveMap<i8, bool, SignedSteps>>(alloc, table)?;
-    check_in_chunks::<Closed<SignedSteps>, RangeInclusive<i8>, i8, bool>(alloc, table)
+    check_in_chunks::<Closed<SignedSteps>, RangeInclusive<i8>, bool>(alloc, table)
 }
 
 /// Compares a replay on maps of half-open ranges, in a sorted vector and in a tree.
@@ -66,9 +77,9 @@ pub fn check_half_open_replay<V: Eq + Clone + Word<Global>>(
     requires { ValuesCloneFaithfully V.is_clone V.eq }
 {
     let (text, accepted, lists) = parts(row)?;
-    let calls = calls_of::<RangeMap<u32, V>>(alloc, text)?;
+    let calls = calls_of::<HalfOpen, Range<u32>, V, Global>(alloc, text)?;
     check_replay::<RangeMap<u32, V>, _>(alloc, calls, accepted, lists)?;
-    let calls = calls_of::<tree_map::RangeMap<u32, V>>(alloc, text)?;
+    let calls = calls_of::<HalfOpen, Range<u32>, V, Global>(alloc, text)?;
     check_replay::<tree_map::RangeMap<u32, V>, _>(alloc, calls, accepted, lists)
 }
 
@@ -80,7 +91,7 @@ pub fn check_closed_replay<K: StepLite + Clone + Word<Global>>(
     requires { KeysCloneFaithfully K.is_clone K.cmp }
 {
     let (calls, accepted, lists) = parts(row)?;
-    let calls = calls_of::<RangeInclusiveMap<K, bool>>(alloc, calls)?;
+    let calls = calls_of::<Closed<K>, RangeInclusive<K>, bool, Global>(alloc, calls)?;
     check_replay::<RangeInclusiveMap<K, bool>, _>(alloc, calls, accepted, lists)
 }
 
@@ -98,21 +109,21 @@ type SignedBytes = ChunkedMap<Closed<i8>, RangeInclusive<i8>, bool, Global, 2>;
 /// Compares a replay on maps of half-open ranges in chunks.
 pub fn check_letters_in_chunks(alloc: Global, row: &str) -> Result<(), Fail> {
     let (calls, accepted, lists) = parts(row)?;
-    let calls = calls_of::<Letters>(alloc, calls)?;
+    let calls = calls_of::<HalfOpen, Range<u32>, char, Global>(alloc, calls)?;
     check_replay::<Letters, _>(alloc, calls, accepted, lists)
 }
 
 /// Compares a replay on maps of closed ranges of bytes in chunks.
 pub fn check_bytes_in_chunks(alloc: Global, row: &str) -> Result<(), Fail> {
     let (calls, accepted, lists) = parts(row)?;
-    let calls = calls_of::<Bytes>(alloc, calls)?;
+    let calls = calls_of::<Closed<u8>, RangeInclusive<u8>, bool, Global>(alloc, calls)?;
     check_replay::<Bytes, _>(alloc, calls, accepted, lists)
 }
 
 /// The same of signed bytes.
 pub fn check_signed_bytes_in_chunks(alloc: Global, row: &str) -> Result<(), Fail> {
     let (calls, accepted, lists) = parts(row)?;
-    let calls = calls_of::<SignedBytes>(alloc, calls)?;
+    let calls = calls_of::<Closed<i8>, RangeInclusive<i8>, bool, Global>(alloc, calls)?;
     check_replay::<SignedBytes, _>(alloc, calls, accepted, lists)
 }
 
@@ -133,6 +144,6 @@ fn check_changes_on<M: InRows<Alloc = Global>>(alloc: Global, row: &str) -> Resu
     requires faithful_values { ValuesCloneFaithfully M.Value.is_clone M.Value.eq }
 {
     let (calls, accepted, lists) = parts(row)?;
-    let changes = changes_of::<M>(alloc, calls)?;
+    let changes = changes_of::<M::Kind, M::Range, M::Value, Global>(alloc, calls)?;
     check_replay::<M, _>(alloc, changes, accepted, lists)
 }

@@ -16,7 +16,7 @@ use std::fmt::Debug;
 use std::ops::{Range, RangeInclusive};
 use std::test::Fail;
 use tests_rows::{check_both_ends, check_counted_back, check_three, check_tries};
-use tests_support::{ChunkedSet, FromEnds, InRows, check_text, insert_all, made_of};
+use tests_support::{ChunkedSet, FromEnds, check_text, insert_all, made_of, query_of};
 
 /// A set of numbers, in a sorted vector.
 type Numbers<Q, R> = Set<SortedVec<Q, R, (), Global>>;
@@ -32,7 +32,7 @@ fn check_overlapping<Q: Kind<R>, R: FromEnds<Key = u32> + Debug>(
     found: [&str; 3],
 ) -> Result<(), Fail> {
     let set: Numbers<Q, R> = made_of(alloc, ranges)?;
-    let query = <Numbers<Q, R> as InRows>::query(alloc, query)?;
+    let query: R = query_of(alloc, query)?;
     check_three(alloc, set.overlapping(&query), found, false)
 }
 
@@ -55,7 +55,7 @@ fn check_gap<Q: Kind<R>, R: FromEnds<Key = u32> + Debug>(
     gap: &str,
 ) -> Result<(), Fail> {
     let set: Numbers<Q, R> = made_of(alloc, ranges)?;
-    let outer_range = <Numbers<Q, R> as InRows>::query(alloc, outer_range)?;
+    let outer_range: R = query_of(alloc, outer_range)?;
     let gaps = (
         set.gaps(&outer_range),
         set.gaps(&outer_range),
@@ -73,7 +73,7 @@ fn check_two_gaps<Q: Kind<R>, R: FromEnds<Key = u32> + Debug>(
     text: &str,
 ) -> Result<(), Fail> {
     let set: Numbers<Q, R> = made_of(alloc, ranges)?;
-    let outer_range = <Numbers<Q, R> as InRows>::query(alloc, outer_range)?;
+    let outer_range: R = query_of(alloc, outer_range)?;
     let mut gaps = set.gaps(&outer_range);
     let hint = gaps.size_hint();
     let first = (gaps.try_next(), gaps.next());
@@ -127,7 +127,7 @@ fn check_ended<Q: OwnSteps<R>, R: FromEnds<Key = u32>>(
     query: &str,
 ) -> Result<(), Fail> {
     let set: Numbers<Q, R> = made_of(alloc, range)?;
-    let query = <Numbers<Q, R> as InRows>::query(alloc, query)?;
+    let query: R = query_of(alloc, query)?;
     check_both_ends(set.iter(), set.iter())?;
     check_both_ends(set.overlapping(&query), set.overlapping(&query))?;
     let copy = set.clone()?;
@@ -146,7 +146,7 @@ fn check_chunks<Q: OwnSteps<R>, R: FromEnds<Key = u32> + Debug>(
     let copy = set.clone()?;
     check_three(alloc, set.iter(), ranges, true)?;
     insert_all(&mut set, alloc, others)?;
-    let query = <Chunked<Q, R> as InRows>::query(alloc, query)?;
+    let query: R = query_of(alloc, query)?;
     check_three(alloc, set.overlapping(&query), ranges, false)?;
     check_three(alloc, copy.clone()?.into_iter(), ranges, true)?;
     check_counted_back(alloc, copy.into_iter(), ranges)
@@ -170,7 +170,7 @@ fn check_chunks_ended<Q: Kind<R>, R: FromEnds<Key = u32> + Debug>(
     gap: &str,
 ) -> Result<(), Fail> {
     let set: Chunked<Q, R> = made_of(alloc, ranges)?;
-    let outer_range = <Chunked<Q, R> as InRows>::query(alloc, outer_range)?;
+    let outer_range: R = query_of(alloc, outer_range)?;
     let gaps = (
         set.gaps(&outer_range),
         set.gaps(&outer_range),

@@ -3,6 +3,7 @@ ghost use Rattle.rangemap.specs.Clones.{KeysCloneFaithfully};
 
 use rangemap::laws::sets::{Operator, absorbs, associates, commutes, distributes, is_idempotent};
 use rangemap::range_set::Set;
+use rangemap_chunked::Chunks;
 use rangemap_core::closed::Closed;
 use rangemap_core::half_open::HalfOpen;
 use rangemap_core::key_range::KeyRange;
@@ -13,13 +14,13 @@ use std::alloc::Global;
 use std::fmt::Debug;
 use std::ops::{Range, RangeInclusive};
 use std::test::Fail;
-use tests_support::{ChunkedSet, FromEnds, Word, check_text, made_of};
+use tests_support::{FromEnds, InRows, Word, check_text, made_of};
 
-/// A set in a sorted vector.
-type Sorted<Q, R> = Set<SortedVec<Q, R, (), Global>>;
+/// A store of ranges in a sorted vector.
+type Sorted<Q, R> = SortedVec<Q, R, (), Global>;
 
-/// A set in chunks of up to two ranges.
-type InChunks<Q, R> = ChunkedSet<Q, R, Global, 2>;
+/// A store of ranges in chunks of up to two.
+type InChunks<Q, R> = Chunks<Q, R, (), Global, 2>;
 
 /// Three sets: the second goes on where the first ends, and the third has keys of both.
 #[derive(Drop)]
@@ -88,7 +89,7 @@ where
 }
 
 /// Makes three sets, and runs all laws on them.
-fn check_three<Q: OwnSteps<R>, R: FromEnds + Debug>(
+fn check_three<S: Store<Range: FromEnds + Debug, Value = (), Alloc = Global> + Drop>(
     alloc: Global,
     sets: [&str; 3],
     unions: [&str; 3],
@@ -96,38 +97,15 @@ fn check_three<Q: OwnSteps<R>, R: FromEnds + Debug>(
     text: &str,
 ) -> Result<(), Fail>
 where
-    R::Key: Word<Global> + Debug,
-    requires { KeysCloneFaithfully R.Key.is_clone R.Key.cmp }
+    <S::Range as KeyRange>::Key: Word<Global> + Debug,
+    S::Kind: OwnSteps<S::Range>,
+    Set<S>: InRows<Range = S::Range, Value = (), Alloc = Global, Kind = S::Kind>,
+    requires { KeysCloneFaithfully S.Range.Key.is_clone S.Range.Key.cmp }
 {
     let [first, second, third] = sets;
-    let first: Sorted<Q, R> = made_of(alloc, first)?;
-    let second: Sorted<Q, R> = made_of(alloc, second)?;
-    let third: Sorted<Q, R> = made_of(alloc, third)?;
-    let sets = Three {
-        first: &first,
-        second: &second,
-        third: &third,
-    };
-    check_sides(alloc, &sets, unions, intersections)?;
-    check_first(alloc, &sets, text)
-}
-
-/// The same of sets in chunks.
-fn check_three_in_chunks<Q: OwnSteps<R>, R: FromEnds + Debug>(
-    alloc: Global,
-    sets: [&str; 3],
-    unions: [&str; 3],
-    intersections: [&str; 3],
-    text: &str,
-) -> Result<(), Fail>
-where
-    R::Key: Word<Global> + Debug,
-    requires { KeysCloneFaithfully R.Key.is_clone R.Key.cmp }
-{
-    let [first, second, third] = sets;
-    let first: InChunks<Q, R> = made_of(alloc, first)?;
-    let second: InChunks<Q, R> = made_of(alloc, second)?;
-    let third: InChunks<Q, R> = made_of(alloc, third)?;
+    let first: Set<S> = made_of(alloc, first)?;
+    let second: Set<S> = made_of(alloc, second)?;
+    let third: Set<S> = made_of(alloc, third)?;
     let sets = Three {
         first: &first,
         second: &second,
@@ -139,7 +117,7 @@ where
 
 #[test]
 fn operators_keep_their_laws(rt: HostRuntime) -> Result<(), Fail> {
-    check_three::<HalfOpen, Range<u32>>(
+    check_three::<Sorted<HalfOpen, Range<u32>>>(
         rt.alloc(),
         ["0..5", "5..10", "3..7"],
         [
@@ -154,7 +132,7 @@ fn operators_keep_their_laws(rt: HostRuntime) -> Result<(), Fail> {
 
 #[test]
 fn operators_of_closed_sets_keep_their_laws(rt: HostRuntime) -> Result<(), Fail> {
-    check_three::<Closed<u32>, RangeInclusive<u32>>(
+    check_three::<Sorted<Closed<u32>, RangeInclusive<u32>>>(
         rt.alloc(),
         ["0..=4", "5..=9", "3..=6"],
         [
@@ -169,7 +147,7 @@ fn operators_of_closed_sets_keep_their_laws(rt: HostRuntime) -> Result<(), Fail>
 
 #[test]
 fn operators_of_sets_in_chunks_keep_their_laws(rt: HostRuntime) -> Result<(), Fail> {
-    check_three_in_chunks::<HalfOpen, Range<u32>>(
+    check_three::<InChunks<HalfOpen, Range<u32>>>(
         rt.alloc(),
         ["0..2, 4..6, 8..10, 12..14", "5..9, 20..22", "1..13"],
         [
@@ -188,7 +166,7 @@ fn operators_of_sets_in_chunks_keep_their_laws(rt: HostRuntime) -> Result<(), Fa
 
 #[test]
 fn operators_of_closed_sets_in_chunks_keep_their_laws(rt: HostRuntime) -> Result<(), Fail> {
-    check_three_in_chunks::<Closed<u32>, RangeInclusive<u32>>(
+    check_three::<InChunks<Closed<u32>, RangeInclusive<u32>>>(
         rt.alloc(),
         ["0..=1, 4..=5, 8..=9, 12..=13", "5..=8, 20..=21", "1..=12"],
         [

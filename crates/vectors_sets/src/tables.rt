@@ -14,24 +14,34 @@ use std::test::Fail;
 use tests_rows::{check_replay, check_rows};
 use tests_support::{ChunkedSet, FromEnds, InRows, Word, changes_of, parts, set_calls_of};
 
-/// Compares a table for sets in chunks of up to two ranges, of three, and of four, which are the
-/// fewest where small neighbours become one.
-fn check_in_chunks<Q: OwnSteps<R>, R: FromEnds<Key = T>, T: Ord + Clone + Word<Global>>(
+/// Compares a table for sets in chunks of up to `N` ranges.
+fn check_in_chunks_of<Q: OwnSteps<R>, R: FromEnds<Key: Word<Global>>, const N: usize>(
     alloc: Global,
     table: &str,
 ) -> Result<(), Fail>
-    requires { KeysCloneFaithfully T.is_clone T.cmp }
+    requires { KeysCloneFaithfully R.Key.is_clone R.Key.cmp }
 {
-    check_rows::<ChunkedSet<Q, R, Global, 2>>(alloc, table)?;
-    check_rows::<ChunkedSet<Q, R, Global, 3>>(alloc, table)?;
-    check_rows::<ChunkedSet<Q, R, Global, 4>>(alloc, table)
+    check_rows::<ChunkedSet<Q, R, Global, N>>(alloc, table)
+}
+
+/// Compares a table for sets in chunks of up to two ranges, of three, and of four, which are the
+/// fewest where small neighbours become one.
+fn check_in_chunks<Q: OwnSteps<R>, R: FromEnds<Key: Word<Global>>>(
+    alloc: Global,
+    table: &str,
+) -> Result<(), Fail>
+    requires { KeysCloneFaithfully R.Key.is_clone R.Key.cmp }
+{
+    check_in_chunks_of::<Q, R, 2>(alloc, table)?;
+    check_in_chunks_of::<Q, R, 3>(alloc, table)?;
+    check_in_chunks_of::<Q, R, 4>(alloc, table)
 }
 
 /// Compares a table for sets of half-open ranges, in a sorted vector, in a tree and in chunks.
 pub fn check_half_open(alloc: Global, table: &str) -> Result<(), Fail> {
     check_rows::<RangeSet<u32>>(alloc, table)?;
     check_rows::<tree_set::RangeSet<u32>>(alloc, table)?;
-    check_in_chunks::<HalfOpen, Range<u32>, u32>(alloc, table)
+    check_in_chunks::<HalfOpen, Range<u32>>(alloc, table)
 }
 
 /// Compares a table for sets of closed ranges, in a sorted vector and in chunks.
@@ -42,7 +52,7 @@ pub fn check_closed<T: StepLite + Clone + Word<Global>>(
     requires { KeysCloneFaithfully T.is_clone T.cmp }
 {
     check_rows::<RangeInclusiveSet<T>>(alloc, table)?;
-    check_in_chunks::<Closed<T>, RangeInclusive<T>, T>(alloc, table)
+    check_in_chunks::<Closed<T>, RangeInclusive<T>>(alloc, table)
 }
 
 /// Compares a replay on sets in chunks of up to two ranges: its calls, which of them are accepted, and
@@ -52,16 +62,16 @@ fn check_calls_in_chunks<Q: OwnSteps<R>, R: FromEnds<Key = u32>>(
     row: &str,
 ) -> Result<(), Fail> {
     let (calls, accepted, lists) = parts(row)?;
-    let calls = set_calls_of::<ChunkedSet<Q, R, Global, 2>>(alloc, calls)?;
+    let calls = set_calls_of::<Q, R, Global>(alloc, calls)?;
     check_replay::<ChunkedSet<Q, R, Global, 2>, _>(alloc, calls, accepted, lists)
 }
 
 /// Compares a replay on sets of half-open ranges, in a sorted vector, in a tree and in chunks.
 pub fn check_half_open_replay(alloc: Global, row: &str) -> Result<(), Fail> {
     let (text, accepted, lists) = parts(row)?;
-    let calls = set_calls_of::<RangeSet<u32>>(alloc, text)?;
+    let calls = set_calls_of::<HalfOpen, Range<u32>, Global>(alloc, text)?;
     check_replay::<RangeSet<u32>, _>(alloc, calls, accepted, lists)?;
-    let calls = set_calls_of::<tree_set::RangeSet<u32>>(alloc, text)?;
+    let calls = set_calls_of::<HalfOpen, Range<u32>, Global>(alloc, text)?;
     check_replay::<tree_set::RangeSet<u32>, _>(alloc, calls, accepted, lists)?;
     check_calls_in_chunks::<HalfOpen, Range<u32>>(alloc, row)
 }
@@ -69,7 +79,7 @@ pub fn check_half_open_replay(alloc: Global, row: &str) -> Result<(), Fail> {
 /// Compares a replay on sets of closed ranges, in a sorted vector and in chunks.
 pub fn check_closed_replay(alloc: Global, row: &str) -> Result<(), Fail> {
     let (calls, accepted, lists) = parts(row)?;
-    let calls = set_calls_of::<RangeInclusiveSet<u32>>(alloc, calls)?;
+    let calls = set_calls_of::<Closed<u32>, RangeInclusive<u32>, Global>(alloc, calls)?;
     check_replay::<RangeInclusiveSet<u32>, _>(alloc, calls, accepted, lists)?;
     check_calls_in_chunks::<Closed<u32>, RangeInclusive<u32>>(alloc, row)
 }
@@ -86,6 +96,6 @@ fn check_changes_on<M: InRows<Alloc = Global>>(alloc: Global, row: &str) -> Resu
     requires faithful_values { ValuesCloneFaithfully M.Value.is_clone M.Value.eq }
 {
     let (calls, accepted, lists) = parts(row)?;
-    let changes = changes_of::<M>(alloc, calls)?;
+    let changes = changes_of::<M::Kind, M::Range, M::Value, Global>(alloc, calls)?;
     check_replay::<M, _>(alloc, changes, accepted, lists)
 }

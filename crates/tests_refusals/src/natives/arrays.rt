@@ -2,42 +2,49 @@
 //! shown that the array is not too long for memory, so each type has a function of its own.
 
 use rangemap::{RangeInclusiveMap, RangeInclusiveSet, RangeMap, RangeSet, tree_map, tree_set};
+use rangemap_core::closed::Closed;
+use rangemap_core::half_open::HalfOpen;
+use std::ops::{Range, RangeInclusive};
 use tests_requests::{Answer, Row, is_made, two_pairs};
 use tests_support::{
-    CostlyMap, CostlySet, CostlyTree, CostlyTreeSet, HalfOpenCostlySet, Heap, Texts,
+    Costly, CostlyMap, CostlySet, CostlyTree, CostlyTreeSet, HalfOpenCostlySet, Heap, Text, Texts,
 };
 
 /// Tries to make a map to texts.
 pub fn try_texts(heap: &Heap, row: &Row<'_>, left: u64) -> Answer {
-    let (first, second) = two_pairs::<Texts<'_>>(heap, row.given)?;
+    let (first, second) = two_pairs::<HalfOpen, Range<u32>, Text<'_>, &Heap>(heap, row.given)?;
     heap.refuse_after(left);
     is_made::<Texts<'_>>(RangeMap::from(heap, [first, second]), row.outcome)
 }
 
 /// Tries to make a closed map.
 pub fn try_map(heap: &Heap, row: &Row<'_>, left: u64) -> Answer {
-    let (first, second) = two_pairs::<CostlyMap<'_>>(heap, row.given)?;
+    let (first, second) = two_pairs::<Closed<Costly<'_>>, RangeInclusive<Costly<'_>>, char, &Heap>(
+        heap, row.given,
+    )?;
     heap.refuse_after(left);
     is_made::<CostlyMap<'_>>(RangeInclusiveMap::from(heap, [first, second]), row.outcome)
 }
 
 /// Tries to make a map in a tree.
 pub fn try_tree(heap: &Heap, row: &Row<'_>, left: u64) -> Answer {
-    let (first, second) = two_pairs::<CostlyTree<'_>>(heap, row.given)?;
+    let (first, second) = two_pairs::<HalfOpen, Range<Costly<'_>>, char, &Heap>(heap, row.given)?;
     heap.refuse_after(left);
     is_made::<CostlyTree<'_>>(tree_map::RangeMap::from(heap, [first, second]), row.outcome)
 }
 
 /// Tries to make a set.
 pub fn try_set(heap: &Heap, row: &Row<'_>, left: u64) -> Answer {
-    let (first, second) = two_pairs::<HalfOpenCostlySet<'_>>(heap, row.given)?;
+    let (first, second) = two_pairs::<HalfOpen, Range<Costly<'_>>, (), &Heap>(heap, row.given)?;
     heap.refuse_after(left);
     is_made::<HalfOpenCostlySet<'_>>(RangeSet::from(heap, [first.0, second.0]), row.outcome)
 }
 
 /// Tries to make a closed set.
 pub fn try_inclusive_set(heap: &Heap, row: &Row<'_>, left: u64) -> Answer {
-    let (first, second) = two_pairs::<CostlySet<'_>>(heap, row.given)?;
+    let (first, second) = two_pairs::<Closed<Costly<'_>>, RangeInclusive<Costly<'_>>, (), &Heap>(
+        heap, row.given,
+    )?;
     heap.refuse_after(left);
     is_made::<CostlySet<'_>>(
         RangeInclusiveSet::from(heap, [first.0, second.0]),
@@ -47,7 +54,7 @@ pub fn try_inclusive_set(heap: &Heap, row: &Row<'_>, left: u64) -> Answer {
 
 /// Tries to make a set in a tree.
 pub fn try_tree_set(heap: &Heap, row: &Row<'_>, left: u64) -> Answer {
-    let (first, second) = two_pairs::<CostlyTreeSet<'_>>(heap, row.given)?;
+    let (first, second) = two_pairs::<HalfOpen, Range<Costly<'_>>, (), &Heap>(heap, row.given)?;
     heap.refuse_after(left);
     is_made::<CostlyTreeSet<'_>>(
         tree_set::RangeSet::from(heap, [first.0, second.0]),

@@ -5,14 +5,13 @@ ghost use Rattle.rangemap.specs.Clones.{KeysCloneFaithfully, ValuesCloneFaithful
 use rangemap::map::Map;
 use rangemap::range_set::Set;
 use rangemap::{Form, RangeInclusiveMap, ReadError};
-use rangemap_core::key_range::KeyRange;
 use rangemap_core::kind::OwnSteps;
 use rangemap_core::store::Store;
 use serde_json::Value;
 use std::alloc::{AllocError, Global};
 use std::test::Fail;
 use tests_requests::{Answer, Row, is_made};
-use tests_support::{Costly, Heap, InRows};
+use tests_support::{Costly, FromEnds, Heap, InRows};
 
 /// A part is no whole number of the size that is read.
 #[derive(Drop)]
@@ -47,7 +46,7 @@ fn form_and_value(alloc: Global, given: &str) -> Result<(Form, Value), Fail> {
 /// Tries to read a map of numbers.
 pub fn try_map<'a, S>(heap: &'a Heap, alloc: Global, row: &Row<'_>, left: u64) -> Answer
 where
-    S: Store<Range: KeyRange<Key = u32>, Value = u32, Alloc = &'a Heap> + Drop,
+    S: Store<Range: FromEnds<Key = u32>, Value = u32, Alloc = &'a Heap> + Drop,
     S::Kind: OwnSteps<S::Range>,
     Map<S>: InRows<Range = S::Range, Value = u32, Alloc = &'a Heap, Kind = S::Kind>,
 {
@@ -60,7 +59,7 @@ where
 /// Tries to read a set of numbers.
 pub fn try_set<'a, S>(heap: &'a Heap, alloc: Global, row: &Row<'_>, left: u64) -> Answer
 where
-    S: Store<Range: KeyRange<Key = u32>, Value = (), Alloc = &'a Heap> + Drop,
+    S: Store<Range: FromEnds<Key = u32>, Value = (), Alloc = &'a Heap> + Drop,
     S::Kind: OwnSteps<S::Range>,
     Set<S>: InRows<Range = S::Range, Value = (), Alloc = &'a Heap, Kind = S::Kind>,
 {

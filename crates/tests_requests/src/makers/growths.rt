@@ -4,7 +4,7 @@ ghost use Rattle.rangemap.specs.Clones.{KeysCloneFaithfully};
 use super::{extend_until, insert_until};
 use crate::row::Answer;
 use std::test::Fail;
-use tests_support::{Heap, InRows, OwnCalls, check_that, items_of, pairs_of};
+use tests_support::{Heap, InRows, OwnCalls, check_that, items_of, pairs_of, range_of};
 
 /// Tries `extend`, which has to keep what inserts of the same ranges keep: the first of them.
 pub fn try_growths<S: InRows<Value = ()> + OwnCalls>(
@@ -15,7 +15,12 @@ pub fn try_growths<S: InRows<Value = ()> + OwnCalls>(
 ) -> Answer
     requires faithful_keys { KeysCloneFaithfully S.Range.Key.is_clone S.Range.Key.cmp }
 {
-    let inserted = insert_until::<S>(heap, alloc, pairs_of::<S>(alloc, given)?, left);
+    let inserted = insert_until::<S>(
+        heap,
+        alloc,
+        pairs_of::<S::Kind, S::Range, (), S::Alloc>(alloc, given)?,
+        left,
+    );
     let extended = extend_until::<S>(heap, alloc, items_of::<S>(alloc, given)?, left);
     let first = first_of::<S>(alloc, given, extended.0.len())?;
     check_that(
@@ -32,7 +37,7 @@ fn first_of<S: InRows<Value = ()>>(alloc: S::Alloc, given: &str, count: usize) -
     let mut set = S::new_with_step_fns(alloc);
     for range in given.split(" + ") {
         if set.len() < count {
-            set.insert(S::range(alloc, range)?, ())?;
+            set.insert(range_of::<S::Kind, S::Range, S::Alloc>(alloc, range)?, ())?;
         }
     }
     Ok(set)

@@ -34,7 +34,7 @@ impl<K: Ord + Clone + Word<A>, V: Eq + Clone + Word<A>, A: Allocator + Copy> Tri
         match first_word(row.call).0 {
             "gaps" => try_gaps_in_vector::<HalfOpen, Range<K>, V, A>(heap, alloc, row, left),
             "replay" => {
-                let calls = calls_of::<Self>(alloc, row.given);
+                let calls = calls_of::<HalfOpen, Range<K>, V, A>(alloc, row.given);
                 try_replay::<Self, _>(heap, alloc, calls, row, left)
             }
             _ => try_map::<Self>(heap, alloc, row, left),
@@ -47,7 +47,7 @@ impl<K: Ord + Clone + Word<A>, V: Eq + Clone + Word<A>, A: Allocator + Copy> Rep
     fn check_owner(heaps: Heaps<'_>, allocs: Allocs<A>, own: A, row: &str) -> Result<(), Fail>
         requires { KeysCloneFaithfully K.is_clone K.cmp × ValuesCloneFaithfully V.is_clone V.eq }
     {
-        let calls = calls_of::<Self>(own, parts(row)?.1)?;
+        let calls = calls_of::<HalfOpen, Range<K>, V, A>(own, parts(row)?.1)?;
         check_added::<Self, _>(heaps, allocs, calls, row)
     }
 }
@@ -66,7 +66,7 @@ impl<K: StepLite + Clone + Word<A>, V: Eq + Clone + Word<A>, A: Allocator + Copy
                 heap, alloc, row, left,
             ),
             "replay" => {
-                let calls = calls_of::<Self>(alloc, row.given);
+                let calls = calls_of::<Closed<K>, RangeInclusive<K>, V, A>(alloc, row.given);
                 try_replay::<Self, _>(heap, alloc, calls, row, left)
             }
             _ => try_map::<Self>(heap, alloc, row, left),
@@ -79,7 +79,7 @@ impl<K: StepLite + Clone + Word<A>, V: Eq + Clone + Word<A>, A: Allocator + Copy
     fn check_owner(heaps: Heaps<'_>, allocs: Allocs<A>, own: A, row: &str) -> Result<(), Fail>
         requires { KeysCloneFaithfully K.is_clone K.cmp × ValuesCloneFaithfully V.is_clone V.eq }
     {
-        let calls = calls_of::<Self>(own, parts(row)?.1)?;
+        let calls = calls_of::<Closed<K>, RangeInclusive<K>, V, A>(own, parts(row)?.1)?;
         check_added::<Self, _>(heaps, allocs, calls, row)
     }
 }
@@ -96,7 +96,7 @@ impl<K: Ord + Clone + Word<A>, V: Eq + Clone + Word<A>, A: Allocator + Copy> Tri
         match first_word(row.call).0 {
             "gaps" => try_gaps_in_tree::<K, V, A>(heap, alloc, row, left),
             "replay" => {
-                let calls = calls_of::<Self>(alloc, row.given);
+                let calls = calls_of::<HalfOpen, Range<K>, V, A>(alloc, row.given);
                 try_replay::<Self, _>(heap, alloc, calls, row, left)
             }
             _ => try_map::<Self>(heap, alloc, row, left),
@@ -109,7 +109,7 @@ impl<K: Ord + Clone + Word<A>, V: Eq + Clone + Word<A>, A: Allocator + Copy> Rep
     fn check_owner(heaps: Heaps<'_>, allocs: Allocs<A>, own: A, row: &str) -> Result<(), Fail>
         requires { KeysCloneFaithfully K.is_clone K.cmp × ValuesCloneFaithfully V.is_clone V.eq }
     {
-        let calls = calls_of::<Self>(own, parts(row)?.1)?;
+        let calls = calls_of::<HalfOpen, Range<K>, V, A>(own, parts(row)?.1)?;
         check_added::<Self, _>(heaps, allocs, calls, row)
     }
 }

@@ -36,7 +36,7 @@ impl<T: Ord + Clone + Word<A>, A: Allocator + Copy> Tried for RangeSet<T, A> {
                 A,
             >(heap, alloc, row, left),
             "replay" => {
-                let calls = set_calls_of::<Self>(alloc, row.given);
+                let calls = set_calls_of::<HalfOpen, Range<T>, A>(alloc, row.given);
                 try_replay::<Self, _>(heap, alloc, calls, row, left)
             }
             _ => try_set::<Self>(heap, alloc, row, left),
@@ -48,7 +48,7 @@ impl<T: Ord + Clone + Word<A>, A: Allocator + Copy> Replayed for RangeSet<T, A> 
     fn check_owner(heaps: Heaps<'_>, allocs: Allocs<A>, own: A, row: &str) -> Result<(), Fail>
         requires { KeysCloneFaithfully T.is_clone T.cmp }
     {
-        let calls = set_calls_of::<Self>(own, parts(row)?.1)?;
+        let calls = set_calls_of::<HalfOpen, Range<T>, A>(own, parts(row)?.1)?;
         check_added::<Self, _>(heaps, allocs, calls, row)
     }
 }
@@ -68,7 +68,7 @@ impl<T: StepLite + Clone + Word<A>, A: Allocator + Copy> Tried for RangeInclusiv
                 A,
             >(heap, alloc, row, left),
             "replay" => {
-                let calls = set_calls_of::<Self>(alloc, row.given);
+                let calls = set_calls_of::<Closed<T>, RangeInclusive<T>, A>(alloc, row.given);
                 try_replay::<Self, _>(heap, alloc, calls, row, left)
             }
             _ => try_set::<Self>(heap, alloc, row, left),
@@ -80,7 +80,7 @@ impl<T: StepLite + Clone + Word<A>, A: Allocator + Copy> Replayed for RangeInclu
     fn check_owner(heaps: Heaps<'_>, allocs: Allocs<A>, own: A, row: &str) -> Result<(), Fail>
         requires { KeysCloneFaithfully T.is_clone T.cmp }
     {
-        let calls = set_calls_of::<Self>(own, parts(row)?.1)?;
+        let calls = set_calls_of::<Closed<T>, RangeInclusive<T>, A>(own, parts(row)?.1)?;
         check_added::<Self, _>(heaps, allocs, calls, row)
     }
 }
@@ -98,7 +98,7 @@ impl<T: Ord + Clone + Word<A>, A: Allocator + Copy> Tried for tree_set::RangeSet
                 heap, alloc, row, left,
             ),
             "replay" => {
-                let calls = set_calls_of::<Self>(alloc, row.given);
+                let calls = set_calls_of::<HalfOpen, Range<T>, A>(alloc, row.given);
                 try_replay::<Self, _>(heap, alloc, calls, row, left)
             }
             _ => try_set::<Self>(heap, alloc, row, left),
@@ -110,7 +110,7 @@ impl<T: Ord + Clone + Word<A>, A: Allocator + Copy> Replayed for tree_set::Range
     fn check_owner(heaps: Heaps<'_>, allocs: Allocs<A>, own: A, row: &str) -> Result<(), Fail>
         requires { KeysCloneFaithfully T.is_clone T.cmp }
     {
-        let calls = set_calls_of::<Self>(own, parts(row)?.1)?;
+        let calls = set_calls_of::<HalfOpen, Range<T>, A>(own, parts(row)?.1)?;
         check_added::<Self, _>(heaps, allocs, calls, row)
     }
 }

@@ -3,4 +3,4 @@ use Rattle.rangemap.specs.Histories.{HasNonEmptyRanges}
 use Rattle.tests_support.proofs.replays.calls_of.Given as goal
 
 abbrev pub invariant-loop-call : goal.invariant-loop-call
-invariant-loop-call g l = AllByRecursion (HasNonEmptyRanges g.M.Kind.Kind.kind) l.all.items
+invariant-loop-call g l = AllByRecursion (HasNonEmptyRanges g.Q.Kind.kind) l.all.items

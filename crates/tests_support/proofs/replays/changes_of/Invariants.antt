@@ -3,4 +3,4 @@ use Rattle.rangemap_replay.specs.Histories.{HasNonEmptyRange}
 use Rattle.tests_support.proofs.replays.changes_of.Given as goal
 
 abbrev pub invariant-loop-call : goal.invariant-loop-call
-invariant-loop-call g l = AllByRecursion (HasNonEmptyRange g.M.Kind.Kind.kind) l.all.items
+invariant-loop-call g l = AllByRecursion (HasNonEmptyRange g.Q.Kind.kind) l.all.items

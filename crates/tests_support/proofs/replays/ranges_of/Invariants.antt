@@ -2,4 +2,4 @@ use Rattle.rangemap.specs.Sets.{AreNonEmptyRanges}
 use Rattle.tests_support.proofs.replays.ranges_of.Given as goal
 
 abbrev pub invariant-loop-range : goal.invariant-loop-range
-invariant-loop-range g l = AreNonEmptyRanges g.M.Kind.Kind.kind l.all.items
+invariant-loop-range g l = AreNonEmptyRanges g.Q.Kind.kind l.all.items
