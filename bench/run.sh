@@ -5,8 +5,9 @@
 #   RANGEMAP_RUST=FOLDER [RANGEMAP_PICTURES=FOLDER] bench/run.sh [WORD [SIZE]]
 #
 # RANGEMAP_RUST is the folder of the Rust crate's sources, with its src/. With a WORD only the
-# workloads whose names have it are run, and with a SIZE none of more ranges; without, all are run, and
-# the bytes held for a range are printed, as bench/out/release/bytes does. The tables are kept in
+# workloads whose names have it are run, or those of containers whose names have it, as `chunked`, and
+# with a SIZE none of more ranges; without, all are run, and the bytes held for a range are printed, as
+# bench/out/release/bytes does. The tables are kept in
 # bench/out/tables.md too. RANGEMAP_PICTURES is the folder where two SVGs are to be made of them.
 # It needs rustc and cargo, and `rt` on the path. Nothing is fetched.
 #

@@ -73,7 +73,7 @@ fn write(folder: &str, name: &str, picture: String) {
     fs::write(&path, picture).unwrap_or_else(|error| panic!("{}: {error}", path.display()));
 }
 
-// The workloads whose names have the word.
+// The workloads whose names have the word, or whose containers' names do.
 fn measure(word: &str, sizes: &[usize]) {
     for map in [
         containers::HALF_OPEN,
@@ -96,10 +96,11 @@ fn measure(word: &str, sizes: &[usize]) {
 }
 
 fn print_tables<S>(container: &Container<S>, word: &str, sizes: &[usize]) {
+    let is_named = container.name.contains(word);
     let rows: Vec<table::Row> = container
         .workloads
         .iter()
-        .filter(|workload| workload.name.contains(word))
+        .filter(|workload| is_named || workload.name.contains(word))
         .map(|workload| row(container, workload, sizes))
         .collect();
     if !rows.is_empty() {

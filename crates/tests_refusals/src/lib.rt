@@ -1,8 +1,8 @@
-//! Calls that take memory, each tried with its request *k* refused for *k* = 0, 1, 2, .. until it is
-//! accepted, by all containers.
+//! Calls that take memory and have functions of their own: replays, containers of an array, macros
+//! and reading, each tried with its request *k* refused for *k* = 0, 1, 2, .. until it is accepted; and
+//! in whose memory a container lies.
 //!
-//! The crate `tests_requests` makes the calls and compares what they leave with a row, by one function for
-//! every container; docs/TESTS.md leads from each call to its test.
+//! The crates `tests_refusals_maps` and `tests_refusals_sets` try the calls of containers.
 #![tactic(auto)]
 
 #[cfg(test)]
@@ -10,20 +10,6 @@ mod allocator;
 #[cfg(test)]
 mod allocators;
 #[cfg(test)]
-mod containers;
-#[cfg(test)]
-mod inclusive_map;
-#[cfg(test)]
-mod inclusive_set;
-#[cfg(test)]
 mod made;
 #[cfg(test)]
-mod map;
-#[cfg(test)]
 mod natives;
-#[cfg(test)]
-mod set;
-#[cfg(test)]
-mod tree_map;
-#[cfg(test)]
-mod tree_set;

@@ -1,4 +1,4 @@
-//! Replays by steps of another type, arrays, macros and readings that are refused memory, each
+//! Replays on containers in chunks and by steps of another type, arrays, macros and readings that are refused memory, each
 //! request in its turn.
 
 use crate::natives::Natives;
@@ -6,20 +6,31 @@ use std::test::Fail;
 use tests_requests::check;
 use tests_support::{MANY, Refusing};
 
-// A replay takes three lists, and each of its containers grows. An array takes a list, through which
+// A replay, which changes nothing without room, takes three lists, and each of its containers grows. In
+// a tree the first pair takes a node and a key, a clone of it a node and three keys, a removal what it
+// takes of a map, and an operator two clones, a node and a key. An array takes a list, through which
 // it is read, beside what inserts of its items take, and so does a macro.
 //
 // What is read into containers of numbers takes two growths, since the first has no room for thirteen
-// ranges; in a tree it takes a node, which has. Where clones take memory it takes the growth; of each of the two pieces that the second
-// range leaves a key and a value; and both ends of the third range, which is joined with the piece
-// before it.
+// ranges; in a tree it takes a node, which has. In chunks all takes the list of them besides,
+// and a chunk of three pairs is cut in two where it may have two, for which it asks, and does without.
+// Where clones take memory it takes the growth; of each of the two pieces that the second range leaves
+// a key and a value; and both ends of the third range, which is joined with the piece before it.
 #[test]
 fn what_makes_containers_may_be_refused(rt: HostRuntime) -> Result<(), Fail> {
     let heap = Refusing::new(rt.alloc(), MANY);
     check::<Natives>(
         &heap,
         rt.alloc(),
-        "new, insert -128..=127 true, clear | replay maps by steps | 1 | 4
+        "new, insert 0..10 a, clone, remove 4..5 | replay maps | 2 | 5
+        new, insert 0..=255 true, clone | replay inclusive maps | 2 | 5
+        new, insert 0..10 a, clone, remove 2..5 | replay trees | 2 | 14
+        new, insert 0..10, clone, union 0 1, intersection 0 1 | replay sets | 4 | 7
+        new, insert 0..=255, union 0 0, intersection 0 1 | replay inclusive sets | 3 | 6
+        new, insert 0..10, clone, union 0 1, intersection 0 1 | replay tree sets | 4 | 17
+        new, insert 0..10 a, clone, remove 4..5 | replay chunked maps | 2 | 10
+        new, insert 0..10, clone, union 0 1, intersection 0 1 | replay chunked sets | 4 | 17
+        new, insert -128..=127 true, clear | replay maps by steps | 1 | 4
         new, insert -128..=127, clone | replay sets by steps | 2 | 5
         0..10 a + 3..6 b | map to texts from | 0..3 a, 3..6 b, 6..10 a | 4
         0..=9 a + 3..=5 b | inclusive map from | 0..=2 a, 3..=5 b, 6..=9 a | 4
@@ -27,6 +38,10 @@ fn what_makes_containers_may_be_refused(rt: HostRuntime) -> Result<(), Fail> {
         0..5 + 7..10 | set from | 0..5, 7..10 | 2
         0..=4 + 9..=255 | inclusive set from | 0..=4, 9..=255 | 2
         0..5 + 7..10 | tree set from | 0..5, 7..10 | 4
+        new, insert -128..=127 true, clear | replay chunked maps by steps | 1 | 5
+        new, insert -128..=127, clone | replay chunked sets by steps | 2 | 7
+        0..=9 a + 3..=5 b | chunked map from | 0..=2 a, 3..=5 b, 6..=9 a | 5 + 1
+        0..5 + 7..10 | chunked set from | 0..5, 7..10 | 3
         | macros | | 2
         any [[[36,37],7],[[0,1],8],[[3,4],7],[[6,7],7],[[9,10],7],[[12,13],7],[[15,16],7],\
             [[18,19],7],[[21,22],7],[[24,25],7],[[27,28],7],[[30,31],7],[[33,34],7]] | read map \
@@ -70,6 +85,13 @@ fn what_makes_containers_may_be_refused(rt: HostRuntime) -> Result<(), Fail> {
         canonical [[0,1],[3,4],[6,7],[9,10],[12,13],[15,16],[18,19],[21,22],[24,25],[27,28],\
             [30,31],[33,34],[36,37]] | read tree set | 0..1, 3..4, 6..7, 9..10, 12..13, 15..16, \
             18..19, 21..22, 24..25, 27..28, 30..31, 33..34, 36..37 | 1
+        any [[[36,37],7],[[0,1],8],[[3,4],7],[[6,7],7],[[9,10],7],[[12,13],7],[[15,16],7],\
+            [[18,19],7],[[21,22],7],[[24,25],7],[[27,28],7],[[30,31],7],[[33,34],7]] | read chunked map \
+            | 0..1 8, 3..4 7, 6..7 7, 9..10 7, 12..13 7, 15..16 7, 18..19 7, 21..22 7, 24..25 7, \
+            27..28 7, 30..31 7, 33..34 7, 36..37 7 | 3
+        canonical [[0,1],[3,4],[6,7],[9,10],[12,13],[15,16],[18,19],[21,22],[24,25],[27,28],\
+            [30,31],[33,34],[36,37]] | read chunked set | 0..1, 3..4, 6..7, 9..10, 12..13, 15..16, \
+            18..19, 21..22, 24..25, 27..28, 30..31, 33..34, 36..37 | 3
         any [[[0,9],7],[[3,5],8],[[10,20],7]] | read costly parts \
             | 0..=2 7, 3..=5 8, 6..=20 7 | 7",
     )

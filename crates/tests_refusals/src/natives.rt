@@ -1,11 +1,12 @@
-//! Calls that have functions of their own here: replays by steps of another type, containers of an
-//! array, the macros, and reading.
+//! Calls that have functions of their own here: replays, containers of an array, the macros, and
+//! reading.
 
 mod arrays;
 mod json;
 mod macros;
-mod steps;
+mod replays;
 
+use rangemap_chunked::Chunks;
 use rangemap_core::closed::Closed;
 use rangemap_core::half_open::HalfOpen;
 use rangemap_sorted::SortedVec;
@@ -27,6 +28,9 @@ type ClosedNumbers<'a, V> = SortedVec<Closed<u32>, RangeInclusive<u32>, V, &'a H
 /// A store of numbers over half-open ranges.
 type Numbers<'a, V> = SortedVec<HalfOpen, Range<u32>, V, &'a Heap>;
 
+/// A store of numbers over half-open ranges, in chunks.
+type ChunkedNumbers<'a, V> = Chunks<HalfOpen, Range<u32>, V, &'a Heap, 512>;
+
 impl Tried for Natives {
     type Alloc = Global;
 
@@ -36,14 +40,26 @@ impl Tried for Natives {
 
     fn is_accepted(heap: &Heap, alloc: Global, row: &Row<'_>, left: u64) -> Answer {
         match row.call {
-            "replay maps by steps" => steps::try_maps(heap, row, left),
-            "replay sets by steps" => steps::try_sets(heap, row, left),
+            "replay maps" => replays::try_maps(heap, row, left),
+            "replay inclusive maps" => replays::try_inclusive_maps(heap, row, left),
+            "replay trees" => replays::try_trees(heap, row, left),
+            "replay sets" => replays::try_sets(heap, row, left),
+            "replay inclusive sets" => replays::try_inclusive_sets(heap, row, left),
+            "replay tree sets" => replays::try_tree_sets(heap, row, left),
+            "replay chunked maps" => replays::try_chunked_maps(heap, row, left),
+            "replay chunked sets" => replays::try_chunked_sets(heap, row, left),
+            "replay maps by steps" => replays::try_stepped_maps(heap, row, left),
+            "replay sets by steps" => replays::try_stepped_sets(heap, row, left),
+            "replay chunked maps by steps" => replays::try_stepped_chunked_maps(heap, row, left),
+            "replay chunked sets by steps" => replays::try_stepped_chunked_sets(heap, row, left),
             "map to texts from" => arrays::try_texts(heap, row, left),
             "inclusive map from" => arrays::try_map(heap, row, left),
             "tree from" => arrays::try_tree(heap, row, left),
             "set from" => arrays::try_set(heap, row, left),
             "inclusive set from" => arrays::try_inclusive_set(heap, row, left),
             "tree set from" => arrays::try_tree_set(heap, row, left),
+            "chunked map from" => arrays::try_chunked_map(heap, row, left),
+            "chunked set from" => arrays::try_chunked_set(heap, row, left),
             "macros" => macros::try_lists(heap, left),
             "read map" => json::try_map::<Numbers<'_, u32>>(heap, alloc, row, left),
             "read inclusive map" => {
@@ -55,6 +71,10 @@ impl Tried for Natives {
                 json::try_set::<ClosedNumbers<'_, ()>>(heap, alloc, row, left)
             }
             "read tree set" => json::try_set::<Tree<u32, (), &Heap>>(heap, alloc, row, left),
+            "read chunked map" => {
+                json::try_map::<ChunkedNumbers<'_, u32>>(heap, alloc, row, left)
+            }
+            "read chunked set" => json::try_set::<ChunkedNumbers<'_, ()>>(heap, alloc, row, left),
             "read costly parts" => json::try_costly(heap, alloc, row, left),
             _ => Err(Fail::new("a row has a call of another name")),
         }

@@ -1,7 +1,8 @@
 //! Calls that are tried with each request for memory refused in its turn, by every container.
 //!
 //! What is tried takes its memory from an allocator that refuses one request, and so each growth
-//! and each clone is refused once. `tests_refusals` has the rows.
+//! and each clone is refused once. `tests_refusals_maps` and `tests_refusals_sets` have the containers that are tried,
+//! and their rows; `tests_refusals` those of calls that have functions of their own.
 #![tactic(auto)]
 
 mod appends;
@@ -14,9 +15,12 @@ mod row;
 mod runs;
 mod tried;
 
-pub use calls::is_made;
-pub use makers::two_pairs;
-pub use owners::{Heaps, Replayed, check_owners};
-pub use replays::try_changes;
+pub use appends::try_appends;
+pub use calls::{is_made, try_call};
+pub use items::try_both;
+pub use makers::{try_growths, try_makers, two_pairs};
+pub use owners::{Allocs, Heaps, check_added};
+pub use replays::{try_changes, try_replay};
 pub use row::{Answer, Row};
-pub use tried::{Tried, check};
+pub use runs::try_run;
+pub use tried::{Tried, check, with_range};

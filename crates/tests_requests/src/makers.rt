@@ -20,7 +20,7 @@ mod growths;
 
 pub use growths::try_growths;
 
-/// Two pairs of ranges and values.
+/// Two pairs, each of a range and a value.
 type TwoPairs<R, V> = ((R, V), (R, V));
 
 /// Makes the two pairs that a text names, of a container's kind.

@@ -2,10 +2,9 @@
 ghost use Rattle.std.specs.List.{AllByRecursion};
 ghost use Rattle.rangemap.specs.Clones.{KeysCloneFaithfully, ValuesCloneFaithfully};
 
-use crate::tried::Tried;
 use rangemap_replay::replay::{CallOn, replay};
 use std::test::Fail;
-use tests_support::{Heap, InRows, check_that, made_of, parts, rows, two_lists};
+use tests_support::{Heap, InRows, check_that, made_of, parts, two_lists};
 
 /// Three heaps, for a row's first container, for its second, and to be handed to calls.
 #[derive(Clone, Copy)]
@@ -40,35 +39,6 @@ impl<'a> Heaps<'a> {
             _ => "none",
         }
     }
-}
-
-/// What is tried and has calls of a replay that are its own.
-pub trait Replayed: Tried {
-    /// Replays the calls of a row, made in `own`, on the two containers that it names, and compares
-    /// which heap the one that they add lies in.
-    fn check_owner(
-        heaps: Heaps<'_>,
-        allocs: Allocs<Self::Alloc>,
-        own: Self::Alloc,
-        row: &str,
-    ) -> Result<(), Fail>
-        requires { Self.clones_are_faithful };
-}
-
-/// Replays the calls of each row, made in `own`, on the two containers that it names, and compares
-/// which heap the one that they add lies in.
-pub fn check_owners<M: Replayed>(
-    heaps: Heaps<'_>,
-    allocs: Allocs<M::Alloc>,
-    own: M::Alloc,
-    table: &str,
-) -> Result<(), Fail>
-    requires { M.clones_are_faithful }
-{
-    for row in rows(own, table)? {
-        M::check_owner(heaps, allocs, own, row)?;
-    }
-    Ok(())
 }
 
 /// Replays calls on the two containers that a row names, and compares which heap the one that they

@@ -1,9 +1,6 @@
 //! What is tried: the containers, and calls that have functions of their own.
 ghost use Rattle.rangemap.specs.Clones.{KeysCloneFaithfully, ValuesCloneFaithfully};
 
-mod maps;
-mod sets;
-
 use crate::row::{Answer, Row};
 use std::alloc::Allocator;
 use std::test::Fail;
@@ -35,7 +32,11 @@ pub trait Tried: Sized {
 }
 
 /// Makes the container that holds what a row has, and the range that a text names.
-fn with_range<M: InRows>(alloc: M::Alloc, pairs: &str, range: &str) -> Result<(M, M::Range), Fail>
+pub fn with_range<M: InRows>(
+    alloc: M::Alloc,
+    pairs: &str,
+    range: &str,
+) -> Result<(M, M::Range), Fail>
     requires faithful_keys { KeysCloneFaithfully M.Range.Key.is_clone M.Range.Key.cmp }
     requires faithful_values { ValuesCloneFaithfully M.Value.is_clone M.Value.eq }
 {

@@ -7,7 +7,8 @@ use rangemap_core::half_open::HalfOpen;
 use std::ops::{Range, RangeInclusive};
 use tests_requests::{Answer, Row, is_made, two_pairs};
 use tests_support::{
-    Costly, CostlyMap, CostlySet, CostlyTree, CostlyTreeSet, HalfOpenCostlySet, Heap, Text, Texts,
+    ChunkedMap, ChunkedSet, Costly, CostlyMap, CostlySet, CostlyTree, CostlyTreeSet,
+    HalfOpenCostlySet, Heap, Text, Texts,
 };
 
 /// Tries to make a map to texts.
@@ -60,4 +61,26 @@ pub fn try_tree_set(heap: &Heap, row: &Row<'_>, left: u64) -> Answer {
         tree_set::RangeSet::from(heap, [first.0, second.0]),
         row.outcome,
     )
+}
+
+/// A closed map in chunks of up to two pairs.
+type Chunked<'a> = ChunkedMap<Closed<Costly<'a>>, RangeInclusive<Costly<'a>>, char, &'a Heap, 2>;
+
+/// A set in chunks of up to two ranges.
+type SetInChunks<'a> = ChunkedSet<HalfOpen, Range<Costly<'a>>, &'a Heap, 2>;
+
+/// Tries to make a closed map in chunks.
+pub fn try_chunked_map(heap: &Heap, row: &Row<'_>, left: u64) -> Answer {
+    let (first, second) = two_pairs::<Closed<Costly<'_>>, RangeInclusive<Costly<'_>>, char, &Heap>(
+        heap, row.given,
+    )?;
+    heap.refuse_after(left);
+    is_made::<Chunked<'_>>(Chunked::from(heap, [first, second]), row.outcome)
+}
+
+/// Tries to make a set in chunks.
+pub fn try_chunked_set(heap: &Heap, row: &Row<'_>, left: u64) -> Answer {
+    let (first, second) = two_pairs::<HalfOpen, Range<Costly<'_>>, (), &Heap>(heap, row.given)?;
+    heap.refuse_after(left);
+    is_made::<SetInChunks<'_>>(SetInChunks::from(heap, [first.0, second.0]), row.outcome)
 }

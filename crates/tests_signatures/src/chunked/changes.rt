@@ -2,11 +2,13 @@
 //! container has them as keys.
 ghost use Rattle.std.specs.Prelude.{◌≡◌, ◌≤◌, ◌<◌, ◌^◌, ◌||◌, ℕ, IfOk, OnErr, OnOk, Some as SomeWord, false};
 ghost use Rattle.std.specs.Ordering.{nat_cmp};
+ghost use Rattle.rangemap.specs.Clones.{KeysCloneFaithfully};
 ghost use Rattle.rangemap.specs.Ranges.{IsCanonOf, IsCanonOfPoints, closed, covers, half_open, override, value_at};
 
+use rangemap::StepLite;
 use rangemap::chunked::{RangeInclusiveMap, RangeInclusiveSet, RangeMap, RangeSet};
 use std::alloc::AllocError;
-use std::ops::Range;
+use std::ops::{Range, RangeInclusive};
 
 pub fn assign(
     map: &mut RangeMap<u32, char>,
@@ -48,6 +50,19 @@ pub fn either_closed(
     left | right
 }
 
+fn change_map<K: Ord + Clone>(
+    map: &mut RangeMap<K, u8>,
+    given: Range<K>,
+    taken: Range<K>,
+) -> Result<(), AllocError>
+    requires given_non_empty { (half_open K.cmp).IsNonEmpty given }
+    requires taken_non_empty { (half_open K.cmp).IsNonEmpty taken }
+    requires faithful_keys { KeysCloneFaithfully K.is_clone K.cmp }
+{
+    map.insert(given, 1)?;
+    map.remove(taken)
+}
+
 pub fn change_maps(
     u32s: &mut RangeMap<u32, u8>,
     u64s: &mut RangeMap<u64, u8>,
@@ -56,19 +71,25 @@ pub fn change_maps(
     u128s: &mut RangeMap<u128, u8>,
     chars: &mut RangeMap<char, u8>,
 ) -> Result<(), AllocError> {
-    u32s.insert(0..5, 1)?;
-    u32s.remove(2..3)?;
-    u64s.insert(0..5, 1)?;
-    u64s.remove(2..3)?;
-    usizes.insert(0..5, 1)?;
-    usizes.remove(2..3)?;
-    i64s.insert(-5..5, 1)?;
-    i64s.remove(-2..2)?;
-    u128s.insert(0..5, 1)?;
-    u128s.remove(2..3)?;
-    chars.insert('a'..'f', 1)?;
-    chars.remove('c'..'d')?;
-    Ok(())
+    change_map(u32s, 0..5, 2..3)?;
+    change_map(u64s, 0..5, 2..3)?;
+    change_map(usizes, 0..5, 2..3)?;
+    change_map(i64s, -5..5, -2..2)?;
+    change_map(u128s, 0..5, 2..3)?;
+    change_map(chars, 'a'..'f', 'c'..'d')
+}
+
+fn change_closed_map<K: StepLite + Clone>(
+    map: &mut RangeInclusiveMap<K, u8>,
+    given: RangeInclusive<K>,
+    taken: RangeInclusive<K>,
+) -> Result<(), AllocError>
+    requires given_non_empty { (closed K.StepLite.is_key K.cmp).IsNonEmpty given }
+    requires taken_non_empty { (closed K.StepLite.is_key K.cmp).IsNonEmpty taken }
+    requires faithful_keys { KeysCloneFaithfully K.is_clone K.cmp }
+{
+    map.insert(given, 1)?;
+    map.remove(taken)
 }
 
 pub fn change_closed_maps(
@@ -79,19 +100,25 @@ pub fn change_closed_maps(
     u128s: &mut RangeInclusiveMap<u128, u8>,
     chars: &mut RangeInclusiveMap<char, u8>,
 ) -> Result<(), AllocError> {
-    u32s.insert(0..=5, 1)?;
-    u32s.remove(2..=3)?;
-    u64s.insert(0..=5, 1)?;
-    u64s.remove(2..=3)?;
-    usizes.insert(0..=5, 1)?;
-    usizes.remove(2..=3)?;
-    i64s.insert(-5..=5, 1)?;
-    i64s.remove(-2..=2)?;
-    u128s.insert(0..=5, 1)?;
-    u128s.remove(2..=3)?;
-    chars.insert('a'..='f', 1)?;
-    chars.remove('c'..='d')?;
-    Ok(())
+    change_closed_map(u32s, 0..=5, 2..=3)?;
+    change_closed_map(u64s, 0..=5, 2..=3)?;
+    change_closed_map(usizes, 0..=5, 2..=3)?;
+    change_closed_map(i64s, -5..=5, -2..=2)?;
+    change_closed_map(u128s, 0..=5, 2..=3)?;
+    change_closed_map(chars, 'a'..='f', 'c'..='d')
+}
+
+fn change_set<T: Ord + Clone>(
+    set: &mut RangeSet<T>,
+    given: Range<T>,
+    taken: Range<T>,
+) -> Result<(), AllocError>
+    requires given_non_empty { (half_open T.cmp).IsNonEmpty given }
+    requires taken_non_empty { (half_open T.cmp).IsNonEmpty taken }
+    requires faithful_keys { KeysCloneFaithfully T.is_clone T.cmp }
+{
+    set.insert(given)?;
+    set.remove(taken)
 }
 
 pub fn change_sets(
@@ -102,19 +129,25 @@ pub fn change_sets(
     u128s: &mut RangeSet<u128>,
     chars: &mut RangeSet<char>,
 ) -> Result<(), AllocError> {
-    u32s.insert(0..5)?;
-    u32s.remove(2..3)?;
-    u64s.insert(0..5)?;
-    u64s.remove(2..3)?;
-    usizes.insert(0..5)?;
-    usizes.remove(2..3)?;
-    i64s.insert(-5..5)?;
-    i64s.remove(-2..2)?;
-    u128s.insert(0..5)?;
-    u128s.remove(2..3)?;
-    chars.insert('a'..'f')?;
-    chars.remove('c'..'d')?;
-    Ok(())
+    change_set(u32s, 0..5, 2..3)?;
+    change_set(u64s, 0..5, 2..3)?;
+    change_set(usizes, 0..5, 2..3)?;
+    change_set(i64s, -5..5, -2..2)?;
+    change_set(u128s, 0..5, 2..3)?;
+    change_set(chars, 'a'..'f', 'c'..'d')
+}
+
+fn change_closed_set<T: StepLite + Clone>(
+    set: &mut RangeInclusiveSet<T>,
+    given: RangeInclusive<T>,
+    taken: RangeInclusive<T>,
+) -> Result<(), AllocError>
+    requires given_non_empty { (closed T.StepLite.is_key T.cmp).IsNonEmpty given }
+    requires taken_non_empty { (closed T.StepLite.is_key T.cmp).IsNonEmpty taken }
+    requires faithful_keys { KeysCloneFaithfully T.is_clone T.cmp }
+{
+    set.insert(given)?;
+    set.remove(taken)
 }
 
 pub fn change_closed_sets(
@@ -125,19 +158,12 @@ pub fn change_closed_sets(
     u128s: &mut RangeInclusiveSet<u128>,
     chars: &mut RangeInclusiveSet<char>,
 ) -> Result<(), AllocError> {
-    u32s.insert(0..=5)?;
-    u32s.remove(2..=3)?;
-    u64s.insert(0..=5)?;
-    u64s.remove(2..=3)?;
-    usizes.insert(0..=5)?;
-    usizes.remove(2..=3)?;
-    i64s.insert(-5..=5)?;
-    i64s.remove(-2..=2)?;
-    u128s.insert(0..=5)?;
-    u128s.remove(2..=3)?;
-    chars.insert('a'..='f')?;
-    chars.remove('c'..='d')?;
-    Ok(())
+    change_closed_set(u32s, 0..=5, 2..=3)?;
+    change_closed_set(u64s, 0..=5, 2..=3)?;
+    change_closed_set(usizes, 0..=5, 2..=3)?;
+    change_closed_set(i64s, -5..=5, -2..=2)?;
+    change_closed_set(u128s, 0..=5, 2..=3)?;
+    change_closed_set(chars, 'a'..='f', 'c'..='d')
 }
 
 pub fn insert_texts_in_map(

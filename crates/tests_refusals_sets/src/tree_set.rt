@@ -10,8 +10,6 @@ use tests_support::{Costly, MANY, Refusing};
 // Of an item of two sets both ends are cloned. A set of such items takes the tree and the key that
 // the first stands at beside them, and the key of the second. Of an `extend` the first range takes
 // the tree and a key, and each other, which joins what lies to the left, clones its start and a key.
-// A replay, which changes nothing without room, takes three lists, a node and a key of the first
-// set, a node and three keys of the clone, and two clones, a node and a key for each operator.
 #[test]
 fn each_request_may_be_refused(rt: HostRuntime) -> Result<(), Fail> {
     let heap = Refusing::new(rt.alloc(), MANY);
@@ -33,7 +31,6 @@ fn each_request_may_be_refused(rt: HostRuntime) -> Result<(), Fail> {
         0..3, 7..10 | intersection 2..5, 9..13 | 2..3, 9..10 | 2
         0..3, 7..10 | or 2..5, 9..13 | 0..5, 7..13 | 7
         0..3, 7..10 | and 2..5, 9..13 | 2..3, 9..10 | 7
-        0..5 + 5..10 + 10..15 | extend | ; ; 0..5; 0..5; 0..10; 0..10; 0..15 | 6
-        new, insert 0..10, clone, union 0 1, intersection 0 1 | replay | 4 | 17",
+        0..5 + 5..10 + 10..15 | extend | ; ; 0..5; 0..5; 0..10; 0..10; 0..15 | 6",
     )
 }

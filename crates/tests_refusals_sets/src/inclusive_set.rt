@@ -61,8 +61,5 @@ fn each_growth_may_be_refused(rt: HostRuntime) -> Result<(), Fail> {
             920..=924 + 930..=934 + 940..=944 + 950..=954 + 960..=964 + 970..=974 + 980..=984 + \
             990..=994 \
             | grow | | 5",
-    )?;
-    // A replay, which changes nothing without room, takes three lists, and that of each set.
-    let row = "new, insert 0..=255, union 0 0, intersection 0 1 | replay | 3 | 6";
-    inclusive_set::<u8>(&heap, row)
+    )
 }

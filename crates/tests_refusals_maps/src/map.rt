@@ -59,14 +59,9 @@ fn each_clone_of_a_key_may_be_refused(rt: HostRuntime) -> Result<(), Fail> {
     )
 }
 
-// A run of commands takes room for the answers, the growth of the map, and the list of its clones. A
-// replay, which changes nothing without room, takes three lists, and the growth of either map.
+// A run of commands takes room for the answers, the growth of the map, and the list of its clones.
 #[test]
 fn each_command_may_be_refused(rt: HostRuntime) -> Result<(), Fail> {
     let heap = Refusing::new(rt.alloc(), MANY);
-    map::<u32, char>(
-        &heap,
-        "0..10 a + 20..30 b | run | | 3
-        new, insert 0..10 a, clone, remove 4..5 | replay | 2 | 5",
-    )
+    map::<u32, char>(&heap, "0..10 a + 20..30 b | run | | 3")
 }

@@ -36,9 +36,7 @@ fn a_refused_insert_leaves_the_map(rt: HostRuntime) -> Result<(), Fail> {
 // and nothing where there is none. Both ends of a gap are cloned.
 //
 // Of an `extend` the first pair takes the tree and a key, the second what an insert inside it takes.
-// An append takes a clone of either end of each pair; there is room for four. A replay, which
-// changes nothing without room, takes three lists, a node and a key of the first pair, a node and
-// three keys of the clone, and what a removal takes.
+// An append takes a clone of either end of each pair; there is room for four.
 #[test]
 fn each_request_may_be_refused(rt: HostRuntime) -> Result<(), Fail> {
     let heap = Refusing::new(rt.alloc(), MANY);
@@ -68,7 +66,6 @@ fn each_request_may_be_refused(rt: HostRuntime) -> Result<(), Fail> {
         1..3 a | gaps 0..5 | 0..1, 3..5 | 2
         0..10 a + 2..5 b | extend | ; ; 0..10 a; 0..10 a; 0..10 a; 0..10 a; 0..10 a; 0..10 a; \
             0..2 a, 2..5 b, 5..10 a | 8
-        0..2 a, 5..10 a | append 1..6 0..2 a + 5..10 a | 0..2 a, 5..10 a, 0..2 a, 5..10 a | 4
-        new, insert 0..10 a, clone, remove 2..5 | replay | 2 | 14",
+        0..2 a, 5..10 a | append 1..6 0..2 a + 5..10 a | 0..2 a, 5..10 a, 0..2 a, 5..10 a | 4",
     )
 }

@@ -45,8 +45,7 @@ fn each_clone_of_a_gap_may_be_refused(rt: HostRuntime) -> Result<(), Fail> {
     set::<Text<'_>>(&heap, "b..d | gaps a..f | a..b, d..f | 2")
 }
 
-// Each of five growths doubles the room, so one is refused after some ranges were kept. A replay,
-// which changes nothing without room, takes three lists, and that of each set.
+// Each of five growths doubles the room, so one is refused after some ranges were kept.
 #[test]
 fn each_growth_may_be_refused(rt: HostRuntime) -> Result<(), Fail> {
     let heap = Refusing::new(rt.alloc(), MANY);
@@ -67,7 +66,6 @@ fn each_growth_may_be_refused(rt: HostRuntime) -> Result<(), Fail> {
             800..805 + 810..815 + 820..825 + 830..835 + 840..845 + 850..855 + 860..865 + \
             870..875 + 880..885 + 890..895 + 900..905 + 910..915 + 920..925 + 930..935 + \
             940..945 + 950..955 + 960..965 + 970..975 + 980..985 + 990..995 \
-            | grow | | 5
-        new, insert 0..10, clone, union 0 1, intersection 0 1 | replay | 4 | 7",
+            | grow | | 5",
     )
 }

@@ -1,0 +1,64 @@
+//! Rows about calls on maps in chunks that are refused memory.
+
+use crate::containers::{chunked_inclusive_map, chunked_map};
+use std::test::Fail;
+use tests_support::{Costly, MANY, Refusing, Text};
+
+// The first pair takes a list, as a sorted vector does, and the list of chunks another; then what is
+// changed within a chunk takes what it takes there. A chunk of five pairs is cut in two, and the new
+// one takes a list; without, all five stay in one. The list of chunks has room for more. A change that
+// reaches into the second chunk moves one pair of it into the first, which has room; no clone is taken
+// of what lies between. So a removal may leave five pairs in a chunk, too: where it moves one in, or
+// leaves two pieces of one pair; then that chunk is cut as after an insert. Where few pairs are left
+// in two chunks they become one, for which the first has room too. A clone takes the list of chunks,
+// one for each, and what the pairs take.
+//
+// An `extend` and a run of commands take what their calls take.
+#[test]
+fn each_request_of_a_map_may_be_refused(rt: HostRuntime) -> Result<(), Fail> {
+    let heap = Refusing::new(rt.alloc(), MANY);
+    chunked_map::<u32, Text<'_>, 4>(
+        &heap,
+        "| insert 0..10 a | 0..10 a | 2
+        0..10 a | insert 10..20 a | 0..20 a | 0
+        0..10 a | insert 3..6 b | 0..3 a, 3..6 b, 6..10 a | 2
+        0..2 a, 4..6 b, 8..10 c, 12..14 d | insert 16..18 e | 0..2 a, 4..6 b, 8..10 c, 12..14 d, 16..18 e | 0 + 1
+        0..2 a, 4..6 b, 8..10 c, 12..14 d, 16..18 e | insert 6..8 x | 0..2 a, 4..6 b, 6..8 x, 8..10 c, 12..14 d, 16..18 e | 0 + 1
+        0..2 a, 4..6 b, 8..10 c, 12..14 d, 16..18 e | insert 14..16 e | 0..2 a, 4..6 b, 8..10 c, 12..14 d, 14..18 e | 0 + 1
+        0..2 a, 4..6 b, 8..10 c, 12..14 d, 16..18 e | insert 5..17 x | 0..2 a, 4..5 b, 5..17 x, 17..18 e | 2
+        0..2 a, 4..6 b, 8..10 c, 12..14 d, 16..18 e | insert 13..17 x | 0..2 a, 4..6 b, 8..10 c, 12..13 d, 13..17 x, 17..18 e | 2 + 1
+        0..2 a, 4..6 b, 8..10 c, 12..14 d, 16..18 e | remove 13..17 | 0..2 a, 4..6 b, 8..10 c, 12..13 d, 17..18 e | 2 + 1
+        0..2 a, 4..6 b, 8..10 c, 12..14 d, 16..18 e | remove 0..11 | 12..14 d, 16..18 e | 0
+        0..2 a, 4..6 b, 8..10 c, 12..14 d, 16..18 e | remove 0..18 | | 0
+        0..2 a, 4..6 b, 8..10 c, 12..14 d, 16..18 e | remove 1..20 | 0..1 a | 1
+        0..2 a, 4..6 b, 8..10 c, 12..14 d, 16..18 e | remove 5..6 | 0..2 a, 4..5 b, 8..10 c, 12..14 d, 16..18 e | 1
+        0..2 a, 4..8 b, 8..10 c, 12..14 d, 16..18 e | remove 5..6 | 0..2 a, 4..5 b, 6..8 b, 8..10 c, 12..14 d, 16..18 e | 2 + 1
+        0..2 a, 4..6 b, 8..10 c, 12..14 d, 16..18 e | remove 14..16 | 0..2 a, 4..6 b, 8..10 c, 12..14 d, 16..18 e | 0
+        | remove 0..5 | | 0
+        | clone | | 0
+        0..2 a, 4..6 b, 8..10 c, 12..14 d, 16..18 e | clone | 0..2 a, 4..6 b, 8..10 c, 12..14 d, 16..18 e | 8
+        0..10 a + 3..6 b + 20..25 c | extend \
+            | ; ; 0..10 a; 0..10 a; 0..3 a, 3..6 b, 6..10 a, 20..25 c | 4",
+    )?;
+    chunked_map::<u32, char, 4>(&heap, "0..10 a + 20..30 b | run | | 4")
+}
+
+// What is cloned of a key is what a sorted vector clones, also where the two pieces that stay lie in
+// two chunks.
+#[test]
+fn each_clone_of_a_key_may_be_refused(rt: HostRuntime) -> Result<(), Fail> {
+    let heap = Refusing::new(rt.alloc(), MANY);
+    chunked_inclusive_map::<Costly<'_>, char, 4>(
+        &heap,
+        "| insert 0..=255 a | 0..=255 a | 2
+        0..=4 a | insert 5..=9 a | 0..=9 a | 2
+        0..=1 a, 4..=5 a, 8..=9 a, 12..=13 a, 16..=17 a | insert 14..=15 a | 0..=1 a, 4..=5 a, 8..=9 a, 12..=17 a | 2
+        0..=1 a, 4..=5 b, 8..=9 c, 12..=13 d, 16..=17 e | insert 5..=16 x | 0..=1 a, 4..=4 b, 5..=16 x, 17..=17 e | 2
+        0..=1 a, 4..=5 b, 8..=9 c, 12..=13 d, 16..=17 e | remove 5..=16 | 0..=1 a, 4..=4 b, 17..=17 e | 2
+        0..=1 a, 4..=5 b, 8..=9 c, 12..=13 d, 16..=17 e | clone | 0..=1 a, 4..=5 b, 8..=9 c, 12..=13 d, 16..=17 e | 13
+        0..=1 a, 4..=5 b, 8..=9 c, 12..=13 d, 16..=17 e | gaps 6..=13 | 6..=7, 10..=11 | 1
+        0..=3 a, 4..=7 b, 8..=11 c, 12..=13 d, 16..=17 e | gaps 0..=19 | 14..=15, 18..=19 | 0
+        0..=2 a, 5..=10 a | append 1..=6 0..=2 a + 5..=10 a \
+            | 0..=2 a, 5..=10 a, 0..=2 a, 5..=10 a | 4",
+    )
+}

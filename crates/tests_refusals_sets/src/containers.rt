@@ -1,0 +1,57 @@
+//! The sets that are tried, over any keys: so the proof of a test tells of these alone, and not of all
+//! that a set does.
+ghost use Rattle.rangemap.specs.Clones.{KeysCloneFaithfully};
+
+use crate::tried::Sets;
+use rangemap::{RangeInclusiveSet, RangeSet, StepLite, tree_set as sets_in_trees};
+use rangemap_core::closed::Closed;
+use rangemap_core::half_open::HalfOpen;
+use std::ops::{Range, RangeInclusive};
+use std::test::Fail;
+use tests_requests::check;
+use tests_support::{ChunkedSet, Heap, Word};
+
+/// Tries the rows of a set of half-open ranges.
+pub fn set<'a, T>(heap: &'a Heap, text: &str) -> Result<(), Fail>
+where
+    T: Ord + Clone + Word<&'a Heap>,
+    requires faithful_keys { KeysCloneFaithfully T.is_clone T.cmp }
+{
+    check::<Sets<RangeSet<T, &'a Heap>>>(heap, heap, text)
+}
+
+/// Tries the rows of a set of closed ranges.
+pub fn inclusive_set<'a, T>(heap: &'a Heap, text: &str) -> Result<(), Fail>
+where
+    T: StepLite + Clone + Word<&'a Heap>,
+    requires faithful_keys { KeysCloneFaithfully T.is_clone T.cmp }
+{
+    check::<Sets<RangeInclusiveSet<T, T, &'a Heap>>>(heap, heap, text)
+}
+
+/// Tries the rows of a set in a tree.
+pub fn tree_set<'a, T>(heap: &'a Heap, text: &str) -> Result<(), Fail>
+where
+    T: Ord + Clone + Word<&'a Heap>,
+    requires { KeysCloneFaithfully T.is_clone T.cmp }
+{
+    check::<Sets<sets_in_trees::RangeSet<T, &'a Heap>>>(heap, heap, text)
+}
+
+/// Tries the rows of a set of half-open ranges in chunks of up to `N` ranges.
+pub fn chunked_set<'a, T, const N: usize>(heap: &'a Heap, text: &str) -> Result<(), Fail>
+where
+    T: Ord + Clone + Word<&'a Heap>,
+    requires { KeysCloneFaithfully T.is_clone T.cmp }
+{
+    check::<Sets<ChunkedSet<HalfOpen, Range<T>, &'a Heap, N>>>(heap, heap, text)
+}
+
+/// Tries the rows of a set of closed ranges in chunks of up to `N` ranges.
+pub fn chunked_inclusive_set<'a, T, const N: usize>(heap: &'a Heap, text: &str) -> Result<(), Fail>
+where
+    T: StepLite + Clone + Word<&'a Heap>,
+    requires { KeysCloneFaithfully T.is_clone T.cmp }
+{
+    check::<Sets<ChunkedSet<Closed<T>, RangeInclusive<T>, &'a Heap, N>>>(heap, heap, text)
+}
