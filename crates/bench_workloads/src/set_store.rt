@@ -4,7 +4,7 @@ use crate::digest::Keys;
 use crate::store::Store;
 use rangemap::range_set::Set;
 use rangemap_chunked::Chunks;
-use rangemap_core::kind::OwnSteps;
+use rangemap_core::kind::Kind;
 use rangemap_sorted::SortedVec;
 use std::alloc::{AllocError, Global};
 use tests_support::{ReadsGaps, tell_gaps};
@@ -32,7 +32,7 @@ pub trait SetStore: Store {
     fn common_with(&self, other: &Self) -> Result<Self, AllocError>;
 }
 
-impl<Q: OwnSteps<R>, R: Keys> SetStore for Set<SortedVec<Q, R, (), Global>> {
+impl<Q: Kind<R, Steps = R::Key>, R: Keys> SetStore for Set<SortedVec<Q, R, (), Global>> {
     fn read_union<U: ReadsGaps<R>>(&self, other: &Self, reader: &mut U) -> Result<(), AllocError> {
         tell_gaps(self.union(other), reader)
     }
@@ -54,7 +54,8 @@ impl<Q: OwnSteps<R>, R: Keys> SetStore for Set<SortedVec<Q, R, (), Global>> {
     }
 }
 
-impl<Q: OwnSteps<R>, R: Keys, const N: usize> SetStore for Set<Chunks<Q, R, (), Global, N>> {
+impl<Q: Kind<R, Steps = R::Key>, R: Keys, const N: usize> SetStore
+    for Set<Chunks<Q, R, (), Global, N>> {
     fn read_union<U: ReadsGaps<R>>(&self, other: &Self, reader: &mut U) -> Result<(), AllocError> {
         tell_gaps(self.union(other), reader)
     }

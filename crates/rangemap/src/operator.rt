@@ -6,7 +6,7 @@ ghost use Rattle.rangemap.specs.Ranges.{IsCanonOfPoints, covers};
 
 use crate::range_set::Set;
 use rangemap_core::key_range::KeyRange;
-use rangemap_core::kind::{Kind, OwnSteps};
+use rangemap_core::kind::Kind;
 use rangemap_core::store::Store;
 use std::alloc::AllocError;
 
@@ -27,7 +27,7 @@ impl Operator {
     ) -> Result<Set<S>, AllocError>
     where
         S::Alloc: Clone,
-        S::Kind: OwnSteps<S::Range>,
+        S::Kind: Kind<S::Range, Steps = <S::Range as KeyRange>::Key>,
         requires faithful_keys { KeysCloneFaithfully S.Range.Key.is_clone S.Range.Key.cmp }
         ensures { IfOk result (IsCanonOfPoints S.Kind.kind (joined self.now (covers S.Kind.kind first.now) (covers S.Kind.kind second.now))) }
     {

@@ -7,7 +7,7 @@ ghost use Rattle.rangemap.specs.Sets.{Adds, IsCanonicalSet, TakesOut, met, range
 
 use rangemap_core::gaps::{Gaps, gaps_of};
 use rangemap_core::key_range::KeyRange;
-use rangemap_core::kind::{Kind, OwnSteps};
+use rangemap_core::kind::Kind;
 use rangemap_core::store::{Lends, Store};
 use rangemap_maps::readers::IsAny;
 use rangemap_unions::Ranges;
@@ -57,7 +57,7 @@ impl<S: Store<Value = ()>> Model for Set<S> {
 
 impl<S: Store<Value = ()>> Set<S>
 where
-    S::Kind: OwnSteps<S::Range>,
+    S::Kind: Kind<S::Range, Steps = <S::Range as KeyRange>::Key>,
 {
     /// Returns the empty set, whose memory comes from `alloc`.
     pub fn new(alloc: S::Alloc) -> Self

@@ -1,6 +1,7 @@
 -- A list in chunks, and the chunks in which a place or a range can be.
-use Rattle.std.proofs.Common.{arith, ◌≡◌, inl, inr, ℕ, zero, suc, ◌+◌, ◌-◌, ◌<◌, ◌≤◌, Bool, true, false, not, List, [], ◌∷◌, ◌++◌, length, take, drop, get_or, Option, Some, None, refl, sym, ap, ◌∙◌, subst, append_assoc, append-nil, length-append, Ordering, Less, Equal, Greater, is_lt, is_gt}
+use Rattle.std.proofs.Common.{arith, ◌≡◌, inl, inr, ℕ, zero, suc, ◌+◌, ◌-◌, ◌<◌, ◌≤◌, Bool, true, false, not, List, [], ◌∷◌, ◌++◌, length, take, drop, get_or, Option, Some, None, refl, sym, ap, ◌∙◌, subst, append_assoc, append-nil, length-append, Ordering, Less, is_lt, is_gt}
 use Rattle.std.specs.Prelude.{slice_get}
+use Rattle.std.specs.List.{AllWithin}
 use Rattle.std.specs.List.Sorted.{IsPartitionedBy}
 use Rattle.std.specs.Cmp.{IsTotalOrder, IsEquivalence}
 use Rattle.std.proofs.lemmas.Bool.{cases_Bool, cases_lt}
@@ -122,18 +123,18 @@ module _ {G P V : Type 0} (s : Shape G P V) (o : IsTotalOrder s.order) (e : IsEq
     spaced_at : (at : ℕ) (d : List (G × V)) → at < length chunks → IsSpaced s (get_or chunks at d)
     spaced_at at d l = IsSpaced-left s o (get_or chunks at d) (whole (drop (suc at) chunks)) (IsSpaced-right s o (whole (take at chunks)) (get_or chunks at d ++ whole (drop (suc at) chunks)) (spaced_around chunks c at d l))
 
-    all_behind : (test : G × V → Bool) (Q : G × V → Type 0) → ((a b : G × V) → is_gt (s.order (s.start_place a.0) (s.start_place b.0)) ≡ false → Q a → Q b) → ((a : G × V) → test a ≡ false → Q a) → PassesUpTo (λ chunk. first_passes test (slice_get chunk 0)) chunks n → Every Q (whole (drop n chunks))
-    all_behind test Q rises from point = Every-whole Q (drop n chunks) (Every-drop (Every Q) chunks n (λ at d l m.
+    all_behind : (test : G × V → Bool) (Q : G × V → Type 0) → ((a b : G × V) → is_gt (s.order (s.start_place a.0) (s.start_place b.0)) ≡ false → Q a → Q b) → ((a : G × V) → test a ≡ false → Q a) → AllWithin (λ chunk. first_passes test (slice_get chunk 0) ≡ false) chunks n (length chunks) → Every Q (whole (drop n chunks))
+    all_behind test Q rises from failed = Every-whole Q (drop n chunks) (Every-drop (Every Q) chunks n (λ at d l m.
         let a = filled_is (get_or chunks at d) (Every-at (λ chunk. 0 < length chunk) chunks filled at d m) in
-        pairs_of Q rises (get_or chunks at d) (spaced_at at d m) a.0 a.1 a.2 (from a.0 (passed_first test (get_or chunks at d) a.0 a.1 false a.2 (point.1 at d l m)))))
+        pairs_of Q rises (get_or chunks at d) (spaced_at at d m) a.0 a.1 a.2 (from a.0 (passed_first test (get_or chunks at d) a.0 a.1 false a.2 (failed at d l m)))))
 
     -- chunks that start behind a place
     pub clear_behind : (q : P) → PassesUpTo (chunk_by s q) chunks n → Every (λ b. s.order q (s.start_place b.0) ≡ Less) (whole (drop n chunks))
-    clear_behind q point = all_behind (starts_by s q) (λ b. s.order q (s.start_place b.0) ≡ Less) (λ a b rise h. lt_le_trans o _ _ _ h rise) (λ a h. grind (arith, h)) point
+    clear_behind q point = all_behind (starts_by s q) (λ b. s.order q (s.start_place b.0) ≡ Less) (λ a b rise h. lt_le_trans o _ _ _ h rise) (λ a h. grind (arith, h)) point.1
 
     -- chunks that start there or behind it
-    pub past_behind : (q : P) → PassesUpTo (chunk_below s q) chunks n → Every (λ b. is_gt (s.order q (s.start_place b.0)) ≡ false) (whole (drop n chunks))
-    past_behind q point = all_behind (starts_below s q) (λ b. is_gt (s.order q (s.start_place b.0)) ≡ false) (λ a b rise h. le_trans o _ _ _ h rise) (λ a h. not_lt_ge o _ _ h) point
+    pub past_behind : (q : P) → AllWithin (λ xs. chunk_below s q xs ≡ false) chunks n (length chunks) → Every (λ b. is_gt (s.order q (s.start_place b.0)) ≡ false) (whole (drop n chunks))
+    past_behind q failed = all_behind (starts_below s q) (λ b. is_gt (s.order q (s.start_place b.0)) ≡ false) (λ a b rise h. le_trans o _ _ _ h rise) (λ a h. not_lt_ge o _ _ h) failed
 
     covering_before : (xs ys : List (G × V)) (q : P) → place_covering s ys q ≡ None → place_covering s (xs ++ ys) q ≡ place_covering s xs q
     covering_before [] ys q h = h
@@ -173,11 +174,6 @@ below_is s p chunk a r first is = ap is_lt (sym is) ∙ ap (first_passes (starts
 pub by_is : {G P V : Type 0} (s : Shape G P V) (p : P) (chunk : List (G × V)) (a : G × V) (r : Ordering) → Some a ≡ slice_get chunk 0 → s.order p (s.start_place a.0) ≡ r → not (is_lt r) ≡ chunk_by s p chunk
 by_is s p chunk a r first is = ap (λ t. not (is_lt t)) (sym is) ∙ ap (first_passes (starts_by s p)) first
 
-pub not_less : (r : Ordering) → (r ≡ Less → ⊥) → is_lt r ≡ false
-not_less Less h = absurd (h refl)
-not_less Equal h = refl
-not_less Greater h = refl
-
 -- ---- by keys
 
 module _ {K X V : Type 0} {k : RangeKind K X} {end_place : X → Option K} {chunk : EndpointOf X → EndpointOf X → X} (p : IsPlaced k end_place chunk) {eq : V → V → Bool} (e : IsEquivalence eq) (chunks : List (List (X × V))) (h : AreChunks k eq chunks) where
@@ -206,13 +202,13 @@ module _ {K X V : Type 0} {k : RangeKind K X} {end_place : X → Option K} {chun
     starts_clear point at is = clear_before (S p eq) (places p eq) e chunks spaced_whole h.filled n bound r at is point
 
     pub starts_past : PassesUpTo (chunk_below (S p eq) (Some (k.start r))) chunks n → (at : ℕ) → at ≡ n - 1 → IsPastStart (S p eq) chunks r (at + 1)
-    starts_past point at is = Every-further (λ b. is_gt (place_cmp k.cmp (Some (k.start r)) (Some (k.start b.0))) ≡ false) chunks n (at + 1) (omega arith) (past_behind (S p eq) (places p eq) e chunks spaced_whole h.filled n bound (Some (k.start r)) point)
+    starts_past point at is = Every-further (λ b. is_gt (place_cmp k.cmp (Some (k.start r)) (Some (k.start b.0))) ≡ false) chunks n (at + 1) (omega arith) (past_behind (S p eq) (places p eq) e chunks spaced_whole h.filled n bound (Some (k.start r)) point.1)
 
     pub ends_clear : PassesUpTo (chunk_by (S p eq) (end_place r)) chunks n → IsClearBehind (S p eq) chunks r n
     ends_clear point = clear_behind (S p eq) (places p eq) e chunks spaced_whole h.filled n bound (end_place r) point
 
-    pub ends_past : PassesUpTo (chunk_below (S p eq) (end_place r)) chunks n → IsPastBehind (S p eq) chunks r n
-    ends_past point = past_behind (S p eq) (places p eq) e chunks spaced_whole h.filled n bound (end_place r) point
+    pub ends_past : AllWithin (λ xs. chunk_below (S p eq) (end_place r) xs ≡ false) chunks n (length chunks) → IsPastBehind (S p eq) chunks r n
+    ends_past failed = past_behind (S p eq) (places p eq) e chunks spaced_whole h.filled n bound (end_place r) failed
 
 -- ---- the last chunk
 

@@ -113,14 +113,14 @@ impl<R, V, A: Allocator> Chunk<R, V, A> {
         self.pairs.append(&mut other.pairs)
     }
 
-    /// Gives memory back where more than half of the room is unused, and it is room for more than
-    /// `least` pairs. Where that is refused the room stays.
+    /// Gives memory back where half of the room or more is unused, and it is room for more than `least`
+    /// pairs. Where that is refused the room stays.
     pub fn give_back(&mut self, least: usize)
         ensures { self.new ≡ self.old }
     {
         let room = self.pairs.capacity();
         let len = self.pairs.len();
-        if least < room && len < room / 2 {
+        if least < room && len <= room / 2 {
             self.pairs.shrink_to((len + len / 2).max(least));
         }
     }

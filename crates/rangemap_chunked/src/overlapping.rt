@@ -7,7 +7,7 @@ ghost use Rattle.rangemap_core.specs.Ranges.{overlapped};
 ghost use Rattle.rangemap_chunked.specs.Chunks.{AreChunks, AreFilled, whole};
 
 use crate::chunk::Chunk;
-use crate::search::{end_overlapped, start_of};
+use crate::search::{end_from, start_of};
 use rangemap_core::key_range::KeyRange;
 use rangemap_core::kind::{Kind, known_ends};
 use rangemap_core::pair_iter::{LentPairs, PairIter};
@@ -52,7 +52,7 @@ impl<'a, R: KeyRange, V: Eq, A: Allocator> Overlapping<'a, R, V, A> {
             return Overlapping::of(&[], &[], &[]);
         }
         let at = start_of::<Q, R, V, A>(chunks, query);
-        let end = end_overlapped::<Q, R, V, A>(chunks, query);
+        let end = end_from::<Q, R, V, A>(chunks, query, at);
         known_ends::<Q, R>(query);
         if end <= at + 1 {
             return Overlapping::of(met::<Q, R, V, A>(chunks, at, query), &[], &[]);

@@ -12,37 +12,37 @@ use rangemap_core::key_range::KeyRange;
 use rangemap_core::kind::{Endpoint, Kind, known_ends};
 use rangemap_sorted::overlapping::Overlapping;
 use std::alloc::Allocator;
-use std::cmp::Ordering;
 use std::iter::Iterator;
+
+// A key that is searched for, as a closure may hold it: the checker refuses one that holds a bare
+// `R::Key` where the kind of the ranges is open.
+#[derive(Drop)]
+struct Sought<'a, R: KeyRange> {
+    key: &'a R::Key,
+}
 
 // Whether the first start of a chunk is not after the key.
 fn starts_by<Q: Kind<R>, R: KeyRange, V: Eq, A: Allocator>(
     chunk: &Chunk<R, V, A>,
-    key: &R::Key,
+    sought: &Sought<'_, R>,
 ) -> bool
-    ensures { result ≡ chunk_by (shape_of Q.kind Q.end_place V.eq) (SomeWord key.now) chunk.now }
+    ensures { result ≡ chunk_by (shape_of Q.kind Q.end_place V.eq) (SomeWord sought.now.key.now) chunk.now }
 {
     match chunk.as_slice().first() {
-        Some(pair) => match key.cmp(pair.0.start()) {
-            Ordering::Less => false,
-            _ => true,
-        },
+        Some(pair) => !sought.key.cmp(pair.0.start()).is_lt(),
         None => true,
     }
 }
 
-// Whether the first start of a chunk is before the key.
+// Whether the first range of a chunk starts before the given one does.
 fn starts_below<Q: Kind<R>, R: KeyRange, V: Eq, A: Allocator>(
     chunk: &Chunk<R, V, A>,
-    key: &R::Key,
+    range: &R,
 ) -> bool
-    ensures { result ≡ chunk_below (shape_of Q.kind Q.end_place V.eq) (SomeWord key.now) chunk.now }
+    ensures { result ≡ chunk_below (shape_of Q.kind Q.end_place V.eq) (SomeWord (Q.kind.start range.now)) chunk.now }
 {
     match chunk.as_slice().first() {
-        Some(pair) => match pair.0.start().cmp(key) {
-            Ordering::Less => true,
-            _ => false,
-        },
+        Some(pair) => pair.0.start().cmp(range.start()).is_lt(),
         None => true,
     }
 }
@@ -83,7 +83,8 @@ pub fn chunk_with<'a, Q: Kind<R>, R: KeyRange, V: Eq, A: Allocator>(
     ensures canonical { IfSome result (λ chunk. IsCanonical Q.kind V.eq chunk.now) }
 {
     Q::known(key);
-    let count = chunks.partition_point(|chunk| starts_by::<Q, R, V, A>(chunk, key));
+    let sought = Sought { key };
+    let count = chunks.partition_point(|chunk| starts_by::<Q, R, V, A>(chunk, &sought));
     let at = count.saturating_sub(1);
     if at < chunks.len() {
         Some(&chunks[at])
@@ -103,8 +104,7 @@ pub fn start_of<Q: Kind<R>, R: KeyRange, V: Eq, A: Allocator>(
     ensures clear { IsClearBefore (shape_of Q.kind Q.end_place V.eq) chunks.now range.now result }
     ensures past { IsPastStart (shape_of Q.kind Q.end_place V.eq) chunks.now range.now (result + 1) }
 {
-    let start = range.start();
-    let count = chunks.partition_point(|chunk| starts_below::<Q, R, V, A>(chunk, start));
+    let count = chunks.partition_point(|chunk| starts_below::<Q, R, V, A>(chunk, range));
     count.saturating_sub(1)
 }
 
@@ -132,6 +132,29 @@ pub fn end_overlapped<Q: Kind<R>, R: KeyRange, V: Eq, A: Allocator>(
     ensures begun { AllWithin (λ chunk. chunk_below (shape_of Q.kind Q.end_place V.eq) (Q.end_place range.now) chunk ≡ true) chunks.now 0 result }
 {
     chunks.partition_point(|chunk| begins_below_end::<Q, R, V, A>(chunk, range))
+}
+
+/// Returns a chunk from which on no pair overlaps the range, where none before the chunk `at` does: the
+/// next one where that is so, for which one look suffices.
+pub fn end_from<Q: Kind<R>, R: KeyRange, V: Eq, A: Allocator>(
+    chunks: &[Chunk<R, V, A>],
+    range: &R,
+    at: usize,
+) -> usize
+    requires chunked { AreChunks Q.kind V.eq chunks.now }
+    requires in_bounds { at < length chunks.now }
+    ensures bound { result ≤ length chunks.now }
+    ensures clear { IsPastBehind (shape_of Q.kind Q.end_place V.eq) chunks.now range.now result }
+    ensures begun { at + 1 < result → AllWithin (λ chunk. chunk_below (shape_of Q.kind Q.end_place V.eq) (Q.end_place range.now) chunk ≡ true) chunks.now 0 result }
+{
+    let next = at + 1;
+    if next == chunks.len() {
+        return next;
+    }
+    if begins_below_end::<Q, R, V, A>(&chunks[next], range) {
+        return end_overlapped::<Q, R, V, A>(chunks, range);
+    }
+    next
 }
 
 // Whether the pair starts before the range ends, or there.

@@ -12,8 +12,8 @@ ghost use Rattle.rangemap_core.specs.engine.ClosedPlaces.{closed_end_place};
 ghost use Rattle.rangemap_core.specs.Ranges.{closed};
 ghost use Rattle.rangemap_core.specs.engine.Steppable.{HasFirst, HasLast};
 
-use crate::kind::{Endpoint, Kind, OwnSteps};
-use crate::std_ext::{StepFns, StepLite, Touch, touch_test_inclusive};
+use crate::kind::{Endpoint, Kind};
+use crate::std_ext::{StepFns, Touch, touch_test_inclusive};
 use std::alloc::AllocError;
 use std::marker::PhantomData;
 use std::ops::RangeInclusive;
@@ -32,6 +32,8 @@ impl<K: Ord + Clone, StepFnsT: StepFns<K>> Kind<RangeInclusive<K>> for Closed<St
     ghost use Rattle.rangemap_core.specs.operations.PlaceKinds.{closed_has_places};
     ghost use Rattle.rangemap_core.specs.engine.ClosedPlaces.{closed_end_place};
     ghost use Rattle.std.specs.Prelude.{◌≡◌, true, IfOk, refl};
+
+    type Steps = StepFnsT;
 
     ghost kind = { closed StepFnsT.is_key K.cmp };
 
@@ -95,8 +97,6 @@ impl<K: Ord + Clone, StepFnsT: StepFns<K>> Kind<RangeInclusive<K>> for Closed<St
         Ok(RangeInclusive::new(start, end))
     }
 }
-
-impl<K: StepLite + Clone> OwnSteps<RangeInclusive<K>> for Closed<K> {}
 
 // Whether the first range lies wholly before the second, with a key between.
 fn is_apart<K: Ord + Clone, StepFnsT: StepFns<K>>(

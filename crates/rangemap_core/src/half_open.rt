@@ -3,7 +3,7 @@ ghost use Rattle.std.specs.Prelude.{◌≡◌};
 ghost use Rattle.rangemap_core.specs.engine.Endpoints.{endpoint_of};
 ghost use Rattle.rangemap_core.specs.engine.EndpointKinds.{half_open_key};
 
-use crate::kind::{Endpoint, Kind, OwnSteps};
+use crate::kind::{Endpoint, Kind};
 use crate::std_ext::{Touch, touch_test};
 use std::alloc::AllocError;
 use std::ops::Range;
@@ -21,6 +21,8 @@ impl<K: Ord + Clone> Kind<Range<K>> for HalfOpen {
     ghost use Rattle.rangemap_core.specs.engine.IntervalKinds.{half_open_interval};
     ghost use Rattle.rangemap_core.specs.operations.PlaceKinds.{half_open_has_places};
     ghost use Rattle.std.specs.Prelude.{◌≡◌, true, IfOk, refl};
+
+    type Steps = K;
 
     ghost kind = { half_open K.cmp };
 
@@ -69,8 +71,6 @@ impl<K: Ord + Clone> Kind<Range<K>> for HalfOpen {
         Ok(key_at(from).clone()?..key_at(to).clone()?)
     }
 }
-
-impl<K: Ord + Clone> OwnSteps<Range<K>> for HalfOpen {}
 
 fn key_at<'a, K>(endpoint: Endpoint<'a, Range<K>>) -> &'a K
     ensures { result.now ≡ half_open_key (endpoint_of endpoint.entry) }

@@ -35,6 +35,10 @@ impl<'a, R> Copy for Endpoint<'a, R> {}
 
 /// A kind of range that may be stored: what the steps of keys decide.
 pub trait Kind<R: KeyRange> {
+    /// The type whose steps the keys take: the key type, where the ranges have no steps. `new`, and
+    /// what takes or gives whole ranges one after another, exist where it is the key type.
+    type Steps;
+
     /// What contracts know of the ranges.
     ghost kind: { RangeKind R.Key R };
 
@@ -90,10 +94,6 @@ pub trait Kind<R: KeyRange> {
     /// A range that is not empty without steps is not empty.
     ghost non_empty_stepped: { (range : R) → R.read.IsNonEmpty range → kind.IsNonEmpty range };
 }
-
-/// A kind whose keys have no steps, or steps of their own. `new`, and what takes or gives whole
-/// ranges one after another, exist for these alone.
-pub trait OwnSteps<R: KeyRange>: Kind<R> {}
 
 /// Does nothing, and tells that the ends of a range at hand are keys.
 pub fn known_ends<Q: Kind<R>, R: KeyRange>(range: &R)

@@ -6,7 +6,7 @@ ghost use Rattle.rangemap_core.specs.Ranges.{AreGaps, IsCanonical, covering, ove
 use crate::readers::IsAny;
 use rangemap_core::gaps::{Gaps, gaps_of};
 use rangemap_core::key_range::KeyRange;
-use rangemap_core::kind::{Kind, OwnSteps};
+use rangemap_core::kind::Kind;
 use rangemap_core::store::{Lends, Store};
 use std::marker::{Model, PhantomData};
 
@@ -50,7 +50,7 @@ impl<S: Store> Model for Map<S> {
 
 impl<S: Store> Map<S>
 where
-    S::Kind: OwnSteps<S::Range>,
+    S::Kind: Kind<S::Range, Steps = <S::Range as KeyRange>::Key>,
 {
     /// Returns the empty map, whose memory will come from `alloc`.
     pub fn new(alloc: S::Alloc) -> Self

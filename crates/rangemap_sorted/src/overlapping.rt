@@ -1,8 +1,9 @@
 //! The pairs that overlap a range: for queries an iterator over them, for changes their places.
 //!
 //! Where they begin, and where those of a change end, is searched for among the starts, as a lookup
-//! does. Where those of a query end is searched for over whole pairs, by std's `partition_point`: the
-//! iterator knows how its ranges are read, and no kind of range that the search asks for.
+//! does. Where those of a query end, the next few pairs are looked at one by one, and where it meets
+//! more it is searched for over whole pairs, by std's `partition_point`: the iterator knows how its
+//! ranges are read, and no kind of range that the search among starts asks for.
 ghost use Rattle.std.specs.Prelude.{◌≡◌, ◌<◌, ◌≤◌, ◌∷◌, [], IfSome, MatchOption, None as NoneWord, true, false, length, take_while};
 ghost use Rattle.std.specs.List.{AllWithin};
 ghost use Rattle.std.specs.List.Sorted.{IsPartitionedBy};
@@ -192,14 +193,36 @@ fn split_begun<'a, R: KeyRange, V>(
     }
 }
 
-// The pairs that start before the query ends, where these come first: by std's search, which sees
-// whole pairs.
+// Up to how many pairs are looked at one by one for the end of a query. They lie side by side, and most
+// queries meet no more; a search looks at pairs that are far from each other.
+const ASKED: usize = 16;
+
+// The pairs that start before the query ends, where these come first.
 fn take_begun<'a, R: KeyRange, V>(pairs: &'a [(R, V)], query: &R) -> &'a [(R, V)]
     requires { IsPartitionedBy (is_begun R.read R.has_end query.now) pairs.now }
     ensures { result.now ≡ take_while (is_begun R.read R.has_end query.now) pairs.now }
 {
-    let count = pairs.partition_point(|pair| query.reaches(pair.0.start()));
-    &pairs[..count]
+    &pairs[..count_begun::<R, V>(pairs, query)]
+}
+
+// How many pairs start before the query ends, where these come first: where they are many, by std's
+// search, which sees whole pairs.
+fn count_begun<R: KeyRange, V>(pairs: &[(R, V)], query: &R) -> usize
+    requires { IsPartitionedBy (is_begun R.read R.has_end query.now) pairs.now }
+    ensures bound { result ≤ length pairs.now }
+    ensures point { PassesUpTo (is_begun R.read R.has_end query.now) pairs.now result }
+{
+    if ASKED < pairs.len() && query.reaches(pairs[ASKED].0.start()) {
+        return pairs.partition_point(|pair| query.reaches(pair.0.start()));
+    }
+    let mut at = 0;
+    'on: while at < pairs.len() {
+        if !query.reaches(pairs[at].0.start()) {
+            return at;
+        }
+        at += 1;
+    }
+    at
 }
 
 /// Returns the places of the pairs that overlap a range which is to be changed.

@@ -16,8 +16,8 @@ use std::marker::{Model, PhantomData};
 
 /// Pairs of a range and a value in one sorted vector.
 ///
-/// It is the fastest store of up to some two thousand ranges, and wherever ranges come in order: an
-/// insert at the end moves nothing, one before it moves the pairs behind.
+/// It is the fastest store of up to some thousand ranges, and wherever ranges come in order: an insert
+/// at the end moves nothing, one before it moves the pairs behind.
 #[derive(Drop)]
 pub struct SortedVec<Q: Kind<R>, R: KeyRange, V: Eq + Clone, A: Allocator> {
     pairs: Vec<(R, V), A>,

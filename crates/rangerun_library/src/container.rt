@@ -6,7 +6,8 @@ use rangemap::container::Container as LibraryContainer;
 use rangemap::map::Map;
 use rangemap::range_set::Set;
 use rangemap::{RangeInclusiveMap, RangeInclusiveSet, RangeMap, RangeSet, WriteError};
-use rangemap_core::kind::OwnSteps;
+use rangemap_core::key_range::KeyRange;
+use rangemap_core::kind::Kind;
 use rangemap_core::store::Store;
 use serde_json::Value;
 use std::alloc::{AllocError, Allocator, Global};
@@ -40,7 +41,7 @@ impl<
     S: Store<Range: NumberRange, Value = String<A>, Alloc = A> + Drop,
 > Container for Map<S>
 where
-    S::Kind: OwnSteps<S::Range>,
+    S::Kind: Kind<S::Range, Steps = <S::Range as KeyRange>::Key>,
 {
     fn value(alloc: A, word: Option<&str>) -> Result<String<A>, AllocError> {
         text_of(alloc, word)
@@ -54,7 +55,7 @@ where
 impl<S: Store<Range: NumberRange, Value = ()> + Drop> Container for Set<S>
 where
     S::Alloc: Clone,
-    S::Kind: OwnSteps<S::Range>,
+    S::Kind: Kind<S::Range, Steps = <S::Range as KeyRange>::Key>,
 {
     fn value(_alloc: S::Alloc, _word: Option<&str>) -> Result<(), AllocError> {
         Ok(())

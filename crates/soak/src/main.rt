@@ -17,10 +17,12 @@ mod points;
 mod session;
 mod soaked;
 
-use session::{Report, soak};
+use chance::Chance;
+use model::Model;
+use session::{Report, soak_map, soak_set};
 use soaked::{
-    ClosedChunkedMap, ClosedChunkedSet, HalfOpenChunkedMap, HalfOpenChunkedSet, Heap, InclusiveMap,
-    InclusiveSet, Kept, Map, Profile, Set, TreeMap, TreeSet,
+    ChunkedPairs, ChunkedRanges, ClosedChunkedPairs, ClosedChunkedRanges, ClosedPairs,
+    ClosedRanges, Heap, Kept, Pairs, Profile, Ranges, TreePairs, TreeRanges,
 };
 use std::process::ExitCode;
 use std::{env, io};
@@ -52,6 +54,11 @@ fn tell(rt: &HostRuntime, heap: &Heap, name: &str, report: Report) -> io::Result
     }
 }
 
+/// The model of a container, of which nothing was called yet.
+fn model_of<'a>(rt: &HostRuntime, heap: &'a Heap, profile: Profile, seed: u64) -> Model<'a> {
+    Model::new(rt.alloc(), Chance::new(heap, seed), profile)
+}
+
 /// Makes the calls on every map, until one differs. Answers whether none did.
 fn soak_maps(rt: &HostRuntime, heap: &Heap, seed: u64, calls: u64) -> io::Result<bool> {
     let map = Profile {
@@ -68,15 +75,15 @@ fn soak_maps(rt: &HostRuntime, heap: &Heap, seed: u64, calls: u64) -> io::Result
         kept: Kept::InTree,
         ..map
     };
-    let report = soak::<Map<'_>>(heap, rt.alloc(), map, seed, calls);
+    let report = soak_map::<Pairs<'_>>(heap, model_of(rt, heap, map, seed), calls);
     if !tell(rt, heap, "map", report)? {
         return Ok(false);
     }
-    let report = soak::<InclusiveMap<'_>>(heap, rt.alloc(), inclusive_map, seed, calls);
+    let report = soak_map::<ClosedPairs<'_>>(heap, model_of(rt, heap, inclusive_map, seed), calls);
     if !tell(rt, heap, "inclusive_map", report)? {
         return Ok(false);
     }
-    let report = soak::<TreeMap<'_>>(heap, rt.alloc(), tree_map, seed, calls);
+    let report = soak_map::<TreePairs<'_>>(heap, model_of(rt, heap, tree_map, seed), calls);
     tell(rt, heap, "tree_map", report)
 }
 
@@ -96,15 +103,15 @@ fn soak_sets(rt: &HostRuntime, heap: &Heap, seed: u64, calls: u64) -> io::Result
         kept: Kept::InTree,
         ..set
     };
-    let report = soak::<Set<'_>>(heap, rt.alloc(), set, seed, calls);
+    let report = soak_set::<Ranges<'_>>(heap, model_of(rt, heap, set, seed), calls);
     if !tell(rt, heap, "set", report)? {
         return Ok(false);
     }
-    let report = soak::<InclusiveSet<'_>>(heap, rt.alloc(), inclusive_set, seed, calls);
+    let report = soak_set::<ClosedRanges<'_>>(heap, model_of(rt, heap, inclusive_set, seed), calls);
     if !tell(rt, heap, "inclusive_set", report)? {
         return Ok(false);
     }
-    let report = soak::<TreeSet<'_>>(heap, rt.alloc(), tree_set, seed, calls);
+    let report = soak_set::<TreeRanges<'_>>(heap, model_of(rt, heap, tree_set, seed), calls);
     tell(rt, heap, "tree_set", report)
 }
 
@@ -128,19 +135,27 @@ fn soak_chunks(rt: &HostRuntime, heap: &Heap, seed: u64, calls: u64) -> io::Resu
         blocks_of_each: 0,
         ..set
     };
-    let report = soak::<HalfOpenChunkedMap<'_>>(heap, rt.alloc(), map, seed, calls);
+    let report = soak_map::<ChunkedPairs<'_>>(heap, model_of(rt, heap, map, seed), calls);
     if !tell(rt, heap, "chunked map", report)? {
         return Ok(false);
     }
-    let report = soak::<ClosedChunkedMap<'_>>(heap, rt.alloc(), inclusive_map, seed, calls);
+    let report = soak_map::<ClosedChunkedPairs<'_>>(
+        heap,
+        model_of(rt, heap, inclusive_map, seed),
+        calls,
+    );
     if !tell(rt, heap, "chunked inclusive_map", report)? {
         return Ok(false);
     }
-    let report = soak::<HalfOpenChunkedSet<'_>>(heap, rt.alloc(), set, seed, calls);
+    let report = soak_set::<ChunkedRanges<'_>>(heap, model_of(rt, heap, set, seed), calls);
     if !tell(rt, heap, "chunked set", report)? {
         return Ok(false);
     }
-    let report = soak::<ClosedChunkedSet<'_>>(heap, rt.alloc(), inclusive_set, seed, calls);
+    let report = soak_set::<ClosedChunkedRanges<'_>>(
+        heap,
+        model_of(rt, heap, inclusive_set, seed),
+        calls,
+    );
     tell(rt, heap, "chunked inclusive_set", report)
 }
 

@@ -3,18 +3,18 @@ ghost use Rattle.std.specs.Prelude.{IfOk};
 ghost use Rattle.std.specs.List.{AllByRecursion};
 
 use crate::points::Run;
-use crate::soaked::{Heap, Mark, PointRange, Soaked};
+use crate::soaked::{Mark, PointRange, Soaked};
 use std::alloc::AllocError;
 
 /// Makes the range of the points of a run.
-pub fn range<'a, S: Soaked<'a>>(heap: &'a Heap, run: Run) -> Result<S::Range, AllocError>
+pub fn range<S: Soaked>(heap: S::Alloc, run: Run) -> Result<S::Range, AllocError>
     ensures { IfOk result S.Kind.kind.IsNonEmpty }
 {
     S::Range::from_points(heap, run.first, run.last)
 }
 
 /// Makes the pair of what is to be inserted.
-pub fn pair<'a, S: Soaked<'a>>(heap: &'a Heap, put: Run) -> Result<(S::Range, S::Value), AllocError>
+pub fn pair<S: Soaked>(heap: S::Alloc, put: Run) -> Result<(S::Range, S::Value), AllocError>
     ensures { IfOk result (λ pair. S.Kind.kind.IsNonEmpty pair.0) }
 {
     let range = range::<S>(heap, put)?;
@@ -22,10 +22,10 @@ pub fn pair<'a, S: Soaked<'a>>(heap: &'a Heap, put: Run) -> Result<(S::Range, S:
 }
 
 /// Makes three items, the list of which takes its memory from the heap too.
-pub fn items<'a, S: Soaked<'a>>(
-    heap: &'a Heap,
+pub fn items<S: Soaked>(
+    heap: S::Alloc,
     puts: &[Run; 3],
-) -> Result<Vec<S::Item, &'a Heap>, AllocError>
+) -> Result<Vec<S::Item, S::Alloc>, AllocError>
     ensures { IfOk result (λ items. AllByRecursion S.takes items.items) }
 {
     let mut items = Vec::new(heap);
@@ -36,7 +36,7 @@ pub fn items<'a, S: Soaked<'a>>(
 }
 
 /// Makes the item of what is to be inserted.
-fn item<'a, S: Soaked<'a>>(heap: &'a Heap, put: Run) -> Result<S::Item, AllocError>
+fn item<S: Soaked>(heap: S::Alloc, put: Run) -> Result<S::Item, AllocError>
     ensures { IfOk result S.takes }
 {
     let (range, value) = pair::<S>(heap, put)?;

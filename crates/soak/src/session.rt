@@ -8,13 +8,17 @@ mod answers;
 mod calls;
 
 use crate::call::Call;
-use crate::chance::Chance;
 use crate::difference::{Difference, Stop, check};
 use crate::model::Model;
-use crate::soaked::{Heap, Profile, Soaked};
+use crate::soaked::{Heap, LendsGaps, Mark, PointRange, Soaked};
 use answers::{ends, gaps, get, list, overlapping};
 use calls::{change, collect, combine, copy};
-use std::alloc::{AllocError, Global};
+use rangemap::map::Map;
+use rangemap::range_set::Set;
+use rangemap_core::key_range::KeyRange;
+use rangemap_core::kind::Kind;
+use rangemap_core::store::Store;
+use std::alloc::AllocError;
 
 /// How a run ended.
 #[derive(Drop)]
@@ -46,17 +50,33 @@ impl Report {
     }
 }
 
-/// Makes so many calls of a seed on a container whose memory comes from `heap`, of which nothing
-/// else holds memory. Stops at the first difference.
-pub fn soak<'a, S: Soaked<'a>>(
-    heap: &'a Heap,
-    alloc: Global,
-    profile: Profile,
-    seed: u64,
-    calls: u64,
-) -> Report {
+/// Makes so many calls on a map over a store, as `soak` does.
+pub fn soak_map<S>(heap: S::Alloc, model: Model<'_>, calls: u64) -> Report
+where
+    S: Store<Alloc: Copy> + Drop,
+    S::Range: PointRange<S::Alloc>,
+    S::Value: Mark<S::Alloc>,
+    S::Kind: Kind<S::Range, Steps = <S::Range as KeyRange>::Key>,
+    Map<S>: LendsGaps<S::Range>,
+{
+    soak::<Map<S>>(heap, model, calls)
+}
+
+/// Makes so many calls on a set over a store, as `soak` does.
+pub fn soak_set<S>(heap: S::Alloc, model: Model<'_>, calls: u64) -> Report
+where
+    S: Store<Value = (), Alloc: Copy> + Drop,
+    S::Range: PointRange<S::Alloc>,
+    S::Kind: Kind<S::Range, Steps = <S::Range as KeyRange>::Key>,
+    Set<S>: LendsGaps<S::Range>,
+{
+    soak::<Set<S>>(heap, model, calls)
+}
+
+/// Makes so many calls on a container whose memory comes from `heap`, of which nothing else holds
+/// memory. Stops at the first difference.
+fn soak<S: Soaked>(heap: S::Alloc, mut model: Model<'_>, calls: u64) -> Report {
     let mut subject = S::new(heap);
-    let mut model = Model::new(alloc, Chance::new(heap, seed), profile);
     let mut report = Report {
         calls: 0,
         refused: 0,
@@ -76,7 +96,7 @@ pub fn soak<'a, S: Soaked<'a>>(
 }
 
 /// Makes a call, and compares what it leaves. Answers whether it was refused.
-fn step<'a, S: Soaked<'a>>(subject: &mut S, model: &mut Model<'a>) -> Result<bool, Stop> {
+fn step<S: Soaked>(subject: &mut S, model: &mut Model<'_>) -> Result<bool, Stop> {
     let answer = match model.call() {
         Call::Change(asked) => change(subject, model, &asked),
         Call::Copy => copy(subject, model),

@@ -18,33 +18,36 @@ mod marks;
 mod numbers;
 mod sets;
 
-pub use maps::{ClosedChunkedMap, HalfOpenChunkedMap, InclusiveMap, Map, TreeMap};
-pub use sets::{ClosedChunkedSet, HalfOpenChunkedSet, InclusiveSet, Set, TreeSet};
+pub use maps::{ChunkedPairs, ClosedChunkedPairs, ClosedPairs, Pairs, TreePairs};
+pub use sets::{ChunkedRanges, ClosedChunkedRanges, ClosedRanges, Ranges, TreeRanges};
 pub use tests_support::Heap;
 
-/// Ranges over keys that stand for points.
-pub trait PointRange<'a>: KeyRange {
-    /// That the range has a point.
-    ghost IsNonEmpty: { Self → Type 0 };
-
-    /// Makes the range from one point up to another, which is in it.
-    fn from_points(heap: &'a Heap, first: u8, last: u8) -> Result<Self, AllocError>
-        ensures { first ≤ last → IfOk result IsNonEmpty };
-
+/// A range that tells which points it has.
+pub trait Told: KeyRange {
     /// Returns the points of the range, as a piece with a mark.
     fn piece(&self, mark: u8) -> Piece;
-
-    /// A range with a point in it is what a container asks for.
-    ghost takes: { (range : Self) → IsNonEmpty range → Self.has_key range × Self.is_fresh range };
 
     /// A clone of a key ties with it.
     ghost faithful: { KeysCloneFaithfully Self.Key.is_clone Self.Key.cmp };
 }
 
-/// Values that stand for marks.
-pub trait Mark<'a>: Eq + Clone {
+/// Ranges over keys that stand for points, which may hold memory of `A`.
+pub trait PointRange<A: Copy>: Told {
+    /// That the range has a point.
+    ghost IsNonEmpty: { Self → Type 0 };
+
+    /// Makes the range from one point up to another, which is in it.
+    fn from_points(heap: A, first: u8, last: u8) -> Result<Self, AllocError>
+        ensures { first ≤ last → IfOk result IsNonEmpty };
+
+    /// A range with a point in it is what a container asks for.
+    ghost takes: { (range : Self) → IsNonEmpty range → Self.has_key range × Self.is_fresh range };
+}
+
+/// Values that stand for marks, which may hold memory of `A`.
+pub trait Mark<A: Copy>: Eq + Clone {
     /// Makes the value that stands for a mark.
-    fn of(heap: &'a Heap, mark: u8) -> Result<Self, AllocError>;
+    fn of(heap: A, mark: u8) -> Result<Self, AllocError>;
 
     /// Returns the mark that the value stands for.
     fn mark(&self) -> u8;
@@ -54,7 +57,10 @@ pub trait Mark<'a>: Eq + Clone {
 }
 
 /// A container over points.
-pub trait Soaked<'a>: OwnCalls<Alloc = &'a Heap, Range: PointRange<'a>, Value: Mark<'a>> {
+pub trait Soaked: OwnCalls<Alloc: Copy, Range: PointRange<Self::Alloc>, Value: Mark<Self::Alloc>> {
+    /// Returns what its memory comes from.
+    fn heap(&self) -> Self::Alloc;
+
     /// Makes `self | other` or `self & other`, where the container has these operators.
     fn combined(&self, other: &Self, is_union: bool) -> Option<Result<Self, AllocError>>;
 
@@ -63,6 +69,20 @@ pub trait Soaked<'a>: OwnCalls<Alloc = &'a Heap, Range: PointRange<'a>, Value: M
     fn ask_for_gaps(
         &self,
         outer: &Self::Range,
+        pieces: &[Piece],
+        chance: &mut Chance<'_>,
+    ) -> Result<bool, Stop>;
+}
+
+/// A container whose store lends its pairs for as long as its gaps are asked for.
+///
+/// A bound can name one lifetime and not any, so each store is told of here. The trait builds on no
+/// other: all else is proved once for maps and once for sets, over any store.
+pub trait LendsGaps<R> {
+    /// Asks for the gaps in `outer`, as `ask_for_gaps` does.
+    fn ask_for_lent_gaps(
+        &self,
+        outer: &R,
         pieces: &[Piece],
         chance: &mut Chance<'_>,
     ) -> Result<bool, Stop>;

@@ -63,20 +63,6 @@ fn assert_whole_map<S: Store, R: AllocGlobal + Abort>(rt: &R, values: Values) ->
     Ok(())
 }
 
-#[test]
-fn the_whole_map(rt: HostRuntime) -> Result<(), Fail> {
-    assert_whole_map::<HalfOpenStore, _>(&rt, NUMBERS)?;
-    assert_whole_map::<ClosedStore, _>(&rt, NUMBERS)?;
-    assert_whole_map::<TreeStore, _>(&rt, NUMBERS)?;
-    assert_whole_map::<TextStore, _>(&rt, LENGTHS)
-}
-
-#[test]
-fn the_whole_map_in_chunks(rt: HostRuntime) -> Result<(), Fail> {
-    assert_whole_map::<ChunkedStore, _>(&rt, NUMBERS)?;
-    assert_whole_map::<ClosedChunkedStore, _>(&rt, NUMBERS)
-}
-
 fn assert_queries<S: Store, R: AllocGlobal + Abort>(rt: &R, values: Values) -> Result<(), Fail> {
     let first = u64::from(values.0);
     let second = u64::from(values.1);
@@ -91,16 +77,56 @@ fn assert_queries<S: Store, R: AllocGlobal + Abort>(rt: &R, values: Values) -> R
     Ok(())
 }
 
+/// What is asked of a map.
+#[derive(Clone, Copy)]
+enum Asked {
+    /// What it is as a whole.
+    Whole,
+    /// What queries find in it, and removals leave.
+    Queries,
+}
+
+fn assert_map<S: Store, R: AllocGlobal + Abort>(
+    rt: &R,
+    asked: Asked,
+    values: Values,
+) -> Result<(), Fail> {
+    match asked {
+        Asked::Whole => assert_whole_map::<S, R>(rt, values),
+        Asked::Queries => assert_queries::<S, R>(rt, values),
+    }
+}
+
+// This function and the next are the only ones that name the maps, which costs more to prove than
+// all else here.
+fn assert_maps<R: AllocGlobal + Abort>(rt: &R, asked: Asked) -> Result<(), Fail> {
+    assert_map::<HalfOpenStore, R>(rt, asked, NUMBERS)?;
+    assert_map::<ClosedStore, R>(rt, asked, NUMBERS)?;
+    assert_map::<TreeStore, R>(rt, asked, NUMBERS)?;
+    assert_map::<TextStore, R>(rt, asked, LENGTHS)
+}
+
+fn assert_chunked_maps<R: AllocGlobal + Abort>(rt: &R, asked: Asked) -> Result<(), Fail> {
+    assert_map::<ChunkedStore, R>(rt, asked, NUMBERS)?;
+    assert_map::<ClosedChunkedStore, R>(rt, asked, NUMBERS)
+}
+
+#[test]
+fn the_whole_map(rt: HostRuntime) -> Result<(), Fail> {
+    assert_maps(&rt, Asked::Whole)
+}
+
+#[test]
+fn the_whole_map_in_chunks(rt: HostRuntime) -> Result<(), Fail> {
+    assert_chunked_maps(&rt, Asked::Whole)
+}
+
 #[test]
 fn queries_and_removals(rt: HostRuntime) -> Result<(), Fail> {
-    assert_queries::<HalfOpenStore, _>(&rt, NUMBERS)?;
-    assert_queries::<ClosedStore, _>(&rt, NUMBERS)?;
-    assert_queries::<TreeStore, _>(&rt, NUMBERS)?;
-    assert_queries::<TextStore, _>(&rt, LENGTHS)
+    assert_maps(&rt, Asked::Queries)
 }
 
 #[test]
 fn queries_and_removals_in_chunks(rt: HostRuntime) -> Result<(), Fail> {
-    assert_queries::<ChunkedStore, _>(&rt, NUMBERS)?;
-    assert_queries::<ClosedChunkedStore, _>(&rt, NUMBERS)
+    assert_chunked_maps(&rt, Asked::Queries)
 }

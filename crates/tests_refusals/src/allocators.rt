@@ -1,13 +1,17 @@
 //! Whose allocator the result of an operator has, that of a clone, and what a replay makes.
 
 mod chunked;
-mod maps;
-mod sets;
+mod rows;
 
+use crate::natives::{Asked, InTree, InVector, Replayed, SetsInTree, SetsInVector};
 use rangemap::RangeSet;
+use rangemap_core::closed::Closed;
+use rangemap_core::half_open::HalfOpen;
+use rows::{INCLUSIVE_MAPS, INCLUSIVE_SETS, MAPS, SETS};
 use std::alloc::AllocError;
+use std::ops::{Range, RangeInclusive};
 use std::test::Fail;
-use tests_requests::Heaps;
+use tests_requests::{Allocs, Heaps};
 use tests_support::{Heap, MANY, Refusing, check_that, made_of};
 
 #[test]
@@ -22,12 +26,37 @@ fn each_container_lies_where_it_belongs(rt: HostRuntime) -> Result<(), Fail> {
         given: &given,
     };
     let allocs = (&left, &right, &given);
-    maps::check_maps(heaps, allocs, &own)?;
-    maps::check_inclusive_maps(heaps, allocs, &own)?;
-    maps::check_trees(heaps, allocs, &own)?;
-    sets::check_sets(heaps, allocs, &own)?;
-    sets::check_inclusive_sets(heaps, allocs, &own)?;
-    sets::check_sets_in_trees(heaps, allocs, &own)
+    check_rows::<InVector<'_, HalfOpen, Range<u32>, char>>(heaps, allocs, &own, MAPS)?;
+    check_rows::<InVector<'_, Closed<u32>, RangeInclusive<u32>, char>>(
+        heaps,
+        allocs,
+        &own,
+        INCLUSIVE_MAPS,
+    )?;
+    check_rows::<InTree<'_, u32, char>>(heaps, allocs, &own, MAPS)?;
+    check_rows::<SetsInVector<'_, HalfOpen, Range<u32>>>(heaps, allocs, &own, SETS)?;
+    check_rows::<SetsInVector<'_, Closed<u32>, RangeInclusive<u32>>>(
+        heaps,
+        allocs,
+        &own,
+        INCLUSIVE_SETS,
+    )?;
+    check_rows::<SetsInTree<'_, u32>>(heaps, allocs, &own, SETS)
+}
+
+/// Makes the calls of each row of a table, in `own`, and compares where what they add lies.
+fn check_rows<'a, C: Replayed<'a>>(
+    heaps: Heaps<'_>,
+    allocs: Allocs<&'a Heap>,
+    own: &'a Heap,
+    table: &str,
+) -> Result<(), Fail>
+    requires { C.clones_are_faithful }
+{
+    for row in tests_support::rows(own, table)? {
+        C::answer(Asked::Owner(heaps, allocs, own, row))?;
+    }
+    Ok(())
 }
 
 #[test]

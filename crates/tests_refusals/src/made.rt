@@ -14,6 +14,9 @@ use tests_support::{MANY, Refusing};
 // What is read into containers of numbers takes two growths, since the first has no room for thirteen
 // ranges; in a tree it takes a node, which has. In chunks all takes the list of them besides,
 // and a chunk of three pairs is cut in two where it may have two, for which it asks, and does without.
+// So an array takes three lists there, and clones for its second item: one inside the first pair both
+// ends of the two pieces, four, or of closed ranges the end at which each is cut, two; one that joins
+// a closed range both ends, two; and one that stays apart none.
 // Where clones take memory it takes the growth; of each of the two pieces that the second range leaves
 // a key and a value; and both ends of the third range, which is joined with the piece before it.
 #[test]
@@ -40,8 +43,10 @@ fn what_makes_containers_may_be_refused(rt: HostRuntime) -> Result<(), Fail> {
         0..5 + 7..10 | tree set from | 0..5, 7..10 | 4
         new, insert -128..=127 true, clear | replay chunked maps by steps | 1 | 5
         new, insert -128..=127, clone | replay chunked sets by steps | 2 | 7
-        0..=9 a + 3..=5 b | chunked map from | 0..=2 a, 3..=5 b, 6..=9 a | 5 + 1
+        0..10 a + 3..6 b | chunked map from | 0..3 a, 3..6 b, 6..10 a | 7 + 1
+        0..=9 a + 3..=5 b | chunked inclusive map from | 0..=2 a, 3..=5 b, 6..=9 a | 5 + 1
         0..5 + 7..10 | chunked set from | 0..5, 7..10 | 3
+        0..=4 + 5..=255 | chunked inclusive set from | 0..=255 | 5
         | macros | | 2
         any [[[36,37],7],[[0,1],8],[[3,4],7],[[6,7],7],[[9,10],7],[[12,13],7],[[15,16],7],\
             [[18,19],7],[[21,22],7],[[24,25],7],[[27,28],7],[[30,31],7],[[33,34],7]] | read map \
@@ -92,6 +97,13 @@ fn what_makes_containers_may_be_refused(rt: HostRuntime) -> Result<(), Fail> {
         canonical [[0,1],[3,4],[6,7],[9,10],[12,13],[15,16],[18,19],[21,22],[24,25],[27,28],\
             [30,31],[33,34],[36,37]] | read chunked set | 0..1, 3..4, 6..7, 9..10, 12..13, 15..16, \
             18..19, 21..22, 24..25, 27..28, 30..31, 33..34, 36..37 | 3
+        canonical [[[0,1],8],[[3,4],7],[[6,7],7],[[9,10],7],[[12,13],7],[[15,16],7],\
+            [[18,19],7],[[21,22],7],[[24,25],7],[[27,28],7],[[30,31],7],[[33,34],7],[[36,37],7]] \
+            | read chunked inclusive map | 0..=1 8, 3..=4 7, 6..=7 7, 9..=10 7, 12..=13 7, 15..=16 7, \
+            18..=19 7, 21..=22 7, 24..=25 7, 27..=28 7, 30..=31 7, 33..=34 7, 36..=37 7 | 3
+        any [[36,37],[0,1],[3,4],[6,7],[9,10],[12,13],[15,16],[18,19],[21,22],[24,25],[27,28],\
+            [30,31],[33,34]] | read chunked inclusive set | 0..=1, 3..=4, 6..=7, 9..=10, 12..=13, \
+            15..=16, 18..=19, 21..=22, 24..=25, 27..=28, 30..=31, 33..=34, 36..=37 | 3
         any [[[0,9],7],[[3,5],8],[[10,20],7]] | read costly parts \
             | 0..=2 7, 3..=5 8, 6..=20 7 | 7",
     )

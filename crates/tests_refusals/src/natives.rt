@@ -5,17 +5,38 @@ mod arrays;
 mod json;
 mod macros;
 mod replays;
+mod steps;
 
 use rangemap_chunked::Chunks;
 use rangemap_core::closed::Closed;
 use rangemap_core::half_open::HalfOpen;
 use rangemap_sorted::SortedVec;
 use rangemap_tree::Tree;
+use replays::{Maps, Sets};
+pub use replays::{Asked, Replayed};
 use std::alloc::Global;
 use std::ops::{Range, RangeInclusive};
 use std::test::Fail;
 use tests_requests::{Answer, Row, Tried};
-use tests_support::Heap;
+use tests_support::{Costly, Heap, Text};
+
+/// Maps in a vector.
+pub type InVector<'a, Q, R, V> = Maps<SortedVec<Q, R, V, &'a Heap>>;
+
+/// Maps in chunks of up to `N` pairs.
+pub type InChunks<'a, Q, R, V, const N: usize> = Maps<Chunks<Q, R, V, &'a Heap, N>>;
+
+/// Maps in a tree.
+pub type InTree<'a, K, V> = Maps<Tree<K, V, &'a Heap>>;
+
+/// Sets in a vector.
+pub type SetsInVector<'a, Q, R> = Sets<SortedVec<Q, R, (), &'a Heap>>;
+
+/// Sets in chunks of up to `N` ranges.
+pub type SetsInChunks<'a, Q, R, const N: usize> = Sets<Chunks<Q, R, (), &'a Heap, N>>;
+
+/// Sets in a tree.
+pub type SetsInTree<'a, K> = Sets<Tree<K, (), &'a Heap>>;
 
 /// These calls. A row has what the call is given (the calls of a replay, two items, or the form in
 /// which a value is read, and the value), its name, what comes of it (how many containers a replay
@@ -31,6 +52,9 @@ type Numbers<'a, V> = SortedVec<HalfOpen, Range<u32>, V, &'a Heap>;
 /// A store of numbers over half-open ranges, in chunks.
 type ChunkedNumbers<'a, V> = Chunks<HalfOpen, Range<u32>, V, &'a Heap, 512>;
 
+/// A store of numbers over closed ranges, in chunks.
+type ChunkedClosedNumbers<'a, V> = Chunks<Closed<u32>, RangeInclusive<u32>, V, &'a Heap, 512>;
+
 impl Tried for Natives {
     type Alloc = Global;
 
@@ -40,18 +64,10 @@ impl Tried for Natives {
 
     fn is_accepted(heap: &Heap, alloc: Global, row: &Row<'_>, left: u64) -> Answer {
         match row.call {
-            "replay maps" => replays::try_maps(heap, row, left),
-            "replay inclusive maps" => replays::try_inclusive_maps(heap, row, left),
-            "replay trees" => replays::try_trees(heap, row, left),
-            "replay sets" => replays::try_sets(heap, row, left),
-            "replay inclusive sets" => replays::try_inclusive_sets(heap, row, left),
-            "replay tree sets" => replays::try_tree_sets(heap, row, left),
-            "replay chunked maps" => replays::try_chunked_maps(heap, row, left),
-            "replay chunked sets" => replays::try_chunked_sets(heap, row, left),
-            "replay maps by steps" => replays::try_stepped_maps(heap, row, left),
-            "replay sets by steps" => replays::try_stepped_sets(heap, row, left),
-            "replay chunked maps by steps" => replays::try_stepped_chunked_maps(heap, row, left),
-            "replay chunked sets by steps" => replays::try_stepped_chunked_sets(heap, row, left),
+            "replay maps by steps" => steps::try_maps(heap, row, left),
+            "replay sets by steps" => steps::try_sets(heap, row, left),
+            "replay chunked maps by steps" => steps::try_chunked_maps(heap, row, left),
+            "replay chunked sets by steps" => steps::try_chunked_sets(heap, row, left),
             "map to texts from" => arrays::try_texts(heap, row, left),
             "inclusive map from" => arrays::try_map(heap, row, left),
             "tree from" => arrays::try_tree(heap, row, left),
@@ -59,7 +75,9 @@ impl Tried for Natives {
             "inclusive set from" => arrays::try_inclusive_set(heap, row, left),
             "tree set from" => arrays::try_tree_set(heap, row, left),
             "chunked map from" => arrays::try_chunked_map(heap, row, left),
+            "chunked inclusive map from" => arrays::try_chunked_inclusive_map(heap, row, left),
             "chunked set from" => arrays::try_chunked_set(heap, row, left),
+            "chunked inclusive set from" => arrays::try_chunked_inclusive_set(heap, row, left),
             "macros" => macros::try_lists(heap, left),
             "read map" => json::try_map::<Numbers<'_, u32>>(heap, alloc, row, left),
             "read inclusive map" => {
@@ -75,8 +93,30 @@ impl Tried for Natives {
                 json::try_map::<ChunkedNumbers<'_, u32>>(heap, alloc, row, left)
             }
             "read chunked set" => json::try_set::<ChunkedNumbers<'_, ()>>(heap, alloc, row, left),
+            "read chunked inclusive map" => {
+                json::try_map::<ChunkedClosedNumbers<'_, u32>>(heap, alloc, row, left)
+            }
+            "read chunked inclusive set" => {
+                json::try_set::<ChunkedClosedNumbers<'_, ()>>(heap, alloc, row, left)
+            }
             "read costly parts" => json::try_costly(heap, alloc, row, left),
-            _ => Err(Fail::new("a row has a call of another name")),
+            _ => try_replay(heap, row, left),
         }
+    }
+}
+
+/// Tries a replay of any calls.
+fn try_replay(heap: &Heap, row: &Row<'_>, left: u64) -> Answer {
+    let asked = Asked::Tried(heap, heap, row, left);
+    match row.call {
+        "replay maps" => InVector::<HalfOpen, Range<u32>, char>::answer(asked),
+        "replay inclusive maps" => InVector::<Closed<u8>, RangeInclusive<u8>, bool>::answer(asked),
+        "replay trees" => InTree::<Costly<'_>, char>::answer(asked),
+        "replay sets" => SetsInVector::<HalfOpen, Range<u32>>::answer(asked),
+        "replay inclusive sets" => SetsInVector::<Closed<u8>, RangeInclusive<u8>>::answer(asked),
+        "replay tree sets" => SetsInTree::<Costly<'_>>::answer(asked),
+        "replay chunked maps" => InChunks::<HalfOpen, Range<u32>, Text<'_>, 4>::answer(asked),
+        "replay chunked sets" => SetsInChunks::<HalfOpen, Range<Costly<'_>>, 4>::answer(asked),
+        _ => Err(Fail::new("a row has a call of another name")),
     }
 }

@@ -3,13 +3,16 @@
 ghost use Rattle.rangemap.specs.Clones.{KeysCloneFaithfully, ValuesCloneFaithfully};
 
 use crate::tried::Maps;
-use rangemap::{RangeInclusiveMap, RangeMap, StepLite, tree_map};
+use rangemap::StepLite;
+use rangemap_chunked::Chunks;
 use rangemap_core::closed::Closed;
 use rangemap_core::half_open::HalfOpen;
+use rangemap_sorted::SortedVec;
+use rangemap_tree::Tree;
 use std::ops::{Range, RangeInclusive};
 use std::test::Fail;
 use tests_requests::check;
-use tests_support::{ChunkedMap, Heap, Word};
+use tests_support::{Heap, Word};
 
 /// Tries the rows of a map over half-open ranges.
 pub fn map<'a, K, V>(heap: &'a Heap, text: &str) -> Result<(), Fail>
@@ -19,7 +22,7 @@ where
     requires faithful_keys { KeysCloneFaithfully K.is_clone K.cmp }
     requires faithful_values { ValuesCloneFaithfully V.is_clone V.eq }
 {
-    check::<Maps<RangeMap<K, V, &'a Heap>>>(heap, heap, text)
+    check::<Maps<SortedVec<HalfOpen, Range<K>, V, &'a Heap>>>(heap, heap, text)
 }
 
 /// Tries the rows of a map over closed ranges.
@@ -30,7 +33,7 @@ where
     requires faithful_keys { KeysCloneFaithfully K.is_clone K.cmp }
     requires faithful_values { ValuesCloneFaithfully V.is_clone V.eq }
 {
-    check::<Maps<RangeInclusiveMap<K, V, K, &'a Heap>>>(heap, heap, text)
+    check::<Maps<SortedVec<Closed<K>, RangeInclusive<K>, V, &'a Heap>>>(heap, heap, text)
 }
 
 /// Tries the rows of a map in a tree.
@@ -41,7 +44,7 @@ where
     requires faithful_keys { KeysCloneFaithfully K.is_clone K.cmp }
     requires faithful_values { ValuesCloneFaithfully V.is_clone V.eq }
 {
-    check::<Maps<tree_map::RangeMap<K, V, &'a Heap>>>(heap, heap, text)
+    check::<Maps<Tree<K, V, &'a Heap>>>(heap, heap, text)
 }
 
 /// Tries the rows of a map over half-open ranges in chunks of up to `N` pairs.
@@ -52,7 +55,7 @@ where
     requires faithful_keys { KeysCloneFaithfully K.is_clone K.cmp }
     requires faithful_values { ValuesCloneFaithfully V.is_clone V.eq }
 {
-    check::<Maps<ChunkedMap<HalfOpen, Range<K>, V, &'a Heap, N>>>(heap, heap, text)
+    check::<Maps<Chunks<HalfOpen, Range<K>, V, &'a Heap, N>>>(heap, heap, text)
 }
 
 /// Tries the rows of a map over closed ranges in chunks of up to `N` pairs.
@@ -66,5 +69,5 @@ where
     requires faithful_keys { KeysCloneFaithfully K.is_clone K.cmp }
     requires faithful_values { ValuesCloneFaithfully V.is_clone V.eq }
 {
-    check::<Maps<ChunkedMap<Closed<K>, RangeInclusive<K>, V, &'a Heap, N>>>(heap, heap, text)
+    check::<Maps<Chunks<Closed<K>, RangeInclusive<K>, V, &'a Heap, N>>>(heap, heap, text)
 }

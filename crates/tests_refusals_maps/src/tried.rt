@@ -2,26 +2,30 @@
 ghost use Rattle.rangemap.specs.Clones.{KeysCloneFaithfully, ValuesCloneFaithfully};
 
 use rangemap::map::Map;
-use rangemap::tree_map;
+use rangemap_chunked::Chunks;
 use rangemap_core::key_range::KeyRange;
-use rangemap_core::kind::OwnSteps;
+use rangemap_core::kind::Kind;
+use rangemap_core::store::{Lends, Store};
 use rangemap_sorted::SortedVec;
+use rangemap_tree::Tree;
 use std::marker::PhantomData;
+use std::test::Fail;
 use tests_requests::{
     Answer, Row, Tried, try_appends, try_both, try_call, try_makers, try_run, with_range,
 };
-use tests_support::{ChunkedMap, FromEnds, Heap, InRows, OwnCalls, Word, first_word};
+use tests_support::{FromEnds, Heap, InRows, OwnCalls, Word, first_word};
 
-/// What is tried on maps of a type.
-pub struct Maps<M> {
-    maps: PhantomData<M>,
+/// What is tried on maps over a store.
+pub struct Maps<S> {
+    stores: PhantomData<S>,
 }
 
-/// A map in a sorted vector.
-type MapInVector<'a, Q, R, V> = Map<SortedVec<Q, R, V, &'a Heap>>;
-
-impl<'a, Q: OwnSteps<R>, R: FromEnds<Key: Word<&'a Heap>>, V: Eq + Clone + Word<&'a Heap>> Tried
-    for Maps<MapInVector<'a, Q, R, V>> {
+impl<
+    'a,
+    Q: Kind<R, Steps = R::Key>,
+    R: FromEnds<Key: Word<&'a Heap>>,
+    V: Eq + Clone + Word<&'a Heap>,
+> Tried for Maps<SortedVec<Q, R, V, &'a Heap>> {
     type Alloc = &'a Heap;
 
     ghost use Rattle.rangemap.specs.Clones.{KeysCloneFaithfully, ValuesCloneFaithfully};
@@ -29,20 +33,20 @@ impl<'a, Q: OwnSteps<R>, R: FromEnds<Key: Word<&'a Heap>>, V: Eq + Clone + Word<
     ghost clones_are_faithful = { KeysCloneFaithfully R.Key.is_clone R.Key.cmp × ValuesCloneFaithfully V.is_clone V.eq };
 
     fn is_accepted(heap: &Heap, alloc: &'a Heap, row: &Row<'_>, left: u64) -> Answer {
-        match first_word(row.call).0 {
-            "gaps" => try_gaps_in_vector::<Q, R, V>(heap, alloc, row, left),
-            _ => try_map::<MapInVector<'a, Q, R, V>>(heap, alloc, row, left),
+        match try_or_make::<Map<SortedVec<Q, R, V, &'a Heap>>>(heap, alloc, row, left)? {
+            Step::Tried(is_accepted) => Ok(is_accepted),
+            Step::Asks(map, outer) => try_gaps(heap, &map, &outer, row.outcome, left),
         }
     }
 }
 
 impl<
     'a,
-    Q: OwnSteps<R>,
+    Q: Kind<R, Steps = R::Key>,
     R: FromEnds<Key: Word<&'a Heap>>,
     V: Eq + Clone + Word<&'a Heap>,
     const N: usize,
-> Tried for Maps<ChunkedMap<Q, R, V, &'a Heap, N>> {
+> Tried for Maps<Chunks<Q, R, V, &'a Heap, N>> {
     type Alloc = &'a Heap;
 
     ghost use Rattle.rangemap.specs.Clones.{KeysCloneFaithfully, ValuesCloneFaithfully};
@@ -50,15 +54,15 @@ impl<
     ghost clones_are_faithful = { KeysCloneFaithfully R.Key.is_clone R.Key.cmp × ValuesCloneFaithfully V.is_clone V.eq };
 
     fn is_accepted(heap: &Heap, alloc: &'a Heap, row: &Row<'_>, left: u64) -> Answer {
-        match first_word(row.call).0 {
-            "gaps" => try_gaps_in_chunks::<Q, R, V, N>(heap, alloc, row, left),
-            _ => try_map::<ChunkedMap<Q, R, V, &'a Heap, N>>(heap, alloc, row, left),
+        match try_or_make::<Map<Chunks<Q, R, V, &'a Heap, N>>>(heap, alloc, row, left)? {
+            Step::Tried(is_accepted) => Ok(is_accepted),
+            Step::Asks(map, outer) => try_gaps(heap, &map, &outer, row.outcome, left),
         }
     }
 }
 
 impl<'a, K: Ord + Clone + Word<&'a Heap>, V: Eq + Clone + Word<&'a Heap>> Tried
-    for Maps<tree_map::RangeMap<K, V, &'a Heap>> {
+    for Maps<Tree<K, V, &'a Heap>> {
     type Alloc = &'a Heap;
 
     ghost use Rattle.rangemap.specs.Clones.{KeysCloneFaithfully, ValuesCloneFaithfully};
@@ -66,71 +70,57 @@ impl<'a, K: Ord + Clone + Word<&'a Heap>, V: Eq + Clone + Word<&'a Heap>> Tried
     ghost clones_are_faithful = { KeysCloneFaithfully K.is_clone K.cmp × ValuesCloneFaithfully V.is_clone V.eq };
 
     fn is_accepted(heap: &Heap, alloc: &'a Heap, row: &Row<'_>, left: u64) -> Answer {
-        match first_word(row.call).0 {
-            "gaps" => try_gaps_in_tree::<K, V>(heap, alloc, row, left),
-            _ => try_map::<tree_map::RangeMap<K, V, &'a Heap>>(heap, alloc, row, left),
+        match try_or_make::<Map<Tree<K, V, &'a Heap>>>(heap, alloc, row, left)? {
+            Step::Tried(is_accepted) => Ok(is_accepted),
+            Step::Asks(map, outer) => try_gaps(heap, &map, &outer, row.outcome, left),
         }
     }
 }
 
-/// Asks a map in a vector for its gaps in the range that the row's call names.
-fn try_gaps_in_vector<
-    'a,
-    Q: OwnSteps<R>,
-    R: FromEnds<Key: Word<&'a Heap>>,
-    V: Eq + Clone + Word<&'a Heap>,
->(heap: &Heap, alloc: &'a Heap, row: &Row<'_>, left: u64) -> Answer
-    requires faithful_keys { KeysCloneFaithfully R.Key.is_clone R.Key.cmp }
-    requires faithful_values { ValuesCloneFaithfully V.is_clone V.eq }
-{
-    let (_, outer) = first_word(row.call);
-    let (map, outer) = with_range::<MapInVector<'a, Q, R, V>>(alloc, row.given, outer)?;
-    let gaps = (map.gaps(&outer), map.gaps(&outer));
-    try_both::<MapInVector<'a, Q, R, V>, _>(heap, gaps, row.outcome, left)
+/// How far a call is tried before a map is lent.
+enum Step<M, R> {
+    /// The call was tried, and was accepted or not.
+    Tried(bool),
+    /// The map is to be asked for its gaps in the range.
+    Asks(M, R),
 }
 
-/// Asks a map in chunks for its gaps, in the same way.
-fn try_gaps_in_chunks<
-    'a,
-    Q: OwnSteps<R>,
-    R: FromEnds<Key: Word<&'a Heap>>,
-    V: Eq + Clone + Word<&'a Heap>,
-    const N: usize,
->(heap: &Heap, alloc: &'a Heap, row: &Row<'_>, left: u64) -> Answer
-    requires faithful_keys { KeysCloneFaithfully R.Key.is_clone R.Key.cmp }
-    requires faithful_values { ValuesCloneFaithfully V.is_clone V.eq }
-{
-    let (_, outer) = first_word(row.call);
-    let (map, outer) = with_range::<ChunkedMap<Q, R, V, &'a Heap, N>>(alloc, row.given, outer)?;
-    let gaps = (map.gaps(&outer), map.gaps(&outer));
-    try_both::<ChunkedMap<Q, R, V, &'a Heap, N>, _>(heap, gaps, row.outcome, left)
-}
-
-/// Asks a map in a tree for its gaps, in the same way.
-fn try_gaps_in_tree<'a, K: Ord + Clone + Word<&'a Heap>, V: Eq + Clone + Word<&'a Heap>>(
+/// Tries the call of a row, or makes what it is tried on.
+fn try_or_make<M: InRows + OwnCalls>(
     heap: &Heap,
-    alloc: &'a Heap,
+    alloc: M::Alloc,
     row: &Row<'_>,
     left: u64,
-) -> Answer
-    requires faithful_keys { KeysCloneFaithfully K.is_clone K.cmp }
-    requires faithful_values { ValuesCloneFaithfully V.is_clone V.eq }
-{
-    let (_, outer) = first_word(row.call);
-    let (map, outer) = with_range::<tree_map::RangeMap<K, V, &'a Heap>>(alloc, row.given, outer)?;
-    let gaps = (map.gaps(&outer), map.gaps(&outer));
-    try_both::<tree_map::RangeMap<K, V, &'a Heap>, _>(heap, gaps, row.outcome, left)
-}
-
-/// Tries a call that all maps have alike.
-fn try_map<M: InRows + OwnCalls>(heap: &Heap, alloc: M::Alloc, row: &Row<'_>, left: u64) -> Answer
+) -> Result<Step<M, M::Range>, Fail>
     requires faithful_keys { KeysCloneFaithfully M.Range.Key.is_clone M.Range.Key.cmp }
     requires faithful_values { ValuesCloneFaithfully M.Value.is_clone M.Value.eq }
 {
-    match first_word(row.call).0 {
+    let (name, operand) = first_word(row.call);
+    if name == "gaps" {
+        let (map, outer) = with_range::<M>(alloc, row.given, operand)?;
+        return Ok(Step::Asks(map, outer));
+    }
+    let is_accepted = match name {
         "extend" => try_makers::<M>(heap, alloc, row, left),
         "append" => try_appends::<M>(heap, alloc, row, left),
         "run" => try_run::<M>(heap, alloc, row, left),
         _ => try_call::<M>(heap, alloc, row, left),
-    }
+    };
+    Ok(Step::Tried(is_accepted?))
+}
+
+/// Asks a map for its gaps in a range.
+fn try_gaps<'a, S>(
+    heap: &Heap,
+    map: &'a Map<S>,
+    outer: &'a S::Range,
+    list: &str,
+    left: u64,
+) -> Answer
+where
+    S: Lends<'a, Range: 'a + KeyRange<Key: Word<S::Alloc>>, Value: 'a>,
+    requires { KeysCloneFaithfully S.Range.Key.is_clone S.Range.Key.cmp }
+{
+    let gaps = (map.gaps(outer), map.gaps(outer));
+    try_both::<S::Range, S::Alloc, _>(heap, gaps, list, left)
 }

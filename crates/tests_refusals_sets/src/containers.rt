@@ -3,13 +3,16 @@
 ghost use Rattle.rangemap.specs.Clones.{KeysCloneFaithfully};
 
 use crate::tried::Sets;
-use rangemap::{RangeInclusiveSet, RangeSet, StepLite, tree_set as sets_in_trees};
+use rangemap::StepLite;
+use rangemap_chunked::Chunks;
 use rangemap_core::closed::Closed;
 use rangemap_core::half_open::HalfOpen;
+use rangemap_sorted::SortedVec;
+use rangemap_tree::Tree;
 use std::ops::{Range, RangeInclusive};
 use std::test::Fail;
 use tests_requests::check;
-use tests_support::{ChunkedSet, Heap, Word};
+use tests_support::{Heap, Word};
 
 /// Tries the rows of a set of half-open ranges.
 pub fn set<'a, T>(heap: &'a Heap, text: &str) -> Result<(), Fail>
@@ -17,7 +20,7 @@ where
     T: Ord + Clone + Word<&'a Heap>,
     requires faithful_keys { KeysCloneFaithfully T.is_clone T.cmp }
 {
-    check::<Sets<RangeSet<T, &'a Heap>>>(heap, heap, text)
+    check::<Sets<SortedVec<HalfOpen, Range<T>, (), &'a Heap>>>(heap, heap, text)
 }
 
 /// Tries the rows of a set of closed ranges.
@@ -26,7 +29,7 @@ where
     T: StepLite + Clone + Word<&'a Heap>,
     requires faithful_keys { KeysCloneFaithfully T.is_clone T.cmp }
 {
-    check::<Sets<RangeInclusiveSet<T, T, &'a Heap>>>(heap, heap, text)
+    check::<Sets<SortedVec<Closed<T>, RangeInclusive<T>, (), &'a Heap>>>(heap, heap, text)
 }
 
 /// Tries the rows of a set in a tree.
@@ -35,7 +38,7 @@ where
     T: Ord + Clone + Word<&'a Heap>,
     requires { KeysCloneFaithfully T.is_clone T.cmp }
 {
-    check::<Sets<sets_in_trees::RangeSet<T, &'a Heap>>>(heap, heap, text)
+    check::<Sets<Tree<T, (), &'a Heap>>>(heap, heap, text)
 }
 
 /// Tries the rows of a set of half-open ranges in chunks of up to `N` ranges.
@@ -44,7 +47,7 @@ where
     T: Ord + Clone + Word<&'a Heap>,
     requires { KeysCloneFaithfully T.is_clone T.cmp }
 {
-    check::<Sets<ChunkedSet<HalfOpen, Range<T>, &'a Heap, N>>>(heap, heap, text)
+    check::<Sets<Chunks<HalfOpen, Range<T>, (), &'a Heap, N>>>(heap, heap, text)
 }
 
 /// Tries the rows of a set of closed ranges in chunks of up to `N` ranges.
@@ -53,5 +56,5 @@ where
     T: StepLite + Clone + Word<&'a Heap>,
     requires { KeysCloneFaithfully T.is_clone T.cmp }
 {
-    check::<Sets<ChunkedSet<Closed<T>, RangeInclusive<T>, &'a Heap, N>>>(heap, heap, text)
+    check::<Sets<Chunks<Closed<T>, RangeInclusive<T>, (), &'a Heap, N>>>(heap, heap, text)
 }

@@ -2,25 +2,24 @@
 ghost use Rattle.rangemap.specs.Clones.{KeysCloneFaithfully};
 
 use rangemap::range_set::Set;
-use rangemap::tree_set;
-use rangemap_core::kind::OwnSteps;
+use rangemap_chunked::Chunks;
+use rangemap_core::key_range::KeyRange;
+use rangemap_core::kind::Kind;
+use rangemap_core::store::{Lends, Store};
 use rangemap_sorted::SortedVec;
+use rangemap_tree::Tree;
 use std::marker::PhantomData;
 use std::test::Fail;
-use tests_requests::{
-    Answer, Row, Tried, is_made, try_both, try_call, try_growths, try_makers, with_range,
-};
-use tests_support::{ChunkedSet, FromEnds, Heap, InRows, OwnCalls, Word, first_word, made_of};
+use tests_requests::{Answer, Row, Tried, is_made, try_both, try_call, try_growths, try_makers};
+use tests_support::{FromEnds, Heap, InRows, OwnCalls, Word, first_word, made_of};
 
-/// What is tried on sets of a type.
+/// What is tried on sets over a store.
 pub struct Sets<S> {
-    sets: PhantomData<S>,
+    stores: PhantomData<S>,
 }
 
-/// A set in a sorted vector.
-type SetInVector<'a, Q, R> = Set<SortedVec<Q, R, (), &'a Heap>>;
-
-impl<'a, Q: OwnSteps<R>, R: FromEnds<Key: Word<&'a Heap>>> Tried for Sets<SetInVector<'a, Q, R>> {
+impl<'a, Q: Kind<R, Steps = R::Key>, R: FromEnds<Key: Word<&'a Heap>>> Tried
+    for Sets<SortedVec<Q, R, (), &'a Heap>> {
     type Alloc = &'a Heap;
 
     ghost use Rattle.rangemap.specs.Clones.{KeysCloneFaithfully};
@@ -28,17 +27,15 @@ impl<'a, Q: OwnSteps<R>, R: FromEnds<Key: Word<&'a Heap>>> Tried for Sets<SetInV
     ghost clones_are_faithful = { KeysCloneFaithfully R.Key.is_clone R.Key.cmp };
 
     fn is_accepted(heap: &Heap, alloc: &'a Heap, row: &Row<'_>, left: u64) -> Answer {
-        match first_word(row.call).0 {
-            "gaps" | "union" | "intersection" | "or" | "and" => {
-                try_own_in_vector::<Q, R>(heap, alloc, row, left)
-            }
-            _ => try_set::<SetInVector<'a, Q, R>>(heap, alloc, row, left),
+        match try_or_make::<Set<SortedVec<Q, R, (), &'a Heap>>>(heap, alloc, row, left)? {
+            Step::Tried(is_accepted) => Ok(is_accepted),
+            Step::Lends(one, other) => try_lent(heap, &one, &other, row, left),
         }
     }
 }
 
-impl<'a, Q: OwnSteps<R>, R: FromEnds<Key: Word<&'a Heap>>, const N: usize> Tried
-    for Sets<ChunkedSet<Q, R, &'a Heap, N>> {
+impl<'a, Q: Kind<R, Steps = R::Key>, R: FromEnds<Key: Word<&'a Heap>>, const N: usize> Tried
+    for Sets<Chunks<Q, R, (), &'a Heap, N>> {
     type Alloc = &'a Heap;
 
     ghost use Rattle.rangemap.specs.Clones.{KeysCloneFaithfully};
@@ -46,16 +43,14 @@ impl<'a, Q: OwnSteps<R>, R: FromEnds<Key: Word<&'a Heap>>, const N: usize> Tried
     ghost clones_are_faithful = { KeysCloneFaithfully R.Key.is_clone R.Key.cmp };
 
     fn is_accepted(heap: &Heap, alloc: &'a Heap, row: &Row<'_>, left: u64) -> Answer {
-        match first_word(row.call).0 {
-            "gaps" | "union" | "intersection" | "or" | "and" => {
-                try_own_in_chunks::<Q, R, N>(heap, alloc, row, left)
-            }
-            _ => try_set::<ChunkedSet<Q, R, &'a Heap, N>>(heap, alloc, row, left),
+        match try_or_make::<Set<Chunks<Q, R, (), &'a Heap, N>>>(heap, alloc, row, left)? {
+            Step::Tried(is_accepted) => Ok(is_accepted),
+            Step::Lends(one, other) => try_lent(heap, &one, &other, row, left),
         }
     }
 }
 
-impl<'a, T: Ord + Clone + Word<&'a Heap>> Tried for Sets<tree_set::RangeSet<T, &'a Heap>> {
+impl<'a, T: Ord + Clone + Word<&'a Heap>> Tried for Sets<Tree<T, (), &'a Heap>> {
     type Alloc = &'a Heap;
 
     ghost use Rattle.rangemap.specs.Clones.{KeysCloneFaithfully};
@@ -63,156 +58,78 @@ impl<'a, T: Ord + Clone + Word<&'a Heap>> Tried for Sets<tree_set::RangeSet<T, &
     ghost clones_are_faithful = { KeysCloneFaithfully T.is_clone T.cmp };
 
     fn is_accepted(heap: &Heap, alloc: &'a Heap, row: &Row<'_>, left: u64) -> Answer {
-        match first_word(row.call).0 {
-            "gaps" | "union" | "intersection" | "or" | "and" => {
-                try_own_in_tree::<T>(heap, alloc, row, left)
-            }
-            _ => try_set::<tree_set::RangeSet<T, &'a Heap>>(heap, alloc, row, left),
+        match try_or_make::<Set<Tree<T, (), &'a Heap>>>(heap, alloc, row, left)? {
+            Step::Tried(is_accepted) => Ok(is_accepted),
+            Step::Lends(one, other) => try_lent(heap, &one, &other, row, left),
         }
     }
 }
 
-/// Asks a set in a vector for its gaps, or puts two together.
-fn try_own_in_vector<'a, Q: OwnSteps<R>, R: FromEnds<Key: Word<&'a Heap>>>(
-    heap: &Heap,
-    alloc: &'a Heap,
-    row: &Row<'_>,
-    left: u64,
-) -> Answer
-    requires { KeysCloneFaithfully R.Key.is_clone R.Key.cmp }
-{
-    match first_word(row.call) {
-        ("gaps", outer) => {
-            let (set, outer) = with_range::<SetInVector<'a, Q, R>>(alloc, row.given, outer)?;
-            let gaps = (set.gaps(&outer), set.gaps(&outer));
-            try_both::<SetInVector<'a, Q, R>, _>(heap, gaps, row.outcome, left)
-        }
-        ("union", other) => {
-            let (one, other) = two_of::<SetInVector<'a, Q, R>>(alloc, row.given, other)?;
-            let items = (one.union(&other), one.union(&other));
-            try_both::<SetInVector<'a, Q, R>, _>(heap, items, row.outcome, left)
-        }
-        ("intersection", other) => {
-            let (one, other) = two_of::<SetInVector<'a, Q, R>>(alloc, row.given, other)?;
-            let items = (one.intersection(&other), one.intersection(&other));
-            try_both::<SetInVector<'a, Q, R>, _>(heap, items, row.outcome, left)
-        }
-        ("or", other) => {
-            let (one, other) = two_of::<SetInVector<'a, Q, R>>(alloc, row.given, other)?;
-            heap.refuse_after(left);
-            is_made(&one | &other, row.outcome)
-        }
-        ("and", other) => {
-            let (one, other) = two_of::<SetInVector<'a, Q, R>>(alloc, row.given, other)?;
-            heap.refuse_after(left);
-            is_made(&one & &other, row.outcome)
-        }
-        _ => Err(Fail::new("a call is unknown")),
-    }
+/// How far a call is tried before sets are lent.
+enum Step<S> {
+    /// The call was tried, and was accepted or not.
+    Tried(bool),
+    /// It is to be tried on these two.
+    Lends(S, S),
 }
 
-/// Asks a set in chunks for its gaps, or puts two together.
-fn try_own_in_chunks<'a, Q: OwnSteps<R>, R: FromEnds<Key: Word<&'a Heap>>, const N: usize>(
-    heap: &Heap,
-    alloc: &'a Heap,
-    row: &Row<'_>,
-    left: u64,
-) -> Answer
-    requires { KeysCloneFaithfully R.Key.is_clone R.Key.cmp }
-{
-    match first_word(row.call) {
-        ("gaps", outer) => {
-            let (set, outer) = with_range::<ChunkedSet<Q, R, &'a Heap, N>>(
-                alloc, row.given, outer,
-            )?;
-            let gaps = (set.gaps(&outer), set.gaps(&outer));
-            try_both::<ChunkedSet<Q, R, &'a Heap, N>, _>(heap, gaps, row.outcome, left)
-        }
-        ("union", other) => {
-            let (one, other) = two_of::<ChunkedSet<Q, R, &'a Heap, N>>(alloc, row.given, other)?;
-            let items = (one.union(&other), one.union(&other));
-            try_both::<ChunkedSet<Q, R, &'a Heap, N>, _>(heap, items, row.outcome, left)
-        }
-        ("intersection", other) => {
-            let (one, other) = two_of::<ChunkedSet<Q, R, &'a Heap, N>>(alloc, row.given, other)?;
-            let items = (one.intersection(&other), one.intersection(&other));
-            try_both::<ChunkedSet<Q, R, &'a Heap, N>, _>(heap, items, row.outcome, left)
-        }
-        ("or", other) => {
-            let (one, other) = two_of::<ChunkedSet<Q, R, &'a Heap, N>>(alloc, row.given, other)?;
-            heap.refuse_after(left);
-            is_made(&one | &other, row.outcome)
-        }
-        ("and", other) => {
-            let (one, other) = two_of::<ChunkedSet<Q, R, &'a Heap, N>>(alloc, row.given, other)?;
-            heap.refuse_after(left);
-            is_made(&one & &other, row.outcome)
-        }
-        _ => Err(Fail::new("a call is unknown")),
-    }
-}
-
-/// Asks a set in a tree for its gaps, or puts two together.
-fn try_own_in_tree<'a, T: Ord + Clone + Word<&'a Heap>>(
-    heap: &Heap,
-    alloc: &'a Heap,
-    row: &Row<'_>,
-    left: u64,
-) -> Answer
-    requires { KeysCloneFaithfully T.is_clone T.cmp }
-{
-    match first_word(row.call) {
-        ("gaps", outer) => {
-            let (set, outer) = with_range::<tree_set::RangeSet<T, &'a Heap>>(
-                alloc, row.given, outer,
-            )?;
-            let gaps = (set.gaps(&outer), set.gaps(&outer));
-            try_both::<tree_set::RangeSet<T, &'a Heap>, _>(heap, gaps, row.outcome, left)
-        }
-        ("union", other) => {
-            let (one, other) = two_of::<tree_set::RangeSet<T, &'a Heap>>(alloc, row.given, other)?;
-            let items = (one.union(&other), one.union(&other));
-            try_both::<tree_set::RangeSet<T, &'a Heap>, _>(heap, items, row.outcome, left)
-        }
-        ("intersection", other) => {
-            let (one, other) = two_of::<tree_set::RangeSet<T, &'a Heap>>(alloc, row.given, other)?;
-            let items = (one.intersection(&other), one.intersection(&other));
-            try_both::<tree_set::RangeSet<T, &'a Heap>, _>(heap, items, row.outcome, left)
-        }
-        ("or", other) => {
-            let (one, other) = two_of::<tree_set::RangeSet<T, &'a Heap>>(alloc, row.given, other)?;
-            heap.refuse_after(left);
-            is_made(&one | &other, row.outcome)
-        }
-        ("and", other) => {
-            let (one, other) = two_of::<tree_set::RangeSet<T, &'a Heap>>(alloc, row.given, other)?;
-            heap.refuse_after(left);
-            is_made(&one & &other, row.outcome)
-        }
-        _ => Err(Fail::new("a call is unknown")),
-    }
-}
-
-/// Tries a call that all sets have alike.
-fn try_set<S: InRows<Value = ()> + OwnCalls>(
+/// Tries the call of a row, or makes the two sets that it is tried on. Gaps are asked for in the one
+/// range of the second set.
+fn try_or_make<S: InRows<Value = ()> + OwnCalls>(
     heap: &Heap,
     alloc: S::Alloc,
     row: &Row<'_>,
     left: u64,
-) -> Answer
+) -> Result<Step<S>, Fail>
     requires { KeysCloneFaithfully S.Range.Key.is_clone S.Range.Key.cmp }
 {
-    match first_word(row.call).0 {
-        "extend" => try_makers::<S>(heap, alloc, row, left),
-        "grow" => try_growths::<S>(heap, alloc, row.given, left),
-        _ => try_call::<S>(heap, alloc, row, left),
+    match first_word(row.call) {
+        ("gaps" | "union" | "intersection" | "or" | "and", other) => {
+            let one = made_of(alloc, row.given)?;
+            Ok(Step::Lends(one, made_of(alloc, other)?))
+        }
+        ("extend", _) => Ok(Step::Tried(try_makers::<S>(heap, alloc, row, left)?)),
+        ("grow", _) => Ok(Step::Tried(try_growths::<S>(heap, alloc, row.given, left)?)),
+        _ => Ok(Step::Tried(try_call::<S>(heap, alloc, row, left)?)),
     }
 }
 
-/// Makes the two sets that are put together.
-fn two_of<S: InRows<Value = ()>>(alloc: S::Alloc, one: &str, other: &str) -> Result<(S, S), Fail>
+/// Asks a set for its gaps, or puts two together.
+fn try_lent<'a, S>(
+    heap: &Heap,
+    one: &'a Set<S>,
+    other: &'a Set<S>,
+    row: &Row<'_>,
+    left: u64,
+) -> Answer
+where
+    S: Lends<'a, Range: 'a + FromEnds<Key: Word<S::Alloc>>> + Store<Value = (), Alloc: Copy> + Drop,
+    S::Kind: Kind<S::Range, Steps = <S::Range as KeyRange>::Key>,
+    Set<S>: InRows<Range = S::Range, Value = (), Alloc = S::Alloc, Kind = S::Kind>,
     requires { KeysCloneFaithfully S.Range.Key.is_clone S.Range.Key.cmp }
 {
-    let one = made_of(alloc, one)?;
-    Ok((one, made_of(alloc, other)?))
+    match first_word(row.call).0 {
+        "gaps" => {
+            let outer = other.first().ok_or("gaps are asked for in a range")?;
+            let gaps = (one.gaps(outer), one.gaps(outer));
+            try_both::<S::Range, S::Alloc, _>(heap, gaps, row.outcome, left)
+        }
+        "union" => {
+            let items = (one.union(other), one.union(other));
+            try_both::<S::Range, S::Alloc, _>(heap, items, row.outcome, left)
+        }
+        "intersection" => {
+            let items = (one.intersection(other), one.intersection(other));
+            try_both::<S::Range, S::Alloc, _>(heap, items, row.outcome, left)
+        }
+        "or" => {
+            heap.refuse_after(left);
+            is_made(one | other, row.outcome)
+        }
+        "and" => {
+            heap.refuse_after(left);
+            is_made(one & other, row.outcome)
+        }
+        _ => Err(Fail::new("a call is unknown")),
+    }
 }

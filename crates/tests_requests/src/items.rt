@@ -1,20 +1,23 @@
 //! What iterators that make their items out of clones answer where a clone is refused.
 
 use crate::row::Answer;
+use rangemap_core::key_range::KeyRange;
 use std::alloc::AllocError;
 use std::test::Fail;
-use tests_support::{Heap, InRows, MANY, Tries, is_range};
+use tests_support::{Heap, MANY, Tries, Word, is_range};
 
 /// Tries to ask for the first of two items of a list, by `try_next` and, of the same items again,
 /// by `next`, which clone alike.
-pub fn try_both<M: InRows, I>(heap: &Heap, items: (I, I), list: &str, left: u64) -> Answer
+pub fn try_both<R, A, I>(heap: &Heap, items: (I, I), list: &str, left: u64) -> Answer
 where
-    I: Tries<Range = M::Range, Item = Result<M::Range, AllocError>>,
+    R: KeyRange<Key: Word<A>>,
+    A: Drop,
+    I: Tries<Range = R, Item = Result<R, AllocError>>,
     requires { (it : I) → I.can_next it }
 {
     let (mut tried, mut taken) = items;
-    let is_tried = try_items::<M, I>(heap, &mut tried, list, left);
-    let is_taken = take_items::<M, I>(heap, &mut taken, list, left);
+    let is_tried = try_items::<R, A, I>(heap, &mut tried, list, left);
+    let is_taken = take_items::<R, A, I>(heap, &mut taken, list, left);
     match is_tried {
         Some(is_accepted) if is_taken == is_tried => Ok(is_accepted),
         _ => Err(Fail::new(format_args!("items are not {list}"))),
@@ -23,9 +26,11 @@ where
 
 /// Whether a `try_next` is accepted. One that is refused can be asked again, for the same item.
 /// `None` says that the items are others.
-fn try_items<M: InRows, I>(heap: &Heap, items: &mut I, list: &str, left: u64) -> Option<bool>
+fn try_items<R, A, I>(heap: &Heap, items: &mut I, list: &str, left: u64) -> Option<bool>
 where
-    I: Tries<Range = M::Range>,
+    R: KeyRange<Key: Word<A>>,
+    A: Drop,
+    I: Tries<Range = R>,
     requires { I.can_next items.old }
 {
     let (first, second) = list.split_once(", ")?;
@@ -33,18 +38,20 @@ where
     let item = items.try_next();
     heap.refuse_after(MANY);
     let (is_accepted, is_first) = match item {
-        Ok(item) => (true, is_item::<M>(item, first)),
-        Err(AllocError) => (false, is_next::<M, I>(items, first)),
+        Ok(item) => (true, is_item::<R, A>(item, first)),
+        Err(AllocError) => (false, is_next::<R, A, I>(items, first)),
     };
-    let are_same = is_first && is_next::<M, I>(items, second) && is_next::<M, I>(items, "");
+    let are_same = is_first && is_next::<R, A, I>(items, second) && is_next::<R, A, I>(items, "");
     if are_same { Some(is_accepted) } else { None }
 }
 
 /// Whether a `next` is accepted. One that is refused says so, and no item comes after that. `None`
 /// says that it is otherwise.
-fn take_items<M: InRows, I>(heap: &Heap, items: &mut I, list: &str, left: u64) -> Option<bool>
+fn take_items<R, A, I>(heap: &Heap, items: &mut I, list: &str, left: u64) -> Option<bool>
 where
-    I: Tries<Range = M::Range, Item = Result<M::Range, AllocError>>,
+    R: KeyRange<Key: Word<A>>,
+    A: Drop,
+    I: Tries<Range = R, Item = Result<R, AllocError>>,
     requires { (it : I) → I.can_next it }
 {
     let (first, _) = list.split_once(", ")?;
@@ -52,30 +59,34 @@ where
     let item = items.next();
     heap.refuse_after(MANY);
     let (is_accepted, is_same) = match item? {
-        Ok(item) => (true, is_item::<M>(Some(item), first)),
-        Err(AllocError) => (false, items.next().is_none() && is_next::<M, I>(items, "")),
+        Ok(item) => (true, is_item::<R, A>(Some(item), first)),
+        Err(AllocError) => (
+            false,
+            items.next().is_none() && is_next::<R, A, I>(items, ""),
+        ),
     };
     if is_same { Some(is_accepted) } else { None }
 }
 
 /// Whether the next item is made, and is the one that a text names, which is empty where none is to
 /// come.
-fn is_next<M: InRows, I>(items: &mut I, text: &str) -> bool
-where
-    I: Tries<Range = M::Range>,
+fn is_next<R: KeyRange<Key: Word<A>>, A: Drop, I: Tries<Range = R>>(
+    items: &mut I,
+    text: &str,
+) -> bool
     requires { I.can_next items.old }
     ensures { I.can_next items.new }
 {
     match items.try_next() {
-        Ok(item) => is_item::<M>(item, text),
+        Ok(item) => is_item::<R, A>(item, text),
         Err(AllocError) => false,
     }
 }
 
 /// Whether an item is the one that a text names.
-fn is_item<M: InRows>(item: Option<M::Range>, text: &str) -> bool {
+fn is_item<R: KeyRange<Key: Word<A>>, A: Drop>(item: Option<R>, text: &str) -> bool {
     match item {
-        Some(range) => is_range::<M::Range, M::Alloc>(&range, text),
+        Some(range) => is_range::<R, A>(&range, text),
         None => text.is_empty(),
     }
 }

@@ -22,8 +22,8 @@ pub fn try_changes<M: InRows>(heap: &Heap, alloc: M::Alloc, row: &Row<'_>, left:
     try_replay::<M, _>(heap, alloc, calls, row, left)
 }
 
-/// Tries to replay calls, which were made, from no container on, of which the request that comes after `left` others
-/// is refused.
+/// Tries to replay calls from no container on, where the request that comes after `left` others is
+/// refused.
 ///
 /// Where all were accepted, as many containers are left as the row has. Where there was no room for
 /// the lists none was made.

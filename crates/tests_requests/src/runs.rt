@@ -24,7 +24,7 @@ type Commands<M> = Vec<
 >;
 
 /// Inserts of two pairs, and two questions.
-#[tactic(auto, using(tests_support::proofs::OneMore::all_and_one))]
+#[tactic(auto, using(tests_words::proofs::OneMore::all_and_one))]
 fn commands<M: InRows>(
     alloc: M::Alloc,
     first: (M::Range, M::Value),

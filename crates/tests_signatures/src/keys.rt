@@ -1,4 +1,4 @@
-//! Each container at each type of keys, as its users call it. Texts have no steps, so no closed
+//! Each container at each type of keys, by functions over any keys. Texts have no steps, so no closed
 //! container has them as keys.
 ghost use Rattle.rangemap.specs.Clones.{KeysCloneFaithfully};
 ghost use Rattle.rangemap.specs.Ranges.{closed, half_open};

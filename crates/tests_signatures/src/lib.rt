@@ -3,8 +3,9 @@
 //! than `Union` and `Intersection`.
 //!
 //! The modules of one container name its calls over any keys; `keys` has each container at each type
-//! of keys, `chunked` the containers in chunks, `defaults` each alias with its defaults. All maps are one struct, and so are all sets:
-//! what has nothing to do with steps is named of `a..b` alone, queries aside. The crate
+//! of keys, `literals` what users write there without a function over any keys, `chunked` the
+//! containers in chunks, `defaults` each alias with its defaults. All maps are one struct, and so are
+//! all sets: what has nothing to do with steps is named of `a..b` alone, queries aside. The crate
 //! `tests_iterators` names the iterators. Laws, replays and what code over any container names are
 //! re-exports (`generic`), which cost nothing to prove.
 #![tactic(auto)]
@@ -15,6 +16,7 @@ mod generic;
 mod inclusive_maps;
 mod inclusive_sets;
 mod keys;
+mod literals;
 mod maps;
 mod root;
 mod sets;

@@ -1,5 +1,2 @@
--- Lemmas of the allocator and of the calls of rows.
-pub mod Ticks
-pub mod Shapes
-pub mod OneMore
+-- Lemmas of lists of items.
 pub mod ListedItems

@@ -1,55 +1,15 @@
 //! The calls of a row, which change a container.
-ghost use Rattle.std.specs.Prelude.{IfOk};
 ghost use Rattle.rangemap.specs.Clones.{KeysCloneFaithfully, ValuesCloneFaithfully};
-ghost use Rattle.rangemap_replay.specs.Histories.{HasNonEmptyRange};
 
-use crate::grammar::first_word;
 use crate::in_rows::InRows;
-use crate::ranges::range_of;
-use crate::words::Word;
+use rangemap::map::Map;
+use rangemap::range_set::Set;
 use rangemap_core::key_range::KeyRange;
-use rangemap_core::kind::Kind;
+use rangemap_core::store::Store;
 use rangemap_replay::calls::Change;
-use std::alloc::Allocator;
+use std::alloc::Global;
 use std::test::Fail;
-
-/// Makes the range and the value of a pair.
-pub fn pair_of<Q: Kind<R>, R: KeyRange<Key: Word<A>>, V: Word<A>, A: Allocator + Copy>(
-    alloc: A,
-    pair: &str,
-) -> Result<(R, V), Fail>
-    ensures { IfOk result (λ pair. Q.kind.IsNonEmpty pair.0) }
-{
-    let (range, value) = first_word(pair);
-    let range = range_of::<Q, R, A>(alloc, range)?;
-    Ok((range, V::read(alloc, value)?))
-}
-
-/// Makes the call that a text names, on the container at a place of a list: `insert` of a range and
-/// a value, `remove` of a range, `clear`, `clone` or `new`.
-pub fn read_change<Q: Kind<R>, R: KeyRange<Key: Word<A>>, V: Word<A>, A: Allocator + Copy>(
-    alloc: A,
-    at: usize,
-    text: &str,
-) -> Result<Change<R, V>, Fail>
-    ensures { IfOk result (HasNonEmptyRange Q.kind) }
-{
-    let (name, operand) = first_word(text);
-    match name {
-        "insert" => {
-            let (range, value) = pair_of::<Q, R, V, A>(alloc, operand)?;
-            Ok(Change::Insert { at, range, value })
-        }
-        "remove" => {
-            let range = range_of::<Q, R, A>(alloc, operand)?;
-            Ok(Change::Remove { at, range })
-        }
-        "clear" => Ok(Change::Clear { at }),
-        "clone" => Ok(Change::Clone { at }),
-        "new" => Ok(Change::New),
-        _ => Err(Fail::new("a row has a call of another name")),
-    }
-}
+use tests_words::{Word, pair_of, range_of, read_change};
 
 /// Makes the calls of a list, in order. A clone is let go.
 pub fn make<M: InRows>(map: &mut M, alloc: M::Alloc, calls: &str) -> Result<(), Fail>
@@ -90,4 +50,41 @@ pub fn insert_all<M: InRows>(map: &mut M, alloc: M::Alloc, pairs: &str) -> Resul
         }
     }
     Ok(())
+}
+
+/// Makes a map over a store of the pairs of a list, by inserts. A proof tells less of it than of
+/// `made_of`.
+pub fn map_of<S: Store<Alloc = Global> + Drop>(alloc: Global, pairs: &str) -> Result<Map<S>, Fail>
+where
+    <S::Range as KeyRange>::Key: Word<Global>,
+    S::Value: Word<Global>,
+    requires faithful_keys { KeysCloneFaithfully S.Range.Key.is_clone S.Range.Key.cmp }
+    requires faithful_values { ValuesCloneFaithfully S.Value.is_clone S.Value.eq }
+{
+    let mut map = Map::new_with_step_fns(alloc);
+    for pair in pairs.split(", ") {
+        if !pair.is_empty() {
+            let (range, value) = pair_of::<S::Kind, S::Range, S::Value, Global>(alloc, pair)?;
+            map.insert(range, value)?;
+        }
+    }
+    Ok(map)
+}
+
+/// Makes a set over a store of the ranges of a list, by inserts.
+pub fn set_of<S: Store<Value = (), Alloc = Global> + Drop>(
+    alloc: Global,
+    ranges: &str,
+) -> Result<Set<S>, Fail>
+where
+    <S::Range as KeyRange>::Key: Word<Global>,
+    requires { KeysCloneFaithfully S.Range.Key.is_clone S.Range.Key.cmp }
+{
+    let mut set = Set::new_with_step_fns(alloc);
+    for range in ranges.split(", ") {
+        if !range.is_empty() {
+            set.insert(range_of::<S::Kind, S::Range, Global>(alloc, range)?)?;
+        }
+    }
+    Ok(set)
 }

@@ -1,14 +1,12 @@
 //! What a container has and answers, compared with the lists of a row.
 
-use crate::grammar::{first_word, last_item, take_item};
 use crate::in_rows::InRows;
-use crate::ranges::is_range;
-use crate::readers::{ReadsGaps, ReadsPairs};
-use crate::same::check_that;
-use crate::words::Word;
 use std::alloc::AllocError;
 use std::marker::PhantomData;
 use std::test::Fail;
+use tests_words::{
+    ReadsGaps, ReadsPairs, Word, check_that, first_word, is_range, last_item, take_item,
+};
 
 /// What comes, compared with the items of a list, one after another.
 #[derive(Drop)]

@@ -1,10 +1,11 @@
 //! The containers that rows speak of, each of which tells what its iterators give.
 ghost use Rattle.rangemap.specs.Clones.{KeysCloneFaithfully};
 
-use crate::chunked::{ChunkedMap, ChunkedSet};
-use crate::ranges::FromEnds;
-use crate::readers::{ReadsGaps, ReadsPairs, tell_gaps, tell_pairs, tell_ranges};
-use crate::words::Word;
+use crate::containers::{ChunkedMap, ChunkedSet};
+use crate::told::{
+    tell_all_pairs, tell_all_ranges, tell_gaps_of_map, tell_gaps_of_set, tell_overlapping_pairs,
+    tell_overlapping_ranges,
+};
 use rangemap::container::Container;
 use rangemap::map::Map;
 use rangemap::range_set::Set;
@@ -13,6 +14,7 @@ use rangemap_core::kind::Kind;
 use rangemap_sorted::SortedVec;
 use std::alloc::{AllocError, Allocator};
 use std::ops::Range;
+use tests_words::{FromEnds, ReadsGaps, ReadsPairs, Word};
 
 /// A container of which a text names the ranges and the values, and which tells what it holds, by its
 /// own iterators.
@@ -50,7 +52,7 @@ pub trait InRows: Container<
 impl<Q: Kind<R>, R: FromEnds<Key: Word<A>>, V: Eq + Clone + Word<A>, A: Allocator + Copy> InRows
     for Map<SortedVec<Q, R, V, A>> {
     fn read_all<U: ReadsPairs<R, V>>(&self, reader: &mut U) -> Result<(), AllocError> {
-        tell_pairs(self.iter(), reader)
+        tell_all_pairs(self, reader)
     }
 
     fn read_overlapping<U: ReadsPairs<R, V>>(
@@ -58,7 +60,7 @@ impl<Q: Kind<R>, R: FromEnds<Key: Word<A>>, V: Eq + Clone + Word<A>, A: Allocato
         range: &R,
         reader: &mut U,
     ) -> Result<(), AllocError> {
-        tell_pairs(self.overlapping(range), reader)
+        tell_overlapping_pairs(self, range, reader)
     }
 
     fn read_gaps<U: ReadsGaps<R>>(
@@ -66,14 +68,14 @@ impl<Q: Kind<R>, R: FromEnds<Key: Word<A>>, V: Eq + Clone + Word<A>, A: Allocato
         outer_range: &R,
         reader: &mut U,
     ) -> Result<(), AllocError> {
-        tell_gaps(self.gaps(outer_range), reader)
+        tell_gaps_of_map(self, outer_range, reader)
     }
 }
 
 impl<K: Ord + Clone + Word<A>, V: Eq + Clone + Word<A>, A: Allocator + Copy> InRows
     for tree_map::RangeMap<K, V, A> {
     fn read_all<U: ReadsPairs<Range<K>, V>>(&self, reader: &mut U) -> Result<(), AllocError> {
-        tell_pairs(self.iter(), reader)
+        tell_all_pairs(self, reader)
     }
 
     fn read_overlapping<U: ReadsPairs<Range<K>, V>>(
@@ -81,7 +83,7 @@ impl<K: Ord + Clone + Word<A>, V: Eq + Clone + Word<A>, A: Allocator + Copy> InR
         range: &Range<K>,
         reader: &mut U,
     ) -> Result<(), AllocError> {
-        tell_pairs(self.overlapping(range), reader)
+        tell_overlapping_pairs(self, range, reader)
     }
 
     fn read_gaps<U: ReadsGaps<Range<K>>>(
@@ -89,14 +91,14 @@ impl<K: Ord + Clone + Word<A>, V: Eq + Clone + Word<A>, A: Allocator + Copy> InR
         outer_range: &Range<K>,
         reader: &mut U,
     ) -> Result<(), AllocError> {
-        tell_gaps(self.gaps(outer_range), reader)
+        tell_gaps_of_map(self, outer_range, reader)
     }
 }
 
 impl<Q: Kind<R>, R: FromEnds<Key: Word<A>>, A: Allocator + Copy> InRows
     for Set<SortedVec<Q, R, (), A>> {
     fn read_all<U: ReadsPairs<R, ()>>(&self, reader: &mut U) -> Result<(), AllocError> {
-        tell_ranges(self.iter(), reader)
+        tell_all_ranges(self, reader)
     }
 
     fn read_overlapping<U: ReadsPairs<R, ()>>(
@@ -104,7 +106,7 @@ impl<Q: Kind<R>, R: FromEnds<Key: Word<A>>, A: Allocator + Copy> InRows
         range: &R,
         reader: &mut U,
     ) -> Result<(), AllocError> {
-        tell_ranges(self.overlapping(range), reader)
+        tell_overlapping_ranges(self, range, reader)
     }
 
     fn read_gaps<U: ReadsGaps<R>>(
@@ -112,13 +114,13 @@ impl<Q: Kind<R>, R: FromEnds<Key: Word<A>>, A: Allocator + Copy> InRows
         outer_range: &R,
         reader: &mut U,
     ) -> Result<(), AllocError> {
-        tell_gaps(self.gaps(outer_range), reader)
+        tell_gaps_of_set(self, outer_range, reader)
     }
 }
 
 impl<T: Ord + Clone + Word<A>, A: Allocator + Copy> InRows for tree_set::RangeSet<T, A> {
     fn read_all<U: ReadsPairs<Range<T>, ()>>(&self, reader: &mut U) -> Result<(), AllocError> {
-        tell_ranges(self.iter(), reader)
+        tell_all_ranges(self, reader)
     }
 
     fn read_overlapping<U: ReadsPairs<Range<T>, ()>>(
@@ -126,7 +128,7 @@ impl<T: Ord + Clone + Word<A>, A: Allocator + Copy> InRows for tree_set::RangeSe
         range: &Range<T>,
         reader: &mut U,
     ) -> Result<(), AllocError> {
-        tell_ranges(self.overlapping(range), reader)
+        tell_overlapping_ranges(self, range, reader)
     }
 
     fn read_gaps<U: ReadsGaps<Range<T>>>(
@@ -134,7 +136,7 @@ impl<T: Ord + Clone + Word<A>, A: Allocator + Copy> InRows for tree_set::RangeSe
         outer_range: &Range<T>,
         reader: &mut U,
     ) -> Result<(), AllocError> {
-        tell_gaps(self.gaps(outer_range), reader)
+        tell_gaps_of_set(self, outer_range, reader)
     }
 }
 
@@ -146,7 +148,7 @@ impl<
     const N: usize,
 > InRows for ChunkedMap<Q, R, V, A, N> {
     fn read_all<U: ReadsPairs<R, V>>(&self, reader: &mut U) -> Result<(), AllocError> {
-        tell_pairs(self.iter(), reader)
+        tell_all_pairs(self, reader)
     }
 
     fn read_overlapping<U: ReadsPairs<R, V>>(
@@ -154,7 +156,7 @@ impl<
         range: &R,
         reader: &mut U,
     ) -> Result<(), AllocError> {
-        tell_pairs(self.overlapping(range), reader)
+        tell_overlapping_pairs(self, range, reader)
     }
 
     fn read_gaps<U: ReadsGaps<R>>(
@@ -162,14 +164,14 @@ impl<
         outer_range: &R,
         reader: &mut U,
     ) -> Result<(), AllocError> {
-        tell_gaps(self.gaps(outer_range), reader)
+        tell_gaps_of_map(self, outer_range, reader)
     }
 }
 
 impl<Q: Kind<R>, R: FromEnds<Key: Word<A>>, A: Allocator + Copy, const N: usize> InRows
     for ChunkedSet<Q, R, A, N> {
     fn read_all<U: ReadsPairs<R, ()>>(&self, reader: &mut U) -> Result<(), AllocError> {
-        tell_ranges(self.iter(), reader)
+        tell_all_ranges(self, reader)
     }
 
     fn read_overlapping<U: ReadsPairs<R, ()>>(
@@ -177,7 +179,7 @@ impl<Q: Kind<R>, R: FromEnds<Key: Word<A>>, A: Allocator + Copy, const N: usize>
         range: &R,
         reader: &mut U,
     ) -> Result<(), AllocError> {
-        tell_ranges(self.overlapping(range), reader)
+        tell_overlapping_ranges(self, range, reader)
     }
 
     fn read_gaps<U: ReadsGaps<R>>(
@@ -185,6 +187,6 @@ impl<Q: Kind<R>, R: FromEnds<Key: Word<A>>, A: Allocator + Copy, const N: usize>
         outer_range: &R,
         reader: &mut U,
     ) -> Result<(), AllocError> {
-        tell_gaps(self.gaps(outer_range), reader)
+        tell_gaps_of_set(self, outer_range, reader)
     }
 }

@@ -1,42 +1,33 @@
-//! Test support: what the libraries of tests stand on.
+//! Test support: the containers that rows speak of, made, changed and compared as their text says.
 //!
-//! `words`, `ranges` and `grammar` say what the text of a row means, `in_rows` which containers it
-//! speaks of, and `calls`, `replays` and `compared` make containers and calls of it and compare what a
-//! container holds. `own_calls` has the calls that maps and sets do not have in common, `readers` is
-//! told what a container's own iterators give, `chunked` names containers in small chunks, `refusing`
-//! is an allocator that refuses memory, and beside them stand keys, values and steps of the tests' own.
+//! `in_rows` says which containers these are, and `calls`, `replays` and `compared` make containers and
+//! calls of a row and compare what a container holds. `own_calls` has the calls that maps and sets do
+//! not have in common, `told` what their iterators tell, and `containers` names some of the tests' own.
+//!
+//! What the text means, and all that names no container, is in `tests_words`, and is passed on here, so
+//! that a test names one crate.
 #![tactic(auto)]
 
 mod calls;
-mod chunked;
 mod compared;
-mod costly;
-mod grammar;
-mod heaps;
+mod containers;
 mod in_rows;
 mod own_calls;
-mod ranges;
-mod readers;
-mod refusing;
 mod replays;
-mod same;
-mod signed;
-mod tries;
-mod words;
+mod told;
 
-pub use calls::{insert_all, made_of, make, pair_of, read_change};
-pub use chunked::{ChunkedMap, ChunkedSet};
+pub use calls::{insert_all, made_of, make, map_of, set_of};
 pub use compared::{Compared, check_row, holds, is_pair};
-pub use costly::{Costly, CostlyMap, CostlySet, CostlyTree, CostlyTreeSet, HalfOpenCostlySet};
-pub use grammar::{first_word, lists, parts, rows, take_item, two_lists, two_parts};
-pub use heaps::{Heap, MANY, Text, Texts};
+pub use containers::{
+    ChunkedMap, ChunkedSet, CostlyMap, CostlySet, CostlyTree, CostlyTreeSet, HalfOpenCostlySet,
+    Texts,
+};
 pub use in_rows::InRows;
 pub use own_calls::{OwnCalls, extend_by, made_from};
-pub use ranges::{FromEnds, filled, is_range, query_of, range_of};
-pub use readers::{ReadsGaps, ReadsPairs, tell_gaps, tell_pairs, tell_ranges};
-pub use refusing::Refusing;
-pub use replays::{calls_of, changes_of, items_of, pairs_of, ranges_of, set_calls_of};
-pub use same::{check_same, check_text, check_that};
-pub use signed::SignedSteps;
-pub use tries::Tries;
-pub use words::{Plain, Word};
+pub use replays::{items_of, set_calls_of};
+pub use tests_words::{
+    Costly, FromEnds, Heap, MANY, Plain, ReadsGaps, ReadsPairs, Refusing, SignedSteps, Text, Tries,
+    Word, calls_of, changes_of, check_same, check_text, check_that, filled, first_word, is_range,
+    lists, pair_of, pairs_of, parts, query_of, range_of, ranges_of, read_change, rows, take_item,
+    tell_gaps, tell_pairs, tell_ranges, three_lists, two_lists, two_parts,
+};

@@ -9,7 +9,7 @@ use rangemap::container::Container;
 use rangemap::map::Map;
 use rangemap::range_set::Set;
 use rangemap_core::key_range::KeyRange;
-use rangemap_core::kind::{Kind, OwnSteps};
+use rangemap_core::kind::Kind;
 use rangemap_core::store::Store;
 use std::alloc::AllocError;
 use std::iter::IntoIterator;
@@ -79,7 +79,7 @@ pub fn made_from<M: OwnCalls>(
 impl<S: Store + Drop> OwnCalls for Map<S>
 where
     S::Alloc: Clone,
-    S::Kind: OwnSteps<S::Range>,
+    S::Kind: Kind<S::Range, Steps = <S::Range as KeyRange>::Key>,
 {
     type Item = (S::Range, S::Value);
 
@@ -111,7 +111,7 @@ where
 impl<S: Store<Value = ()> + Drop> OwnCalls for Set<S>
 where
     S::Alloc: Clone,
-    S::Kind: OwnSteps<S::Range>,
+    S::Kind: Kind<S::Range, Steps = <S::Range as KeyRange>::Key>,
 {
     type Item = S::Range;
 

@@ -1,68 +1,21 @@
-//! The calls of a replay.
-//!
-//! Before a call may stand the place of the container that it is made on, as in `1: clear`. The
-//! pairs or ranges that a call takes have a plus between them.
+//! The items that containers take one after another, and the calls of a replay on sets.
 ghost use Rattle.std.specs.Prelude.{IfOk};
 ghost use Rattle.std.specs.List.{AllByRecursion};
-ghost use Rattle.rangemap.specs.Histories.{HasNonEmptyRange, HasNonEmptyRanges};
-ghost use Rattle.rangemap.specs.Ranges.{AreNonEmpty};
+ghost use Rattle.rangemap.specs.Histories.{HasNonEmptyRange};
 ghost use Rattle.rangemap.specs.SetHistories.{SetHasNonEmptyRanges};
-ghost use Rattle.rangemap.specs.Sets.{AreNonEmptyRanges};
 
-use crate::calls::{pair_of, read_change};
-use crate::grammar::first_word;
 use crate::in_rows::InRows;
 use crate::own_calls::OwnCalls;
-use crate::ranges::range_of;
-use crate::words::Word;
 use rangemap::range_set::calls::SetCall;
 use rangemap_core::key_range::KeyRange;
 use rangemap_core::kind::Kind;
-use rangemap_maps::range_map::calls::Call;
 use rangemap_replay::calls::Change;
 use std::alloc::Allocator;
 use std::test::Fail;
-
-/// Divides the place from a call.
-fn place(text: &str) -> Result<(usize, &str), Fail> {
-    match text.split_once(": ") {
-        Some((at, call)) => Ok((at.parse()?, call)),
-        None => Ok((0, text)),
-    }
-}
-
-/// Makes the pairs that a text names.
-#[tactic(auto, using(crate::proofs::OneMore::pairs_and_one))]
-pub fn pairs_of<Q: Kind<R>, R: KeyRange<Key: Word<A>>, V: Word<A>, A: Allocator + Copy>(
-    alloc: A,
-    pairs: &str,
-) -> Result<Vec<(R, V), A>, Fail>
-    ensures { IfOk result (λ all. AreNonEmpty Q.kind all.items) }
-{
-    let mut all = Vec::new(alloc);
-    for pair in pairs.split(" + ") {
-        all.push(pair_of::<Q, R, V, A>(alloc, pair)?)?;
-    }
-    Ok(all)
-}
-
-/// Makes the ranges that a text names.
-#[tactic(auto, using(crate::proofs::OneMore::all_and_one))]
-pub fn ranges_of<Q: Kind<R>, R: KeyRange<Key: Word<A>>, A: Allocator + Copy>(
-    alloc: A,
-    ranges: &str,
-) -> Result<Vec<R, A>, Fail>
-    ensures { IfOk result (λ all. AreNonEmptyRanges Q.kind all.items) }
-{
-    let mut all = Vec::new(alloc);
-    for range in ranges.split(" + ") {
-        all.push(range_of::<Q, R, A>(alloc, range)?)?;
-    }
-    Ok(all)
-}
+use tests_words::{Word, first_word, pair_of, place, ranges_of, read_change};
 
 /// Makes the items that a text names, which the container takes one after another.
-#[tactic(auto, using(crate::proofs::OneMore::all_and_one))]
+#[tactic(auto, using(tests_words::proofs::OneMore::all_and_one))]
 pub fn items_of<M: InRows + OwnCalls>(
     alloc: M::Alloc,
     items: &str,
@@ -77,61 +30,8 @@ pub fn items_of<M: InRows + OwnCalls>(
     Ok(all)
 }
 
-/// Makes the calls of a list that take no pairs, and one range at most.
-#[tactic(auto, using(crate::proofs::OneMore::all_and_one))]
-pub fn changes_of<Q: Kind<R>, R: KeyRange<Key: Word<A>>, V: Word<A>, A: Allocator + Copy>(
-    alloc: A,
-    calls: &str,
-) -> Result<Vec<Change<R, V>, A>, Fail>
-    ensures { IfOk result (λ all. AllByRecursion (HasNonEmptyRange Q.kind) all.items) }
-{
-    let mut all = Vec::new(alloc);
-    for call in calls.split(", ") {
-        let (at, call) = place(call)?;
-        all.push(read_change::<Q, R, V, A>(alloc, at, call)?)?;
-    }
-    Ok(all)
-}
-
-/// Makes the calls of a list on maps.
-#[tactic(auto, using(crate::proofs::OneMore::all_and_one))]
-pub fn calls_of<Q: Kind<R>, R: KeyRange<Key: Word<A>>, V: Word<A>, A: Allocator + Copy>(
-    alloc: A,
-    calls: &str,
-) -> Result<Vec<Call<R, V, A>, A>, Fail>
-    ensures { IfOk result (λ all. AllByRecursion (HasNonEmptyRanges Q.kind) all.items) }
-{
-    let mut all = Vec::new(alloc);
-    for call in calls.split(", ") {
-        all.push(read_call::<Q, R, V, A>(alloc, call)?)?;
-    }
-    Ok(all)
-}
-
-/// Makes the call on maps that a text names.
-fn read_call<Q: Kind<R>, R: KeyRange<Key: Word<A>>, V: Word<A>, A: Allocator + Copy>(
-    alloc: A,
-    call: &str,
-) -> Result<Call<R, V, A>, Fail>
-    ensures { IfOk result (HasNonEmptyRanges Q.kind) }
-{
-    let (at, call) = place(call)?;
-    let (name, operands) = first_word(call);
-    match name {
-        "from" => {
-            let pairs = pairs_of::<Q, R, V, A>(alloc, operands)?;
-            Ok(Call::FromIter { pairs })
-        }
-        "extend" => {
-            let pairs = pairs_of::<Q, R, V, A>(alloc, operands)?;
-            Ok(Call::Extend { at, pairs })
-        }
-        _ => Ok(Call::Change(read_change::<Q, R, V, A>(alloc, at, call)?)),
-    }
-}
-
 /// Makes the calls of a list on sets.
-#[tactic(auto, using(crate::proofs::OneMore::all_and_one))]
+#[tactic(auto, using(tests_words::proofs::OneMore::all_and_one))]
 pub fn set_calls_of<Q: Kind<R>, R: KeyRange<Key: Word<A>>, A: Allocator + Copy>(
     alloc: A,
     calls: &str,

@@ -4,7 +4,7 @@ use crate::noted::Noted;
 use crate::tables::check_half_open;
 use std::test::Fail;
 
-mod collections;
+pub mod collections;
 mod replays;
 
 // Inside a stored range, and its own value back; all of some pairs and parts of others; removals;

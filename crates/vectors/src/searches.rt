@@ -8,6 +8,7 @@ use rangemap_core::closed::Closed;
 use rangemap_core::half_open::HalfOpen;
 use rangemap_core::key_range::KeyRange;
 use rangemap_core::kind::Kind;
+use rangemap_core::store::Store;
 use rangemap_sorted::SortedVec;
 use rangemap_sorted::entries::covering;
 use std::alloc::Global;
@@ -16,11 +17,11 @@ use std::test::Fail;
 use tests_support::{check_same, check_that, filled};
 
 /// So many ranges of two keys, each with a key between it and the next. The first goes to `end`.
-fn spread<Q: Kind<R>, R: KeyRange<Key = u32>>(
+fn spread<S: Store<Range: KeyRange<Key = u32>, Value = u8, Alloc = Global> + Drop>(
     alloc: Global,
     count: u16,
     end: u8,
-) -> Result<Map<SortedVec<Q, R, u8, Global>>, Fail> {
+) -> Result<Map<S>, Fail> {
     let mut map = Map::new_with_step_fns(alloc);
     for place in 0..u32::from(count) {
         let start = 3 * place;
@@ -35,9 +36,9 @@ fn check_asks<Q: Kind<R>, R: KeyRange<Key = u32>>(
     end: u8,
     (len, most): (u16, usize),
 ) -> Result<(), Fail> {
-    let map = spread::<Q, R>(alloc, len, end)?;
+    let map = spread::<SortedVec<Q, R, u8, Global>>(alloc, len, end)?;
     let pairs = map.iter().as_slice();
-    check_same(map.len(), usize::from(len))?;
+    check_same(pairs.len(), usize::from(len))?;
     let behind = 3 * u32::from(len);
     for key in 0..behind + 1 {
         let (pair, asked) = covering::<Q, R, u8>(pairs, &key);

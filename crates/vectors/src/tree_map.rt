@@ -1,3 +1,3 @@
 //! Rows over half-open ranges that are kept in a tree: what `map` doesn't compare of both.
 
-mod runs;
+pub mod runs;

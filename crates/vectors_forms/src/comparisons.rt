@@ -7,12 +7,12 @@
 //! That equal ones hash alike is proved. That others mostly do not is shown here: a container that
 //! feeds less than its pairs would still hash alike where it is equal.
 
+use crate::made::Made;
 use folding::Folding;
 use std::alloc::Global;
 use std::cmp::Ordering;
 use std::hash::{Hash, Hasher};
 use std::test::Fail;
-use tested::Tested;
 use tests_support::{check_that, lists, rows, two_parts};
 
 mod folding;
@@ -20,10 +20,9 @@ mod laws;
 mod maps;
 mod sets;
 mod tallied;
-mod tested;
 
 /// Compares the containers of each row of a table.
-fn check_rows<M: Tested + Ord + Hash + Drop>(alloc: Global, table: &str) -> Result<(), Fail>
+fn check_rows<M: Made + Ord + Hash + Drop>(alloc: Global, table: &str) -> Result<(), Fail>
     requires { M.clones_are_faithful }
 {
     for row in rows(alloc, table)? {
@@ -34,18 +33,28 @@ fn check_rows<M: Tested + Ord + Hash + Drop>(alloc: Global, table: &str) -> Resu
 }
 
 /// Whether containers are as a row says.
-fn is_so<M: Tested + Ord + Hash + Drop>(alloc: Global, row: &str) -> Result<bool, Fail>
+fn is_so<M: Made + Ord + Hash + Drop>(alloc: Global, row: &str) -> Result<bool, Fail>
     requires { M.clones_are_faithful }
 {
     let (name, part) = two_parts(row)?;
-    let lists = lists(alloc, part)?;
-    let made = M::make_all(alloc, lists.as_slice())?;
-    let again = M::make_all(alloc, lists.as_slice())?;
+    let made: Vec<M> = made_all(alloc, part)?;
+    let again: Vec<M> = made_all(alloc, part)?;
     match name {
         "ascending" => Ok(are_ascending(made.as_slice(), again.as_slice())),
         "hashed" => Ok(are_hashed(made.as_slice())),
         _ => Err(Fail::new(format_args!("no row is called {name}"))),
     }
+}
+
+/// Makes the containers of a row.
+fn made_all<M: Made + Drop>(alloc: Global, part: &str) -> Result<Vec<M>, Fail>
+    requires { M.clones_are_faithful }
+{
+    let mut made = Vec::new(alloc);
+    for list in lists(alloc, part)? {
+        made.push(M::made_of(alloc, list)?)?;
+    }
+    Ok(made)
 }
 
 /// Whether containers lie in ascending order, and so do the same ones made again: each of the first

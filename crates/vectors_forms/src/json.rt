@@ -5,16 +5,16 @@
 //! `any` or `canonical`, and is answered the debug text of the container. So neither takes the other's
 //! word. The answer may also be the debug text of an error.
 ghost use Rattle.std.specs.Prelude.{◌≡◌, ◌<◌, ◌^◌, ℕ, IfOk, Ok as OkWord};
-ghost use Rattle.rangemap.specs.Clones.{KeysCloneFaithfully, ValuesCloneFaithfully};
 ghost use Rattle.serde_json.specs.Data.{number, unsigned};
 ghost use Rattle.serde_json.specs.View.{view};
 
+use crate::made::Made;
 use rangemap::{Form, ReadError, WriteError};
 use serde_json::Value;
 use std::alloc::{AllocError, Global};
 use std::fmt::Debug;
 use std::test::Fail;
-use tests_support::{InRows, check_same, first_word, made_of, rows, two_parts};
+use tests_support::{check_same, first_word, rows, two_parts};
 
 mod long;
 mod maps;
@@ -88,9 +88,8 @@ fn read_text(part: &Value) -> Result<String, Fault> {
 }
 
 /// Compares the answer of each row of a table.
-fn check_rows<M: InRows<Alloc = Global> + InJson>(alloc: Global, table: &str) -> Result<(), Fail>
-    requires faithful_keys { KeysCloneFaithfully M.Range.Key.is_clone M.Range.Key.cmp }
-    requires faithful_values { ValuesCloneFaithfully M.Value.is_clone M.Value.eq }
+fn check_rows<M: Made + InJson>(alloc: Global, table: &str) -> Result<(), Fail>
+    requires { M.clones_are_faithful }
 {
     for row in rows(alloc, table)? {
         let (question, answer) = two_parts(row)?;
@@ -101,16 +100,12 @@ fn check_rows<M: InRows<Alloc = Global> + InJson>(alloc: Global, table: &str) ->
 }
 
 /// What a question is answered.
-fn answer_to<M: InRows<Alloc = Global> + InJson>(
-    alloc: Global,
-    question: &str,
-) -> Result<String, Fail>
-    requires faithful_keys { KeysCloneFaithfully M.Range.Key.is_clone M.Range.Key.cmp }
-    requires faithful_values { ValuesCloneFaithfully M.Value.is_clone M.Value.eq }
+fn answer_to<M: Made + InJson>(alloc: Global, question: &str) -> Result<String, Fail>
+    requires { M.clones_are_faithful }
 {
     let (name, operand) = first_word(question);
     match name {
-        "written" => written(alloc, &made_of::<M>(alloc, operand)?),
+        "written" => written(alloc, &M::made_of(alloc, operand)?),
         "any" => pairs_read::<M>(alloc, Form::Any, operand),
         "canonical" => pairs_read::<M>(alloc, Form::Canonical, operand),
         _ => Err(Fail::new("no row asks so")),

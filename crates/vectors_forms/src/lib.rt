@@ -11,4 +11,6 @@ mod json;
 #[cfg(test)]
 mod macros;
 #[cfg(test)]
+mod made;
+#[cfg(test)]
 mod text;

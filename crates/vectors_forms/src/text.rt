@@ -8,7 +8,7 @@ use rangemap_chunked::Chunks;
 use rangemap_core::closed::Closed;
 use rangemap_core::half_open::HalfOpen;
 use rangemap_core::key_range::KeyRange;
-use rangemap_core::kind::OwnSteps;
+use rangemap_core::kind::Kind;
 use rangemap_core::store::Store;
 use rangemap_sorted::SortedVec;
 use rangemap_tree::Tree;
@@ -20,13 +20,7 @@ use tests_support::check_same;
 
 mod laws;
 
-/// The pairs of a map of half-open ranges.
-type Sorted<K, V> = SortedVec<HalfOpen, Range<K>, V, Global>;
-
-/// Those of a map of closed ranges.
-type SortedClosed<K, V> = SortedVec<Closed<K>, RangeInclusive<K>, V, Global>;
-
-/// Those of a map in a tree.
+/// The pairs of a map in a tree.
 type InTree<K, V> = Tree<K, V, Global>;
 
 /// Those of a map in chunks of up to two pairs.
@@ -49,7 +43,7 @@ fn check_pairs<S, const N: usize>(
 ) -> Result<(), Fail>
 where
     S: Store<Range: KeyRange<Key: Debug> + Debug, Value: Debug, Alloc = Global> + Drop,
-    S::Kind: OwnSteps<S::Range>,
+    S::Kind: Kind<S::Range, Steps = <S::Range as KeyRange>::Key>,
     requires non_empty { AreNonEmpty S.Kind.kind pairs }
     requires faithful_keys { KeysCloneFaithfully S.Range.Key.is_clone S.Range.Key.cmp }
     requires faithful_values { ValuesCloneFaithfully S.Value.is_clone S.Value.eq }
@@ -58,26 +52,44 @@ where
     check_texts(alloc, &map, text, lines)
 }
 
+/// The same of a map in a sorted vector.
+fn check_sorted<Q, R, V, const N: usize>(
+    alloc: Global,
+    pairs: [(R, V); N],
+    text: &str,
+    lines: &str,
+) -> Result<(), Fail>
+where
+    Q: Kind<R, Steps = R::Key>,
+    R: KeyRange<Key: Debug> + Debug,
+    V: Eq + Clone + Debug,
+    requires non_empty { AreNonEmpty Q.kind pairs }
+    requires faithful_keys { KeysCloneFaithfully R.Key.is_clone R.Key.cmp }
+    requires faithful_values { ValuesCloneFaithfully V.is_clone V.eq }
+{
+    check_pairs::<SortedVec<Q, R, V, Global>, N>(alloc, pairs, text, lines)
+}
+
 #[test]
 fn maps_are_written_in_braces(rt: HostRuntime) -> Result<(), Fail> {
-    check_pairs::<Sorted<u32, &str>, 2>(
+    check_sorted::<HalfOpen, Range<u32>, &str, 2>(
         rt.alloc(),
         [(0..100u32, "abc"), (200..300, "ghi")],
         "{0..100: \"abc\", 200..300: \"ghi\"}",
         "{\n    0..100: \"abc\",\n    200..300: \"ghi\",\n}",
     )?;
-    check_pairs::<Sorted<u32, bool>, 0>(rt.alloc(), [], "{}", "{}")
+    check_sorted::<HalfOpen, Range<u32>, bool, 0>(rt.alloc(), [], "{}", "{}")
 }
 
 #[test]
 fn keys_and_values_have_their_own_text(rt: HostRuntime) -> Result<(), Fail> {
-    check_pairs::<Sorted<i8, u16>, 1>(
+    check_sorted::<HalfOpen, Range<i8>, u16, 1>(
         rt.alloc(),
         [(-3..0i8, 7u16)],
         "{-3..0: 7}",
         "{\n    -3..0: 7,\n}",
     )?;
-    check_pairs::<Sorted<char, Option<bool>>, 2>(
+    check_sorted::<HalfOpen, Range<char>, Option<bool>, 2>(
         rt.alloc(),
         [('a'..'f', Some(true)), ('x'..'z', None)],
         "{'a'..'f': Some(true), 'x'..'z': None}",
@@ -87,19 +99,19 @@ fn keys_and_values_have_their_own_text(rt: HostRuntime) -> Result<(), Fail> {
 
 #[test]
 fn closed_maps_are_written_in_braces(rt: HostRuntime) -> Result<(), Fail> {
-    check_pairs::<SortedClosed<u32, &str>, 2>(
+    check_sorted::<Closed<u32>, RangeInclusive<u32>, &str, 2>(
         rt.alloc(),
         [(0..=100u32, "abc"), (200..=300, "ghi")],
         "{0..=100: \"abc\", 200..=300: \"ghi\"}",
         "{\n    0..=100: \"abc\",\n    200..=300: \"ghi\",\n}",
     )?;
-    check_pairs::<SortedClosed<u32, char>, 1>(
+    check_sorted::<Closed<u32>, RangeInclusive<u32>, char, 1>(
         rt.alloc(),
         [(0..=100u32, 'a')],
         "{0..=100: 'a'}",
         "{\n    0..=100: 'a',\n}",
     )?;
-    check_pairs::<SortedClosed<u32, bool>, 0>(rt.alloc(), [], "{}", "{}")
+    check_sorted::<Closed<u32>, RangeInclusive<u32>, bool, 0>(rt.alloc(), [], "{}", "{}")
 }
 
 #[test]

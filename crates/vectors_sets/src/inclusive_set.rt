@@ -1,6 +1,6 @@
 //! Rows over sets of closed ranges, which those in a sorted vector and in chunks pass.
 
-use crate::tables::check_closed;
+use crate::sets::check_closed;
 use std::test::Fail;
 
 mod collections;

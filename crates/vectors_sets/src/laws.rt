@@ -1,26 +1,33 @@
 //! The laws of `|` and `&`, run on sets of either kind.
 ghost use Rattle.rangemap.specs.Clones.{KeysCloneFaithfully};
 
+use crate::asked::Asked;
+use crate::sets::{ask_chunks, ask_vector};
 use rangemap::laws::sets::{Operator, absorbs, associates, commutes, distributes, is_idempotent};
 use rangemap::range_set::Set;
-use rangemap_chunked::Chunks;
 use rangemap_core::closed::Closed;
 use rangemap_core::half_open::HalfOpen;
 use rangemap_core::key_range::KeyRange;
-use rangemap_core::kind::OwnSteps;
+use rangemap_core::kind::Kind;
 use rangemap_core::store::Store;
-use rangemap_sorted::SortedVec;
 use std::alloc::Global;
 use std::fmt::Debug;
 use std::ops::{Range, RangeInclusive};
 use std::test::Fail;
-use tests_support::{FromEnds, InRows, Word, check_text, made_of};
+use tests_support::{Word, check_text, set_of, three_lists};
 
-/// A store of ranges in a sorted vector.
-type Sorted<Q, R> = SortedVec<Q, R, (), Global>;
-
-/// A store of ranges in chunks of up to two.
-type InChunks<Q, R> = Chunks<Q, R, (), Global, 2>;
+/// Three sets, and the texts of what laws of theirs make. Semicolons stand between three texts.
+#[derive(Drop)]
+pub struct Laws<'t> {
+    /// The second set goes on where the first ends, and the third has keys of both.
+    pub sets: &'t str,
+    /// The two sets of each law that gives two, for `|`.
+    pub unions: &'t str,
+    /// The same for `&`.
+    pub intersections: &'t str,
+    /// The first set, which the other laws give again.
+    pub first: &'t str,
+}
 
 /// Three sets: the second goes on where the first ends, and the third has keys of both.
 #[derive(Drop)]
@@ -30,33 +37,30 @@ struct Three<'a, S> {
     third: &'a S,
 }
 
-/// Runs the laws that give two sets for `|`, and then for `&`, and compares their texts.
+/// Runs the laws of an operator that give two sets, and compares their texts. How it distributes is
+/// run on sets of its own.
 fn check_sides<S: Store<Range: Debug, Value = (), Alloc = Global> + Drop>(
     alloc: Global,
+    operator: &Operator,
     sets: &Three<'_, Set<S>>,
-    unions: [&str; 3],
-    intersections: [&str; 3],
+    distributed: &Three<'_, Set<S>>,
+    texts: &str,
 ) -> Result<(), Fail>
 where
     <S::Range as KeyRange>::Key: Debug,
-    S::Kind: OwnSteps<S::Range>,
+    S::Kind: Kind<S::Range, Steps = <S::Range as KeyRange>::Key>,
     requires { KeysCloneFaithfully S.Range.Key.is_clone S.Range.Key.cmp }
 {
     let (first, second, third) = (sets.first, sets.second, sets.third);
-    let [commuted, associated, distributed] = unions;
-    let sides = commutes(&Operator::Union, first, second)?;
-    check_text(alloc, &sides, commuted)?;
-    let sides = associates(&Operator::Union, first, second, third)?;
-    check_text(alloc, &sides, associated)?;
-    let sides = distributes(&Operator::Union, first, second, third)?;
-    check_text(alloc, &sides, distributed)?;
-    let [commuted, associated, distributed] = intersections;
-    let sides = commutes(&Operator::Intersection, first, third)?;
-    check_text(alloc, &sides, commuted)?;
-    let sides = associates(&Operator::Intersection, first, third, second)?;
-    check_text(alloc, &sides, associated)?;
-    let sides = distributes(&Operator::Intersection, third, first, second)?;
-    check_text(alloc, &sides, distributed)
+    let (commuted, associated, made) = three_lists(texts)?;
+    check_text(alloc, &commutes(operator, first, second)?, commuted)?;
+    check_text(
+        alloc,
+        &associates(operator, first, second, third)?,
+        associated,
+    )?;
+    let (first, second, third) = (distributed.first, distributed.second, distributed.third);
+    check_text(alloc, &distributes(operator, first, second, third)?, made)
 }
 
 /// Runs the laws that give the first set again, for `|` and for `&`, and compares its text.
@@ -67,7 +71,7 @@ fn check_first<S: Store<Range: Debug, Value = (), Alloc = Global> + Drop>(
 ) -> Result<(), Fail>
 where
     <S::Range as KeyRange>::Key: Debug,
-    S::Kind: OwnSteps<S::Range>,
+    S::Kind: Kind<S::Range, Steps = <S::Range as KeyRange>::Key>,
     requires { KeysCloneFaithfully S.Range.Key.is_clone S.Range.Key.cmp }
 {
     check_text(alloc, &is_idempotent(&Operator::Union, sets.first)?, first)?;
@@ -89,96 +93,94 @@ where
 }
 
 /// Makes three sets, and runs all laws on them.
-fn check_three<S: Store<Range: FromEnds + Debug, Value = (), Alloc = Global> + Drop>(
+pub fn check_laws<S: Store<Range: Debug, Value = (), Alloc = Global> + Drop>(
     alloc: Global,
-    sets: [&str; 3],
-    unions: [&str; 3],
-    intersections: [&str; 3],
-    text: &str,
+    laws: &Laws<'_>,
 ) -> Result<(), Fail>
 where
     <S::Range as KeyRange>::Key: Word<Global> + Debug,
-    S::Kind: OwnSteps<S::Range>,
-    Set<S>: InRows<Range = S::Range, Value = (), Alloc = Global, Kind = S::Kind>,
+    S::Kind: Kind<S::Range, Steps = <S::Range as KeyRange>::Key>,
     requires { KeysCloneFaithfully S.Range.Key.is_clone S.Range.Key.cmp }
 {
-    let [first, second, third] = sets;
-    let first: Set<S> = made_of(alloc, first)?;
-    let second: Set<S> = made_of(alloc, second)?;
-    let third: Set<S> = made_of(alloc, third)?;
+    let (first, second, third) = three_lists(laws.sets)?;
+    let first = set_of::<S>(alloc, first)?;
+    let second = set_of::<S>(alloc, second)?;
+    let third = set_of::<S>(alloc, third)?;
     let sets = Three {
         first: &first,
         second: &second,
         third: &third,
     };
-    check_sides(alloc, &sets, unions, intersections)?;
-    check_first(alloc, &sets, text)
+    check_sides(alloc, &Operator::Union, &sets, &sets, laws.unions)?;
+    // The first two have no key in common, so in `&` the third stands between them.
+    let crossed = Three {
+        first: &first,
+        second: &third,
+        third: &second,
+    };
+    let distributed = Three {
+        first: &third,
+        second: &first,
+        third: &second,
+    };
+    check_sides(
+        alloc,
+        &Operator::Intersection,
+        &crossed,
+        &distributed,
+        laws.intersections,
+    )?;
+    check_first(alloc, &sets, laws.first)
 }
 
 #[test]
 fn operators_keep_their_laws(rt: HostRuntime) -> Result<(), Fail> {
-    check_three::<Sorted<HalfOpen, Range<u32>>>(
-        rt.alloc(),
-        ["0..5", "5..10", "3..7"],
-        [
-            "({0..10}, {0..10})",
-            "({0..10}, {0..10})",
-            "({0..7}, {0..7})",
-        ],
-        ["({3..5}, {3..5})", "({}, {})", "({3..7}, {3..7})"],
-        "{0..5}",
-    )
+    let laws = Laws {
+        sets: "0..5; 5..10; 3..7",
+        unions: "({0..10}, {0..10}); ({0..10}, {0..10}); ({0..7}, {0..7})",
+        intersections: "({3..5}, {3..5}); ({}, {}); ({3..7}, {3..7})",
+        first: "{0..5}",
+    };
+    ask_vector::<HalfOpen, Range<u32>>(rt.alloc(), &Asked::Laws(laws))
 }
 
 #[test]
 fn operators_of_closed_sets_keep_their_laws(rt: HostRuntime) -> Result<(), Fail> {
-    check_three::<Sorted<Closed<u32>, RangeInclusive<u32>>>(
-        rt.alloc(),
-        ["0..=4", "5..=9", "3..=6"],
-        [
-            "({0..=9}, {0..=9})",
-            "({0..=9}, {0..=9})",
-            "({0..=6}, {0..=6})",
-        ],
-        ["({3..=4}, {3..=4})", "({}, {})", "({3..=6}, {3..=6})"],
-        "{0..=4}",
-    )
+    let laws = Laws {
+        sets: "0..=4; 5..=9; 3..=6",
+        unions: "({0..=9}, {0..=9}); ({0..=9}, {0..=9}); ({0..=6}, {0..=6})",
+        intersections: "({3..=4}, {3..=4}); ({}, {}); ({3..=6}, {3..=6})",
+        first: "{0..=4}",
+    };
+    ask_vector::<Closed<u32>, RangeInclusive<u32>>(rt.alloc(), &Asked::Laws(laws))
 }
 
 #[test]
 fn operators_of_sets_in_chunks_keep_their_laws(rt: HostRuntime) -> Result<(), Fail> {
-    check_three::<InChunks<HalfOpen, Range<u32>>>(
-        rt.alloc(),
-        ["0..2, 4..6, 8..10, 12..14", "5..9, 20..22", "1..13"],
-        [
-            "({0..2, 4..10, 12..14, 20..22}, {0..2, 4..10, 12..14, 20..22})",
-            "({0..14, 20..22}, {0..14, 20..22})",
-            "({0..2, 4..10, 12..14}, {0..2, 4..10, 12..14})",
-        ],
-        [
-            "({1..2, 4..6, 8..10, 12..13}, {1..2, 4..6, 8..10, 12..13})",
-            "({5..6, 8..9}, {5..6, 8..9})",
-            "({1..2, 4..10, 12..13}, {1..2, 4..10, 12..13})",
-        ],
-        "{0..2, 4..6, 8..10, 12..14}",
-    )
+    let laws = Laws {
+        sets: "0..2, 4..6, 8..10, 12..14; 5..9, 20..22; 1..13",
+        unions: "({0..2, 4..10, 12..14, 20..22}, {0..2, 4..10, 12..14, 20..22}); \
+            ({0..14, 20..22}, {0..14, 20..22}); \
+            ({0..2, 4..10, 12..14}, {0..2, 4..10, 12..14})",
+        intersections: "({1..2, 4..6, 8..10, 12..13}, {1..2, 4..6, 8..10, 12..13}); \
+            ({5..6, 8..9}, {5..6, 8..9}); \
+            ({1..2, 4..10, 12..13}, {1..2, 4..10, 12..13})",
+        first: "{0..2, 4..6, 8..10, 12..14}",
+    };
+    ask_chunks::<HalfOpen, Range<u32>>(rt.alloc(), &Asked::Laws(laws))
 }
 
 #[test]
 fn operators_of_closed_sets_in_chunks_keep_their_laws(rt: HostRuntime) -> Result<(), Fail> {
-    check_three::<InChunks<Closed<u32>, RangeInclusive<u32>>>(
-        rt.alloc(),
-        ["0..=1, 4..=5, 8..=9, 12..=13", "5..=8, 20..=21", "1..=12"],
-        [
-            "({0..=1, 4..=9, 12..=13, 20..=21}, {0..=1, 4..=9, 12..=13, 20..=21})",
-            "({0..=13, 20..=21}, {0..=13, 20..=21})",
-            "({0..=1, 4..=9, 12..=13}, {0..=1, 4..=9, 12..=13})",
-        ],
-        [
-            "({1..=1, 4..=5, 8..=9, 12..=12}, {1..=1, 4..=5, 8..=9, 12..=12})",
-            "({5..=5, 8..=8}, {5..=5, 8..=8})",
-            "({1..=1, 4..=9, 12..=12}, {1..=1, 4..=9, 12..=12})",
-        ],
-        "{0..=1, 4..=5, 8..=9, 12..=13}",
-    )
+    let laws = Laws {
+        sets: "0..=1, 4..=5, 8..=9, 12..=13; 5..=8, 20..=21; 1..=12",
+        unions: "({0..=1, 4..=9, 12..=13, 20..=21}, {0..=1, 4..=9, 12..=13, 20..=21}); \
+            ({0..=13, 20..=21}, {0..=13, 20..=21}); \
+            ({0..=1, 4..=9, 12..=13}, {0..=1, 4..=9, 12..=13})",
+        intersections: "({1..=1, 4..=5, 8..=9, 12..=12}, {1..=1, 4..=5, 8..=9, 12..=12}); \
+            ({5..=5, 8..=8}, {5..=5, 8..=8}); \
+            ({1..=1, 4..=9, 12..=12}, {1..=1, 4..=9, 12..=12})",
+        first: "{0..=1, 4..=5, 8..=9, 12..=13}",
+    };
+    ask_chunks::<Closed<u32>, RangeInclusive<u32>>(rt.alloc(), &Asked::Laws(laws))
 }

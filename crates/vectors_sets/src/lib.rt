@@ -1,6 +1,10 @@
 //! The worked rows of sets, laid out as those of maps in `vectors`, and the laws of `|` and `&`.
+//!
+//! `sets` names each type of set once, for what `lent` and `asked` say that a test asks of any.
 #![tactic(auto)]
 
+#[cfg(test)]
+mod asked;
 #[cfg(test)]
 mod inclusive_set;
 #[cfg(test)]
@@ -8,8 +12,10 @@ mod iterators;
 #[cfg(test)]
 mod laws;
 #[cfg(test)]
+mod lent;
+#[cfg(test)]
 mod operations;
 #[cfg(test)]
 mod set;
 #[cfg(test)]
-mod tables;
+mod sets;

@@ -3,7 +3,7 @@
 mod collections;
 mod replays;
 
-use crate::tables::check_half_open;
+use crate::sets::check_half_open;
 use std::test::Fail;
 
 // A removal cuts what it meets, and equality forgets the calls.

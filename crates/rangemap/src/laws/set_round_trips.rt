@@ -10,7 +10,7 @@ ghost use Rattle.rangemap.specs.Ranges.{same_ranges, unit_eq, with_unit};
 
 use crate::range_set::Set;
 use rangemap_core::key_range::KeyRange;
-use rangemap_core::kind::OwnSteps;
+use rangemap_core::kind::Kind;
 use rangemap_core::store::{HandsOver, Store};
 use rangemap_formats::json::{Form, WriteError};
 use rangemap_maps::laws::round_trips::for_memory;
@@ -23,7 +23,7 @@ pub fn from_iter_of_into_iter_is_equal<
     T: Store<Range = S::Range, Value = (), Kind = S::Kind> + Drop,
 >(alloc: T::Alloc, set: Set<S>) -> Result<Set<T>, AllocError>
 where
-    S::Kind: OwnSteps<S::Range>,
+    S::Kind: Kind<S::Range, Steps = <S::Range as KeyRange>::Key>,
     requires faithful_keys { KeysCloneFaithfully S.Range.Key.is_clone S.Range.Key.cmp }
     ensures { IfOk result (λ again. IsTrue (same_ranges S.Kind.kind set again)) }
 {
@@ -54,7 +54,7 @@ pub fn reading_what_was_written_is_equal<
     read_key: RK,
 ) -> Result<(Value, Set<T>), WriteError<E>>
 where
-    S::Kind: OwnSteps<S::Range>,
+    S::Kind: Kind<S::Range, Steps = <S::Range as KeyRange>::Key>,
     requires writes_keys { WK.IsAlwaysCallable write_key }
     requires reads_keys { RK.IsAlwaysCallable read_key }
     requires keys_read_back { KeysReadBack S.Kind.kind (FnReturnsAt WK.Fn write_key) (FnReturnsAt RK.Fn read_key) }

@@ -11,7 +11,7 @@ ghost use Rattle.rangemap.specs.Ranges.{IsCanonOfPoints, covers, same_ranges};
 pub use crate::operator::Operator;
 use crate::range_set::Set;
 use rangemap_core::key_range::KeyRange;
-use rangemap_core::kind::{Kind, OwnSteps};
+use rangemap_core::kind::Kind;
 use rangemap_core::store::Store;
 pub use rangemap_unions::laws::closed_operations;
 use std::alloc::AllocError;
@@ -27,7 +27,7 @@ pub fn commutes<S: Store<Value = ()> + Drop>(
 ) -> Sides<Set<S>>
 where
     S::Alloc: Clone,
-    S::Kind: OwnSteps<S::Range>,
+    S::Kind: Kind<S::Range, Steps = <S::Range as KeyRange>::Key>,
     requires faithful_keys { KeysCloneFaithfully S.Range.Key.is_clone S.Range.Key.cmp }
     ensures left { IfOk result (λ sets. IsCanonOfPoints S.Kind.kind (joined operator.now (covers S.Kind.kind first.now) (covers S.Kind.kind second.now)) sets.0) }
     ensures right { IfOk result (λ sets. IsCanonOfPoints S.Kind.kind (joined operator.now (covers S.Kind.kind second.now) (covers S.Kind.kind first.now)) sets.1) }
@@ -47,7 +47,7 @@ pub fn associates<S: Store<Value = ()> + Drop>(
 ) -> Sides<Set<S>>
 where
     S::Alloc: Clone,
-    S::Kind: OwnSteps<S::Range>,
+    S::Kind: Kind<S::Range, Steps = <S::Range as KeyRange>::Key>,
     requires faithful_keys { KeysCloneFaithfully S.Range.Key.is_clone S.Range.Key.cmp }
     ensures left { IfOk result (λ sets. IsCanonOfPoints S.Kind.kind (joined operator.now (joined operator.now (covers S.Kind.kind first.now) (covers S.Kind.kind second.now)) (covers S.Kind.kind third.now)) sets.0) }
     ensures right { IfOk result (λ sets. IsCanonOfPoints S.Kind.kind (joined operator.now (covers S.Kind.kind first.now) (joined operator.now (covers S.Kind.kind second.now) (covers S.Kind.kind third.now))) sets.1) }
@@ -69,7 +69,7 @@ pub fn is_idempotent<S: Store<Value = ()> + Drop>(
 ) -> Result<Set<S>, AllocError>
 where
     S::Alloc: Clone,
-    S::Kind: OwnSteps<S::Range>,
+    S::Kind: Kind<S::Range, Steps = <S::Range as KeyRange>::Key>,
     requires faithful_keys { KeysCloneFaithfully S.Range.Key.is_clone S.Range.Key.cmp }
     ensures made { IfOk result (IsCanonOfPoints S.Kind.kind (joined operator.now (covers S.Kind.kind first.now) (covers S.Kind.kind first.now))) }
     ensures equal { IfOk result (λ set. IsTrue (same_ranges S.Kind.kind set first.now)) }
@@ -87,7 +87,7 @@ pub fn absorbs<S: Store<Value = ()> + Drop>(
 ) -> Result<Set<S>, AllocError>
 where
     S::Alloc: Clone,
-    S::Kind: OwnSteps<S::Range>,
+    S::Kind: Kind<S::Range, Steps = <S::Range as KeyRange>::Key>,
     requires faithful_keys { KeysCloneFaithfully S.Range.Key.is_clone S.Range.Key.cmp }
     ensures made { IfOk result (IsCanonOfPoints S.Kind.kind (joined operator.now (covers S.Kind.kind first.now) (joined (other_of operator.now) (covers S.Kind.kind first.now) (covers S.Kind.kind second.now)))) }
     ensures equal { IfOk result (λ set. IsTrue (same_ranges S.Kind.kind set first.now)) }
@@ -108,7 +108,7 @@ pub fn distributes<S: Store<Value = ()> + Drop>(
 ) -> Sides<Set<S>>
 where
     S::Alloc: Clone,
-    S::Kind: OwnSteps<S::Range>,
+    S::Kind: Kind<S::Range, Steps = <S::Range as KeyRange>::Key>,
     requires faithful_keys { KeysCloneFaithfully S.Range.Key.is_clone S.Range.Key.cmp }
     ensures left { IfOk result (λ sets. IsCanonOfPoints S.Kind.kind (joined operator.now (covers S.Kind.kind first.now) (joined (other_of operator.now) (covers S.Kind.kind second.now) (covers S.Kind.kind third.now))) sets.0) }
     ensures right { IfOk result (λ sets. IsCanonOfPoints S.Kind.kind (joined (other_of operator.now) (joined operator.now (covers S.Kind.kind first.now) (covers S.Kind.kind second.now)) (joined operator.now (covers S.Kind.kind first.now) (covers S.Kind.kind third.now))) sets.1) }

@@ -9,7 +9,7 @@ ghost use Rattle.rangemap.specs.SetHistories.{SetStep};
 use super::Set;
 use crate::operator::Operator;
 use rangemap_core::key_range::KeyRange;
-use rangemap_core::kind::{Kind, OwnSteps};
+use rangemap_core::kind::Kind;
 use rangemap_core::store::Store;
 use rangemap_replay::calls::Change;
 use rangemap_replay::replay::{CallOn, add};
@@ -43,7 +43,7 @@ pub enum SetCall<R, A: Allocator> {
 impl<S: Store<Value = ()> + Drop> CallOn<Set<S>> for SetCall<S::Range, S::Alloc>
 where
     S::Alloc: Clone,
-    S::Kind: OwnSteps<S::Range>,
+    S::Kind: Kind<S::Range, Steps = <S::Range as KeyRange>::Key>,
 {
     ghost use Rattle.rangemap.specs.SetHistories.{SetHasNonEmptyRanges, SetStep};
 
@@ -87,7 +87,7 @@ fn add_joined<S: Store<Value = ()> + Drop>(
 ) -> bool
 where
     S::Alloc: Clone,
-    S::Kind: OwnSteps<S::Range>,
+    S::Kind: Kind<S::Range, Steps = <S::Range as KeyRange>::Key>,
     requires room { vec_len sets.old < vec_capacity sets.old }
     requires faithful_keys { KeysCloneFaithfully S.Range.Key.is_clone S.Range.Key.cmp }
     ensures made { Makes S.Kind.kind (unit_eq S.Kind.kind) (with_unit S.Kind.kind) (SetStep {A = S.Alloc} S.Kind.kind) sets.old.items (joining operator.now left right) result sets.new.items }

@@ -7,7 +7,7 @@ ghost use Rattle.rangemap.specs.Sets.{Adds, AreNonEmptyRanges, GivesNonEmptyRang
 
 use super::Set;
 use rangemap_core::key_range::KeyRange;
-use rangemap_core::kind::{Kind, OwnSteps};
+use rangemap_core::kind::Kind;
 use rangemap_core::store::{HandsOver, Lends, Store};
 use rangemap_unions::{IntoRanges, Ranges};
 use std::alloc::AllocError;
@@ -42,7 +42,7 @@ where
 
 impl<S: Store<Value = ()>> Set<S>
 where
-    S::Kind: OwnSteps<S::Range>,
+    S::Kind: Kind<S::Range, Steps = <S::Range as KeyRange>::Key>,
 {
     /// Inserts the items of `iter` in the order in which they come.
     ///
@@ -71,7 +71,7 @@ where
 
 impl<S: Store<Value = ()> + Drop> Set<S>
 where
-    S::Kind: OwnSteps<S::Range>,
+    S::Kind: Kind<S::Range, Steps = <S::Range as KeyRange>::Key>,
 {
     /// Returns the set of the items of `iter`, inserted in the order in which they come, in memory
     /// of `alloc`.
@@ -121,7 +121,7 @@ where
 
 impl<S: HandsOver + Store<Value = ()>> IntoIterator for Set<S>
 where
-    S::Kind: OwnSteps<S::Range>,
+    S::Kind: Kind<S::Range, Steps = <S::Range as KeyRange>::Key>,
 {
     ghost use Rattle.std.specs.Prelude.{◌≡◌};
     ghost use Rattle.rangemap.specs.Sets.{IsCanonicalSet};

@@ -7,7 +7,7 @@ ghost use Rattle.rangemap.specs.Ranges.{unit_eq, with_unit};
 
 use super::Set;
 use rangemap_core::key_range::KeyRange;
-use rangemap_core::kind::OwnSteps;
+use rangemap_core::kind::Kind;
 use rangemap_core::store::Store;
 use rangemap_formats::json::{Form, ReadError, WriteError, read_set, write_set};
 use serde_json::Value;
@@ -16,7 +16,7 @@ use std::marker::PhantomData;
 
 impl<S: Store<Value = ()>> Set<S>
 where
-    S::Kind: OwnSteps<S::Range>,
+    S::Kind: Kind<S::Range, Steps = <S::Range as KeyRange>::Key>,
 {
     /// Returns the JSON form of the set: the list of `[start, end]` of its ranges, in order, each
     /// key as the caller's function writes it, in memory of `alloc`.
@@ -49,7 +49,7 @@ where
 
 impl<S: Store<Value = ()> + Drop> Set<S>
 where
-    S::Kind: OwnSteps<S::Range>,
+    S::Kind: Kind<S::Range, Steps = <S::Range as KeyRange>::Key>,
 {
     /// Returns the set that a value of the JSON form stands for: the ranges that the caller's
     /// function reads of its entries, inserted in order, in memory of `alloc`.

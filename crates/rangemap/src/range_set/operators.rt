@@ -4,7 +4,7 @@ ghost use Rattle.rangemap.specs.Sets.{AreCommon, AreHulls, CoverEither};
 
 use super::Set;
 use rangemap_core::key_range::KeyRange;
-use rangemap_core::kind::{Kind, OwnSteps};
+use rangemap_core::kind::Kind;
 use rangemap_core::store::{Lends, Store};
 use rangemap_unions::inserts::{Intersecting, Uniting};
 use rangemap_unions::{Intersection, Union};
@@ -56,7 +56,7 @@ where
 impl<'a, S: Store<Value = ()> + Drop> BitOr<&'a Set<S>> for &'a Set<S>
 where
     S::Alloc: Clone,
-    S::Kind: OwnSteps<S::Range>,
+    S::Kind: Kind<S::Range, Steps = <S::Range as KeyRange>::Key>,
 {
     ghost use Rattle.std.specs.Prelude.{IfOk};
     ghost use Rattle.rangemap.specs.Clones.{KeysCloneFaithfully};
@@ -89,7 +89,7 @@ where
 impl<'a, S: Store<Value = ()> + Drop> BitAnd<&'a Set<S>> for &'a Set<S>
 where
     S::Alloc: Clone,
-    S::Kind: OwnSteps<S::Range>,
+    S::Kind: Kind<S::Range, Steps = <S::Range as KeyRange>::Key>,
 {
     ghost use Rattle.std.specs.Prelude.{IfOk};
     ghost use Rattle.rangemap.specs.Clones.{KeysCloneFaithfully};

@@ -2,7 +2,7 @@
 
 use super::Set;
 use rangemap_core::key_range::KeyRange;
-use rangemap_core::kind::OwnSteps;
+use rangemap_core::kind::Kind;
 use rangemap_core::store::Store;
 use rangemap_formats::text::write_set;
 use std::fmt;
@@ -11,7 +11,7 @@ use std::fmt::{Debug, Formatter};
 impl<S: Store<Range: Debug, Value = ()>> Debug for Set<S>
 where
     <S::Range as KeyRange>::Key: Debug,
-    S::Kind: OwnSteps<S::Range>,
+    S::Kind: Kind<S::Range, Steps = <S::Range as KeyRange>::Key>,
 {
     ghost use Rattle.rangemap.specs.Texts.{set_text};
 

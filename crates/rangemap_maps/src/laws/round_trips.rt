@@ -12,7 +12,7 @@ ghost use Rattle.rangemap_formats.specs.declared.json.WriteError.TheVariants as 
 
 use crate::range_map::Map;
 use rangemap_core::key_range::KeyRange;
-use rangemap_core::kind::OwnSteps;
+use rangemap_core::kind::Kind;
 use rangemap_core::store::{HandsOver, Store};
 use rangemap_formats::json::{Form, ReadError, WriteError};
 use serde_json::Value;
@@ -24,7 +24,7 @@ pub fn from_iter_of_into_iter_is_equal<
     T: Store<Range = S::Range, Value = S::Value, Kind = S::Kind> + Drop,
 >(alloc: T::Alloc, map: Map<S>) -> Result<Map<T>, AllocError>
 where
-    S::Kind: OwnSteps<S::Range>,
+    S::Kind: Kind<S::Range, Steps = <S::Range as KeyRange>::Key>,
     requires faithful_keys { KeysCloneFaithfully S.Range.Key.is_clone S.Range.Key.cmp }
     requires faithful_values { ValuesCloneFaithfully S.Value.is_clone S.Value.eq }
     ensures { IfOk result (λ again. IsTrue (same_pairs S.Kind.kind S.Value.eq map again)) }
@@ -58,7 +58,7 @@ pub fn reading_what_was_written_is_equal<
     readers: (RK, RV),
 ) -> Result<(Value, Map<T>), WriteError<E>>
 where
-    S::Kind: OwnSteps<S::Range>,
+    S::Kind: Kind<S::Range, Steps = <S::Range as KeyRange>::Key>,
     requires writes_keys { WK.IsAlwaysCallable writers.0 }
     requires writes_values { WV.IsAlwaysCallable writers.1 }
     requires reads_keys { RK.IsAlwaysCallable readers.0 }

@@ -2,7 +2,7 @@
 
 use super::Map;
 use rangemap_core::key_range::KeyRange;
-use rangemap_core::kind::OwnSteps;
+use rangemap_core::kind::Kind;
 use rangemap_core::store::Store;
 use rangemap_replay::calls::Change;
 use rangemap_replay::replay::{CallOn, add};
@@ -24,7 +24,7 @@ pub enum Call<R, V, A: Allocator> {
 impl<S: Store + Drop> CallOn<Map<S>> for Call<S::Range, S::Value, S::Alloc>
 where
     S::Alloc: Clone,
-    S::Kind: OwnSteps<S::Range>,
+    S::Kind: Kind<S::Range, Steps = <S::Range as KeyRange>::Key>,
 {
     ghost use Rattle.rangemap_maps.specs.MapHistories.{HasNonEmptyRanges, Step};
 

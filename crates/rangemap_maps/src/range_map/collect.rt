@@ -7,7 +7,7 @@ ghost use Rattle.rangemap_core.specs.Ranges.{AreNonEmpty, IsCanonOf, Overrides, 
 
 use super::Map;
 use rangemap_core::key_range::KeyRange;
-use rangemap_core::kind::{Kind, OwnSteps};
+use rangemap_core::kind::Kind;
 use rangemap_core::store::{HandsOver, Lends, Store};
 use std::alloc::AllocError;
 use std::iter::IntoIterator;
@@ -44,7 +44,7 @@ where
 
 impl<S: Store> Map<S>
 where
-    S::Kind: OwnSteps<S::Range>,
+    S::Kind: Kind<S::Range, Steps = <S::Range as KeyRange>::Key>,
 {
     /// Inserts the items of `iter`, in the order in which they come, each as `insert` does.
     ///
@@ -94,7 +94,7 @@ where
 
 impl<S: Store + Drop> Map<S>
 where
-    S::Kind: OwnSteps<S::Range>,
+    S::Kind: Kind<S::Range, Steps = <S::Range as KeyRange>::Key>,
 {
     /// Returns the map of the items of `iter`, inserted in the order in which they come, in memory
     /// of `alloc`.
@@ -156,7 +156,7 @@ where
 
 impl<S: HandsOver> IntoIterator for Map<S>
 where
-    S::Kind: OwnSteps<S::Range>,
+    S::Kind: Kind<S::Range, Steps = <S::Range as KeyRange>::Key>,
 {
     ghost use Rattle.std.specs.Prelude.{◌≡◌};
     ghost use Rattle.rangemap_core.specs.Ranges.{IsCanonical};

@@ -6,7 +6,7 @@ ghost use Rattle.rangemap_formats.specs.Json.{IsForm, IsReading, IsRefusedForMem
 
 use super::Map;
 use rangemap_core::key_range::KeyRange;
-use rangemap_core::kind::OwnSteps;
+use rangemap_core::kind::Kind;
 use rangemap_core::store::Store;
 use rangemap_formats::json::{Form, ReadError, WriteError, read_map, write_map};
 use serde_json::Value;
@@ -15,7 +15,7 @@ use std::marker::PhantomData;
 
 impl<S: Store> Map<S>
 where
-    S::Kind: OwnSteps<S::Range>,
+    S::Kind: Kind<S::Range, Steps = <S::Range as KeyRange>::Key>,
 {
     /// Returns the JSON form of the map: the list of `[[start, end], value]` of its pairs, in
     /// order, each part as the caller's functions write it, in memory of `alloc`.
@@ -50,7 +50,7 @@ where
 
 impl<S: Store + Drop> Map<S>
 where
-    S::Kind: OwnSteps<S::Range>,
+    S::Kind: Kind<S::Range, Steps = <S::Range as KeyRange>::Key>,
 {
     /// Returns the map that a value of the JSON form stands for: the pairs that the caller's
     /// functions read of its entries, inserted in order, in memory of `alloc`.

@@ -2,7 +2,7 @@
 
 use super::Map;
 use rangemap_core::key_range::KeyRange;
-use rangemap_core::kind::OwnSteps;
+use rangemap_core::kind::Kind;
 use rangemap_core::store::Store;
 use rangemap_formats::text::write_map;
 use std::fmt;
@@ -11,7 +11,7 @@ use std::fmt::{Debug, Formatter};
 impl<S: Store<Range: Debug, Value: Debug>> Debug for Map<S>
 where
     <S::Range as KeyRange>::Key: Debug,
-    S::Kind: OwnSteps<S::Range>,
+    S::Kind: Kind<S::Range, Steps = <S::Range as KeyRange>::Key>,
 {
     ghost use Rattle.rangemap_formats.specs.Texts.{map_text};
 

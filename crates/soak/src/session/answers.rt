@@ -3,13 +3,13 @@
 use crate::difference::Stop;
 use crate::model::{Ends, Lookup, Model};
 use crate::points::Piece;
-use crate::soaked::{Mark, PointRange, Soaked};
+use crate::soaked::{Mark, PointRange, Soaked, Told};
 use rangemap_core::key_range::KeyRange;
 use std::alloc::{AllocError, Global};
 
 /// `get`, `get_key_value` and `contains_key`, at the start of the range of one point
-pub fn get<'a, S: Soaked<'a>>(subject: &S, model: &Model<'a>, point: u8) -> Result<bool, Stop> {
-    let range = S::Range::from_points(model.chance.heap, point, point)?;
+pub fn get<S: Soaked>(subject: &S, model: &Model<'_>, point: u8) -> Result<bool, Stop> {
+    let range = S::Range::from_points(subject.heap(), point, point)?;
     let key = range.start();
     let lookup = Lookup {
         piece: piece_of(subject.get_key_value(key)),
@@ -20,7 +20,7 @@ pub fn get<'a, S: Soaked<'a>>(subject: &S, model: &Model<'a>, point: u8) -> Resu
 }
 
 /// `first_range_value`, `last_range_value` and `is_empty`
-pub fn ends<'a, S: Soaked<'a>>(subject: &S, model: &Model<'a>) -> Result<bool, Stop> {
+pub fn ends<S: Soaked>(subject: &S, model: &Model<'_>) -> Result<bool, Stop> {
     let ends = Ends {
         first: piece_of(subject.first_range_value()),
         last: piece_of(subject.last_range_value()),
@@ -30,13 +30,13 @@ pub fn ends<'a, S: Soaked<'a>>(subject: &S, model: &Model<'a>) -> Result<bool, S
 }
 
 /// `overlaps` and `overlapping`
-pub fn overlapping<'a, S: Soaked<'a>>(
+pub fn overlapping<S: Soaked>(
     subject: &S,
-    model: &Model<'a>,
+    model: &Model<'_>,
     first: u8,
     last: u8,
 ) -> Result<bool, Stop> {
-    let query = S::Range::from_points(model.chance.heap, first, last)?;
+    let query = S::Range::from_points(subject.heap(), first, last)?;
     let mut pairs = Vec::new(model.alloc);
     subject.append_overlapping(&query, &mut pairs)?;
     let list = pieces(model.alloc, &pairs)?;
@@ -44,25 +44,25 @@ pub fn overlapping<'a, S: Soaked<'a>>(
 }
 
 /// `gaps`, by `try_next` or by `next`
-pub fn gaps<'a, S: Soaked<'a>>(
+pub fn gaps<S: Soaked>(
     subject: &S,
-    model: &mut Model<'a>,
+    model: &mut Model<'_>,
     first: u8,
     last: u8,
 ) -> Result<bool, Stop> {
-    let outer = S::Range::from_points(model.chance.heap, first, last)?;
+    let outer = S::Range::from_points(subject.heap(), first, last)?;
     let free = model.free(first, last)?;
     subject.ask_for_gaps(&outer, &free, &mut model.chance)
 }
 
 /// Returns the stored list.
-pub fn list<'a, S: Soaked<'a>>(alloc: Global, subject: &S) -> Result<Vec<Piece>, AllocError> {
+pub fn list<S: Soaked>(alloc: Global, subject: &S) -> Result<Vec<Piece>, AllocError> {
     let mut pairs = Vec::new(alloc);
     subject.append_all(&mut pairs)?;
     pieces(alloc, &pairs)
 }
 
-fn pieces<'a, R: PointRange<'a>, V: Mark<'a>>(
+fn pieces<R: Told, V: Mark<A>, A: Copy>(
     alloc: Global,
     pairs: &[(R, V)],
 ) -> Result<Vec<Piece>, AllocError> {
@@ -73,11 +73,11 @@ fn pieces<'a, R: PointRange<'a>, V: Mark<'a>>(
     Ok(pieces)
 }
 
-fn piece_of<'a, R: PointRange<'a>, V: Mark<'a>>(found: Option<(&R, &V)>) -> Option<Piece> {
+fn piece_of<R: Told, V: Mark<A>, A: Copy>(found: Option<(&R, &V)>) -> Option<Piece> {
     let (range, value) = found?;
     Some(range.piece(value.mark()))
 }
 
-fn mark_of<'a, V: Mark<'a>>(found: Option<&V>) -> Option<u8> {
+fn mark_of<V: Mark<A>, A: Copy>(found: Option<&V>) -> Option<u8> {
     Some(found?.mark())
 }

@@ -11,13 +11,13 @@ use std::alloc::AllocError;
 use tests_support::{extend_by, made_from};
 
 /// `insert`, `remove`, `extend` or `clear`.
-pub fn change<'a, S: Soaked<'a>>(
+pub fn change<S: Soaked>(
     subject: &mut S,
-    model: &mut Model<'a>,
+    model: &mut Model<'_>,
     change: &Change,
 ) -> Result<bool, Stop> {
-    let heap = model.chance.heap;
-    let held = heap.held();
+    let heap = subject.heap();
+    let held = model.chance.heap.held();
     let is_accepted = match change {
         Change::Insert(run) => {
             let (range, value) = pair::<S>(heap, *run)?;
@@ -43,7 +43,7 @@ pub fn change<'a, S: Soaked<'a>>(
 }
 
 /// `clone`, the copy of which takes the container's place.
-pub fn copy<'a, S: Soaked<'a>>(subject: &mut S, model: &mut Model<'a>) -> Result<bool, Stop> {
+pub fn copy<S: Soaked>(subject: &mut S, model: &mut Model<'_>) -> Result<bool, Stop> {
     let held = model.chance.heap.held();
     model.chance.refuse_one();
     let made = subject.clone();
@@ -56,27 +56,27 @@ pub fn copy<'a, S: Soaked<'a>>(subject: &mut S, model: &mut Model<'a>) -> Result
 }
 
 /// `from_iter`
-pub fn collect<'a, S: Soaked<'a>>(
+pub fn collect<S: Soaked>(
     subject: &S,
-    model: &mut Model<'a>,
+    model: &mut Model<'_>,
     runs: &[Run; 3],
 ) -> Result<bool, Stop> {
     let held = model.chance.heap.held();
-    let items = items::<S>(model.chance.heap, runs)?;
+    let items = items::<S>(subject.heap(), runs)?;
     model.chance.refuse_one();
-    let made = made_from::<S>(model.chance.heap, items);
+    let made = made_from::<S>(subject.heap(), items);
     check_made(subject, model, &made, &Points::of(runs), held)
 }
 
 /// `|` or `&` with a set that is made for it; of a map, a lookup.
-pub fn combine<'a, S: Soaked<'a>>(
+pub fn combine<S: Soaked>(
     subject: &S,
-    model: &mut Model<'a>,
+    model: &mut Model<'_>,
     runs: &[Run; 3],
     is_union: bool,
 ) -> Result<bool, Stop> {
-    let items = items::<S>(model.chance.heap, runs)?;
-    let other = made_from::<S>(model.chance.heap, items)?;
+    let items = items::<S>(subject.heap(), runs)?;
+    let other = made_from::<S>(subject.heap(), items)?;
     let held = model.chance.heap.held();
     model.chance.refuse_one();
     let Some(made) = subject.combined(&other, is_union) else {
@@ -90,9 +90,9 @@ pub fn combine<'a, S: Soaked<'a>>(
 
 /// Compares a container that was made, unless it was refused, with the points that it is to have,
 /// and with this one. Answers whether it was refused.
-fn check_made<'a, S: Soaked<'a>>(
+fn check_made<S: Soaked>(
     subject: &S,
-    model: &Model<'a>,
+    model: &Model<'_>,
     made: &Result<S, AllocError>,
     points: &Points,
     held: u64,

@@ -1,7 +1,7 @@
 //! Keys each of which holds a block of memory.
 ghost use Rattle.std.specs.Prelude.{◌≡◌, IfOk};
 
-use super::{Heap, PointRange};
+use super::{Heap, PointRange, Told};
 use crate::points::Piece;
 use std::alloc::{AllocError, Allocator};
 use std::ops::Range;
@@ -34,7 +34,7 @@ impl<A: Allocator + Clone> Clone for Boxed<A> {
     }
 }
 
-impl<'a> PointRange<'a> for Range<Boxed<&'a Heap>> {
+impl<'a> PointRange<&'a Heap> for Range<Boxed<&'a Heap>> {
     ghost use Rattle.std.proofs.Common.{rules};
     ghost use Rattle.std.specs.Cmp.Rules.{comparing};
     ghost use Rattle.std.specs.Prelude.{◌<◌};
@@ -42,8 +42,6 @@ impl<'a> PointRange<'a> for Range<Boxed<&'a Heap>> {
     ghost IsNonEmpty = { λ range. range.start.number.value < range.end.number.value };
 
     ghost takes = { λ range non_empty. Prim.search (comparing, rules) };
-
-    ghost faithful = { Prim.search (comparing, rules) };
 
     fn from_points(
         heap: &'a Heap,
@@ -54,6 +52,13 @@ impl<'a> PointRange<'a> for Range<Boxed<&'a Heap>> {
         let end = Boxed::new(heap, u16::from(last) + 1)?;
         Ok(start..end)
     }
+}
+
+impl<'a> Told for Range<Boxed<&'a Heap>> {
+    ghost use Rattle.std.proofs.Common.{rules};
+    ghost use Rattle.std.specs.Cmp.Rules.{comparing};
+
+    ghost faithful = { Prim.search (comparing, rules) };
 
     fn piece(&self, mark: u8) -> Piece {
         Piece {

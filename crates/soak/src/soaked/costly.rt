@@ -1,12 +1,12 @@
 //! Ranges of keys with steps, whose clones take memory.
 
-use super::{Heap, PointRange};
+use super::{Heap, PointRange, Told};
 use crate::points::Piece;
 use std::alloc::AllocError;
 use std::ops::RangeInclusive;
 use tests_support::Costly;
 
-impl<'a> PointRange<'a> for RangeInclusive<Costly<'a>> {
+impl<'a> PointRange<&'a Heap> for RangeInclusive<Costly<'a>> {
     ghost use Rattle.std.proofs.Common.{rules};
     ghost use Rattle.std.specs.Cmp.Rules.{comparing};
     ghost use Rattle.std.specs.Prelude.{◌≡◌, ◌≤◌, false};
@@ -16,8 +16,6 @@ impl<'a> PointRange<'a> for RangeInclusive<Costly<'a>> {
 
     ghost takes = { λ range non_empty. Prim.search (comparing, rules) };
 
-    ghost faithful = { Prim.search (comparing, rules) };
-
     fn from_points(
         heap: &'a Heap,
         first: u8,
@@ -25,6 +23,13 @@ impl<'a> PointRange<'a> for RangeInclusive<Costly<'a>> {
     ) -> Result<RangeInclusive<Costly<'a>>, AllocError> {
         Ok(Costly { byte: first, heap }..=Costly { byte: last, heap })
     }
+}
+
+impl<'a> Told for RangeInclusive<Costly<'a>> {
+    ghost use Rattle.std.proofs.Common.{rules};
+    ghost use Rattle.std.specs.Cmp.Rules.{comparing};
+
+    ghost faithful = { Prim.search (comparing, rules) };
 
     fn piece(&self, mark: u8) -> Piece {
         Piece {

@@ -1,6 +1,6 @@
 //! Gaps that are asked for one after another, each of which takes memory.
 
-use super::PointRange;
+use super::Told;
 use crate::chance::Chance;
 use crate::difference::{Difference, Stop, check};
 use crate::points::Piece;
@@ -9,7 +9,7 @@ use tests_support::Tries;
 
 /// Asks for the next gap: by `next`, after a refusal of which none comes, or by `try_next`, after a
 /// refusal of which the same gap comes. The points of a gap have the mark 1.
-fn ask<'a, R: PointRange<'a>, G: Tries<Range = R, Item = Result<R, AllocError>>>(
+fn ask<R: Told, G: Tries<Range = R, Item = Result<R, AllocError>>>(
     gaps: &mut G,
     by_next: bool,
 ) -> Result<Option<Piece>, AllocError>
@@ -29,7 +29,7 @@ fn ask<'a, R: PointRange<'a>, G: Tries<Range = R, Item = Result<R, AllocError>>>
 /// Asks for gaps by `try_next` or by `next`, and compares them with pieces of the model. One that is
 /// refused is asked for again by `try_next`; by `next` none comes after it. Answers whether one was
 /// refused.
-pub fn ask_for_gaps<'a, R: PointRange<'a>, G: Tries<Range = R, Item = Result<R, AllocError>>>(
+pub fn ask_for_gaps<R: Told, G: Tries<Range = R, Item = Result<R, AllocError>>>(
     mut gaps: G,
     pieces: &[Piece],
     chance: &mut Chance<'_>,

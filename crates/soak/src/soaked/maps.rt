@@ -1,66 +1,40 @@
-//! The maps.
+//! The maps, by the stores that keep their pairs.
 
 use super::boxed::Boxed;
 use super::gaps::ask_for_gaps;
-use super::{Heap, Mark, PointRange, Soaked};
+use super::{Heap, LendsGaps, Mark, PointRange, Soaked, Told};
 use crate::chance::Chance;
 use crate::difference::Stop;
 use crate::points::Piece;
-use rangemap::{RangeInclusiveMap, RangeMap, tree_map};
+use rangemap::map::Map;
+use rangemap_chunked::Chunks;
 use rangemap_core::closed::Closed;
 use rangemap_core::half_open::HalfOpen;
-use rangemap_core::kind::OwnSteps;
+use rangemap_core::key_range::KeyRange;
+use rangemap_core::kind::Kind;
+use rangemap_core::store::{Lends, Store};
 use rangemap_sorted::SortedVec;
+use rangemap_tree::Tree;
 use std::alloc::AllocError;
 use std::ops::{Range, RangeInclusive};
-use tests_support::{ChunkedMap, Costly};
+use tests_support::Costly;
 
-/// A map over numbers, each of whose values holds a block of memory.
-pub type Map<'a> = RangeMap<u16, Box<u8, &'a Heap>, &'a Heap>;
+/// The pairs of a map over numbers, each of whose values holds a block of memory.
+pub type Pairs<'a> = SortedVec<HalfOpen, Range<u16>, Box<u8, &'a Heap>, &'a Heap>;
 
-/// A map over keys whose clones take memory.
-pub type InclusiveMap<'a> = RangeInclusiveMap<Costly<'a>, u8, Costly<'a>, &'a Heap>;
+/// The pairs of a map over keys whose clones take memory.
+pub type ClosedPairs<'a> = SortedVec<Closed<Costly<'a>>, RangeInclusive<Costly<'a>>, u8, &'a Heap>;
 
-impl<'a, Q: OwnSteps<R>, R: PointRange<'a>, V: Mark<'a>> Soaked<'a>
-    for rangemap::map::Map<SortedVec<Q, R, V, &'a Heap>> {
-    fn combined(&self, _other: &Self, _is_union: bool) -> Option<Result<Self, AllocError>> {
-        None
-    }
+/// The pairs of a map in a tree, over keys each of which holds a block of memory, and so does each
+/// value. The tree has a clone of each start.
+pub type TreePairs<'a> = Tree<Boxed<&'a Heap>, Box<u8, &'a Heap>, &'a Heap>;
 
-    fn ask_for_gaps(
-        &self,
-        outer: &R,
-        pieces: &[Piece],
-        chance: &mut Chance<'_>,
-    ) -> Result<bool, Stop> {
-        ask_for_gaps(self.gaps(outer), pieces, chance)
-    }
-}
+/// The pairs of a map over numbers, each of whose values holds a block of memory, in chunks of up to
+/// four.
+pub type ChunkedPairs<'a> = Chunks<HalfOpen, Range<u16>, Box<u8, &'a Heap>, &'a Heap, 4>;
 
-/// A map in a tree, over keys each of which holds a block of memory, and so does each value. The
-/// tree has a clone of each start.
-pub type TreeMap<'a> = tree_map::RangeMap<Boxed<&'a Heap>, Box<u8, &'a Heap>, &'a Heap>;
-
-impl<'a> Soaked<'a> for TreeMap<'a> {
-    fn combined(&self, _other: &Self, _is_union: bool) -> Option<Result<Self, AllocError>> {
-        None
-    }
-
-    fn ask_for_gaps(
-        &self,
-        outer: &Range<Boxed<&'a Heap>>,
-        pieces: &[Piece],
-        chance: &mut Chance<'_>,
-    ) -> Result<bool, Stop> {
-        ask_for_gaps(self.gaps(outer), pieces, chance)
-    }
-}
-
-/// A map over numbers, each of whose values holds a block of memory, in chunks of up to four pairs.
-pub type HalfOpenChunkedMap<'a> = ChunkedMap<HalfOpen, Range<u16>, Box<u8, &'a Heap>, &'a Heap, 4>;
-
-/// A map over keys whose clones take memory, in chunks of up to two pairs.
-pub type ClosedChunkedMap<'a> = ChunkedMap<
+/// The pairs of a map over keys whose clones take memory, in chunks of up to two.
+pub type ClosedChunkedPairs<'a> = Chunks<
     Closed<Costly<'a>>,
     RangeInclusive<Costly<'a>>,
     u8,
@@ -68,18 +42,77 @@ pub type ClosedChunkedMap<'a> = ChunkedMap<
     2,
 >;
 
-impl<'a, Q: OwnSteps<R>, R: PointRange<'a>, V: Mark<'a>, const N: usize> Soaked<'a>
-    for ChunkedMap<Q, R, V, &'a Heap, N> {
+impl<S> Soaked for Map<S>
+where
+    S: Store<Alloc: Copy> + Drop,
+    S::Range: PointRange<S::Alloc>,
+    S::Value: Mark<S::Alloc>,
+    S::Kind: Kind<S::Range, Steps = <S::Range as KeyRange>::Key>,
+    Map<S>: LendsGaps<S::Range>,
+{
+    fn heap(&self) -> S::Alloc {
+        *self.allocator()
+    }
+
     fn combined(&self, _other: &Self, _is_union: bool) -> Option<Result<Self, AllocError>> {
         None
     }
 
     fn ask_for_gaps(
         &self,
+        outer: &S::Range,
+        pieces: &[Piece],
+        chance: &mut Chance<'_>,
+    ) -> Result<bool, Stop> {
+        self.ask_for_lent_gaps(outer, pieces, chance)
+    }
+}
+
+/// Asks a map for its gaps.
+fn ask<'b, S: Lends<'b, Range: Told>>(
+    map: &'b Map<S>,
+    outer: &'b S::Range,
+    pieces: &[Piece],
+    chance: &mut Chance<'_>,
+) -> Result<bool, Stop>
+where
+    S::Range: 'b,
+    S::Value: 'b,
+{
+    ask_for_gaps(map.gaps(outer), pieces, chance)
+}
+
+impl<'a, Q: Kind<R, Steps = R::Key>, R: Told, V: Eq + Clone> LendsGaps<R>
+    for Map<SortedVec<Q, R, V, &'a Heap>> {
+    fn ask_for_lent_gaps(
+        &self,
         outer: &R,
         pieces: &[Piece],
         chance: &mut Chance<'_>,
     ) -> Result<bool, Stop> {
-        ask_for_gaps(self.gaps(outer), pieces, chance)
+        ask(self, outer, pieces, chance)
+    }
+}
+
+impl<'a> LendsGaps<Range<Boxed<&'a Heap>>> for Map<TreePairs<'a>> {
+    fn ask_for_lent_gaps(
+        &self,
+        outer: &Range<Boxed<&'a Heap>>,
+        pieces: &[Piece],
+        chance: &mut Chance<'_>,
+    ) -> Result<bool, Stop> {
+        ask(self, outer, pieces, chance)
+    }
+}
+
+impl<'a, Q: Kind<R, Steps = R::Key>, R: Told, V: Eq + Clone, const N: usize> LendsGaps<R>
+    for Map<Chunks<Q, R, V, &'a Heap, N>> {
+    fn ask_for_lent_gaps(
+        &self,
+        outer: &R,
+        pieces: &[Piece],
+        chance: &mut Chance<'_>,
+    ) -> Result<bool, Stop> {
+        ask(self, outer, pieces, chance)
     }
 }

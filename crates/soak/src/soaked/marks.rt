@@ -3,7 +3,7 @@
 use super::{Heap, Mark};
 use std::alloc::AllocError;
 
-impl<'a> Mark<'a> for u8 {
+impl<'a> Mark<&'a Heap> for u8 {
     ghost use Rattle.std.proofs.Common.{rules};
     ghost use Rattle.std.specs.Cmp.Rules.{comparing};
 
@@ -18,7 +18,7 @@ impl<'a> Mark<'a> for u8 {
     }
 }
 
-impl<'a> Mark<'a> for Box<u8, &'a Heap> {
+impl<'a> Mark<&'a Heap> for Box<u8, &'a Heap> {
     ghost use Rattle.std.proofs.Common.{rules};
     ghost use Rattle.std.specs.Cmp.Rules.{comparing};
 
@@ -34,13 +34,13 @@ impl<'a> Mark<'a> for Box<u8, &'a Heap> {
 }
 
 /// It stands for the mark 1.
-impl<'a> Mark<'a> for () {
+impl<A: Copy> Mark<A> for () {
     ghost use Rattle.std.proofs.Common.{rules};
     ghost use Rattle.std.specs.Cmp.Rules.{comparing};
 
     ghost faithful = { Prim.search (comparing, rules) };
 
-    fn of(_heap: &'a Heap, _mark: u8) -> Result<(), AllocError> {
+    fn of(_heap: A, _mark: u8) -> Result<(), AllocError> {
         Ok(())
     }
 

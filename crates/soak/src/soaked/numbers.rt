@@ -1,11 +1,11 @@
 //! Ranges of plain numbers.
 
-use super::{Heap, PointRange};
+use super::{Heap, PointRange, Told};
 use crate::points::Piece;
 use std::alloc::AllocError;
 use std::ops::Range;
 
-impl<'a> PointRange<'a> for Range<u16> {
+impl<'a> PointRange<&'a Heap> for Range<u16> {
     ghost use Rattle.std.proofs.Common.{rules};
     ghost use Rattle.std.specs.Cmp.Rules.{comparing};
     ghost use Rattle.std.specs.Prelude.{◌<◌};
@@ -14,11 +14,16 @@ impl<'a> PointRange<'a> for Range<u16> {
 
     ghost takes = { λ range non_empty. Prim.search (comparing, rules) };
 
-    ghost faithful = { Prim.search (comparing, rules) };
-
     fn from_points(_heap: &'a Heap, first: u8, last: u8) -> Result<Range<u16>, AllocError> {
         Ok(u16::from(first)..u16::from(last) + 1)
     }
+}
+
+impl Told for Range<u16> {
+    ghost use Rattle.std.proofs.Common.{rules};
+    ghost use Rattle.std.specs.Cmp.Rules.{comparing};
+
+    ghost faithful = { Prim.search (comparing, rules) };
 
     fn piece(&self, mark: u8) -> Piece {
         Piece {

@@ -1,101 +1,131 @@
-//! The sets.
+//! The sets, by the stores that keep their ranges.
 ghost use Rattle.rangemap.specs.Clones.{KeysCloneFaithfully};
 
 use super::boxed::Boxed;
 use super::gaps::ask_for_gaps;
-use super::{Heap, PointRange, Soaked};
+use super::{Heap, LendsGaps, PointRange, Soaked, Told};
 use crate::chance::Chance;
 use crate::difference::Stop;
 use crate::points::Piece;
-use rangemap::{RangeInclusiveSet, RangeSet, range_set, tree_set};
+use rangemap::range_set::Set;
+use rangemap_chunked::Chunks;
 use rangemap_core::closed::Closed;
 use rangemap_core::half_open::HalfOpen;
 use rangemap_core::key_range::KeyRange;
-use rangemap_core::kind::OwnSteps;
-use rangemap_core::store::Store;
+use rangemap_core::kind::Kind;
+use rangemap_core::store::{Lends, Store};
 use rangemap_sorted::SortedVec;
+use rangemap_tree::Tree;
 use std::alloc::AllocError;
 use std::ops::{Range, RangeInclusive};
-use tests_support::{ChunkedSet, Costly};
+use tests_support::Costly;
 
-/// A set of keys each of which holds a block of memory.
-pub type Set<'a> = RangeSet<Boxed<&'a Heap>, &'a Heap>;
+/// The ranges of a set of keys each of which holds a block of memory.
+pub type Ranges<'a> = SortedVec<HalfOpen, Range<Boxed<&'a Heap>>, (), &'a Heap>;
 
-/// A set of keys whose clones take memory.
-pub type InclusiveSet<'a> = RangeInclusiveSet<Costly<'a>, Costly<'a>, &'a Heap>;
+/// The ranges of a set of keys whose clones take memory.
+pub type ClosedRanges<'a> = SortedVec<Closed<Costly<'a>>, RangeInclusive<Costly<'a>>, (), &'a Heap>;
 
-impl<'a, Q: OwnSteps<R>, R: PointRange<'a>> Soaked<'a>
-    for range_set::Set<SortedVec<Q, R, (), &'a Heap>> {
-    fn combined(&self, other: &Self, is_union: bool) -> Option<Result<Self, AllocError>> {
-        Some(combined(self, other, is_union))
-    }
+/// The ranges of a set in a tree, of keys each of which holds a block of memory. The tree has a clone
+/// of each start.
+pub type TreeRanges<'a> = Tree<Boxed<&'a Heap>, (), &'a Heap>;
 
-    fn ask_for_gaps(
-        &self,
-        outer: &R,
-        pieces: &[Piece],
-        chance: &mut Chance<'_>,
-    ) -> Result<bool, Stop> {
-        ask_for_gaps(self.gaps(outer), pieces, chance)
-    }
-}
+/// The ranges of a set of keys each of which holds a block of memory, in chunks of up to three.
+pub type ChunkedRanges<'a> = Chunks<HalfOpen, Range<Boxed<&'a Heap>>, (), &'a Heap, 3>;
 
-/// A set in a tree, of keys each of which holds a block of memory. The tree has a clone of each
-/// start.
-pub type TreeSet<'a> = tree_set::RangeSet<Boxed<&'a Heap>, &'a Heap>;
-
-impl<'a> Soaked<'a> for TreeSet<'a> {
-    fn combined(&self, other: &Self, is_union: bool) -> Option<Result<Self, AllocError>> {
-        Some(combined(self, other, is_union))
-    }
-
-    fn ask_for_gaps(
-        &self,
-        outer: &Range<Boxed<&'a Heap>>,
-        pieces: &[Piece],
-        chance: &mut Chance<'_>,
-    ) -> Result<bool, Stop> {
-        ask_for_gaps(self.gaps(outer), pieces, chance)
-    }
-}
-
-/// A set of keys each of which holds a block of memory, in chunks of up to three ranges.
-pub type HalfOpenChunkedSet<'a> = ChunkedSet<HalfOpen, Range<Boxed<&'a Heap>>, &'a Heap, 3>;
-
-/// A set of keys whose clones take memory, in chunks of up to eight ranges.
-pub type ClosedChunkedSet<'a> = ChunkedSet<
+/// The ranges of a set of keys whose clones take memory, in chunks of up to eight.
+pub type ClosedChunkedRanges<'a> = Chunks<
     Closed<Costly<'a>>,
     RangeInclusive<Costly<'a>>,
+    (),
     &'a Heap,
     8,
 >;
 
-impl<'a, Q: OwnSteps<R>, R: PointRange<'a>, const N: usize> Soaked<'a>
-    for ChunkedSet<Q, R, &'a Heap, N> {
+impl<S> Soaked for Set<S>
+where
+    S: Store<Value = (), Alloc: Copy> + Drop,
+    S::Range: PointRange<S::Alloc>,
+    S::Kind: Kind<S::Range, Steps = <S::Range as KeyRange>::Key>,
+    Set<S>: LendsGaps<S::Range>,
+{
+    fn heap(&self) -> S::Alloc {
+        *self.allocator()
+    }
+
+    /// Makes `self | other` or `self & other`.
     fn combined(&self, other: &Self, is_union: bool) -> Option<Result<Self, AllocError>> {
         Some(combined(self, other, is_union))
     }
 
     fn ask_for_gaps(
         &self,
-        outer: &R,
+        outer: &S::Range,
         pieces: &[Piece],
         chance: &mut Chance<'_>,
     ) -> Result<bool, Stop> {
-        ask_for_gaps(self.gaps(outer), pieces, chance)
+        self.ask_for_lent_gaps(outer, pieces, chance)
     }
 }
 
 /// Makes `one | other` or `one & other`.
 fn combined<S: Store<Value = ()> + Drop>(
-    one: &range_set::Set<S>,
-    other: &range_set::Set<S>,
+    one: &Set<S>,
+    other: &Set<S>,
     is_union: bool,
-) -> Result<range_set::Set<S>, AllocError>
+) -> Result<Set<S>, AllocError>
 where
     S::Alloc: Clone,
-    S::Kind: OwnSteps<S::Range>,
+    S::Kind: Kind<S::Range, Steps = <S::Range as KeyRange>::Key>,
     requires { KeysCloneFaithfully S.Range.Key.is_clone S.Range.Key.cmp }
 {
     if is_union { one | other } else { one & other }
+}
+
+/// Asks a set for its gaps.
+fn ask<'b, S: Lends<'b, Range: Told, Value = ()>>(
+    set: &'b Set<S>,
+    outer: &'b S::Range,
+    pieces: &[Piece],
+    chance: &mut Chance<'_>,
+) -> Result<bool, Stop>
+where
+    S::Range: 'b,
+    S::Value: 'b,
+{
+    ask_for_gaps(set.gaps(outer), pieces, chance)
+}
+
+impl<'a, Q: Kind<R, Steps = R::Key>, R: Told> LendsGaps<R> for Set<SortedVec<Q, R, (), &'a Heap>> {
+    fn ask_for_lent_gaps(
+        &self,
+        outer: &R,
+        pieces: &[Piece],
+        chance: &mut Chance<'_>,
+    ) -> Result<bool, Stop> {
+        ask(self, outer, pieces, chance)
+    }
+}
+
+impl<'a> LendsGaps<Range<Boxed<&'a Heap>>> for Set<TreeRanges<'a>> {
+    fn ask_for_lent_gaps(
+        &self,
+        outer: &Range<Boxed<&'a Heap>>,
+        pieces: &[Piece],
+        chance: &mut Chance<'_>,
+    ) -> Result<bool, Stop> {
+        ask(self, outer, pieces, chance)
+    }
+}
+
+impl<'a, Q: Kind<R, Steps = R::Key>, R: Told, const N: usize> LendsGaps<R>
+    for Set<Chunks<Q, R, (), &'a Heap, N>> {
+    fn ask_for_lent_gaps(
+        &self,
+        outer: &R,
+        pieces: &[Piece],
+        chance: &mut Chance<'_>,
+    ) -> Result<bool, Stop> {
+        ask(self, outer, pieces, chance)
+    }
 }

@@ -63,19 +63,43 @@ pub fn try_tree_set(heap: &Heap, row: &Row<'_>, left: u64) -> Answer {
     )
 }
 
+/// A map in chunks of up to two pairs.
+type InChunks<'a> = ChunkedMap<HalfOpen, Range<Costly<'a>>, char, &'a Heap, 2>;
+
 /// A closed map in chunks of up to two pairs.
-type Chunked<'a> = ChunkedMap<Closed<Costly<'a>>, RangeInclusive<Costly<'a>>, char, &'a Heap, 2>;
+type InclusiveInChunks<'a> = ChunkedMap<
+    Closed<Costly<'a>>,
+    RangeInclusive<Costly<'a>>,
+    char,
+    &'a Heap,
+    2,
+>;
 
 /// A set in chunks of up to two ranges.
 type SetInChunks<'a> = ChunkedSet<HalfOpen, Range<Costly<'a>>, &'a Heap, 2>;
 
-/// Tries to make a closed map in chunks.
+/// A closed set in chunks of up to two ranges.
+type InclusiveSetInChunks<'a> = ChunkedSet<
+    Closed<Costly<'a>>,
+    RangeInclusive<Costly<'a>>,
+    &'a Heap,
+    2,
+>;
+
+/// Tries to make a map in chunks.
 pub fn try_chunked_map(heap: &Heap, row: &Row<'_>, left: u64) -> Answer {
+    let (first, second) = two_pairs::<HalfOpen, Range<Costly<'_>>, char, &Heap>(heap, row.given)?;
+    heap.refuse_after(left);
+    is_made::<InChunks<'_>>(InChunks::from(heap, [first, second]), row.outcome)
+}
+
+/// Tries to make a closed map in chunks.
+pub fn try_chunked_inclusive_map(heap: &Heap, row: &Row<'_>, left: u64) -> Answer {
     let (first, second) = two_pairs::<Closed<Costly<'_>>, RangeInclusive<Costly<'_>>, char, &Heap>(
         heap, row.given,
     )?;
     heap.refuse_after(left);
-    is_made::<Chunked<'_>>(Chunked::from(heap, [first, second]), row.outcome)
+    is_made::<InclusiveInChunks<'_>>(InclusiveInChunks::from(heap, [first, second]), row.outcome)
 }
 
 /// Tries to make a set in chunks.
@@ -83,4 +107,16 @@ pub fn try_chunked_set(heap: &Heap, row: &Row<'_>, left: u64) -> Answer {
     let (first, second) = two_pairs::<HalfOpen, Range<Costly<'_>>, (), &Heap>(heap, row.given)?;
     heap.refuse_after(left);
     is_made::<SetInChunks<'_>>(SetInChunks::from(heap, [first.0, second.0]), row.outcome)
+}
+
+/// Tries to make a closed set in chunks.
+pub fn try_chunked_inclusive_set(heap: &Heap, row: &Row<'_>, left: u64) -> Answer {
+    let (first, second) = two_pairs::<Closed<Costly<'_>>, RangeInclusive<Costly<'_>>, (), &Heap>(
+        heap, row.given,
+    )?;
+    heap.refuse_after(left);
+    is_made::<InclusiveSetInChunks<'_>>(
+        InclusiveSetInChunks::from(heap, [first.0, second.0]),
+        row.outcome,
+    )
 }

@@ -5,7 +5,8 @@ ghost use Rattle.rangemap.specs.Clones.{KeysCloneFaithfully, ValuesCloneFaithful
 use rangemap::map::Map;
 use rangemap::range_set::Set;
 use rangemap::{Form, RangeInclusiveMap, ReadError};
-use rangemap_core::kind::OwnSteps;
+use rangemap_core::key_range::KeyRange;
+use rangemap_core::kind::Kind;
 use rangemap_core::store::Store;
 use serde_json::Value;
 use std::alloc::{AllocError, Global};
@@ -47,7 +48,7 @@ fn form_and_value(alloc: Global, given: &str) -> Result<(Form, Value), Fail> {
 pub fn try_map<'a, S>(heap: &'a Heap, alloc: Global, row: &Row<'_>, left: u64) -> Answer
 where
     S: Store<Range: FromEnds<Key = u32>, Value = u32, Alloc = &'a Heap> + Drop,
-    S::Kind: OwnSteps<S::Range>,
+    S::Kind: Kind<S::Range, Steps = <S::Range as KeyRange>::Key>,
     Map<S>: InRows<Range = S::Range, Value = u32, Alloc = &'a Heap, Kind = S::Kind>,
 {
     let (form, value) = form_and_value(alloc, row.given)?;
@@ -60,7 +61,7 @@ where
 pub fn try_set<'a, S>(heap: &'a Heap, alloc: Global, row: &Row<'_>, left: u64) -> Answer
 where
     S: Store<Range: FromEnds<Key = u32>, Value = (), Alloc = &'a Heap> + Drop,
-    S::Kind: OwnSteps<S::Range>,
+    S::Kind: Kind<S::Range, Steps = <S::Range as KeyRange>::Key>,
     Set<S>: InRows<Range = S::Range, Value = (), Alloc = &'a Heap, Kind = S::Kind>,
 {
     let (form, value) = form_and_value(alloc, row.given)?;

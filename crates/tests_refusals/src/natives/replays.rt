@@ -1,91 +1,180 @@
-//! Replays, at keys and values that are known: over any, the proof takes many times as long.
+//! Replays, of containers over each store, which is named here once for all keys and values.
+ghost use Rattle.std.specs.List.{AllByRecursion};
+ghost use Rattle.std.specs.Prelude.{IfOk};
+ghost use Rattle.rangemap.specs.Clones.{KeysCloneFaithfully, ValuesCloneFaithfully};
 
-use rangemap::{RangeInclusiveMap, RangeInclusiveSet, RangeMap, RangeSet};
-use rangemap_core::closed::Closed;
+use rangemap::map::Map;
+use rangemap::range_set::Set;
+use rangemap_chunked::Chunks;
 use rangemap_core::half_open::HalfOpen;
-use std::ops::{Range, RangeInclusive};
-use tests_requests::{Answer, Row, try_changes, try_replay};
-use tests_support::{
-    ChunkedMap, ChunkedSet, Costly, CostlyTree, CostlyTreeSet, Heap, SignedSteps, Text, calls_of,
-    set_calls_of,
-};
+use rangemap_core::kind::Kind;
+use rangemap_replay::replay::CallOn;
+use rangemap_sorted::SortedVec;
+use rangemap_tree::Tree;
+use std::marker::PhantomData;
+use std::ops::Range;
+use std::test::Fail;
+use tests_requests::{Allocs, Answer, Heaps, Row, check_added, try_replay};
+use tests_support::{FromEnds, Heap, InRows, Word, calls_of, parts, set_calls_of};
 
-/// A map to texts in chunks of up to four pairs.
-type Texts<'a> = ChunkedMap<HalfOpen, Range<u32>, Text<'a>, &'a Heap, 4>;
-
-/// A set in chunks of up to four ranges.
-type CostlySet<'a> = ChunkedSet<HalfOpen, Range<Costly<'a>>, &'a Heap, 4>;
-
-/// A map over other steps in chunks of up to two pairs.
-type SteppedMap<'a> = ChunkedMap<Closed<SignedSteps>, RangeInclusive<i8>, bool, &'a Heap, 2>;
-
-/// A set over other steps in chunks of up to two ranges.
-type SteppedSet<'a> = ChunkedSet<Closed<SignedSteps>, RangeInclusive<i8>, &'a Heap, 2>;
-
-/// Tries the replay of maps.
-pub fn try_maps(heap: &Heap, row: &Row<'_>, left: u64) -> Answer {
-    let calls = calls_of::<HalfOpen, Range<u32>, char, &Heap>(heap, row.given);
-    try_replay::<RangeMap<u32, char, &Heap>, _>(heap, heap, calls, row, left)
+/// What is asked of a replay.
+#[derive(Drop)]
+pub enum Asked<'t, A> {
+    /// Whether that of a row's calls is accepted, where the request is refused that comes after so
+    /// many others.
+    Tried(&'t Heap, A, &'t Row<'t>, u64),
+    /// Whether what a row's calls add lies in the heap that it names. The calls have their memory of
+    /// the last heap.
+    Owner(Heaps<'t>, Allocs<A>, A, &'t str),
 }
 
-/// Tries the replay of closed maps.
-pub fn try_inclusive_maps(heap: &Heap, row: &Row<'_>, left: u64) -> Answer {
-    let calls = calls_of::<Closed<u8>, RangeInclusive<u8>, bool, &Heap>(heap, row.given);
-    try_replay::<RangeInclusiveMap<u8, bool, u8, &Heap>, _>(heap, heap, calls, row, left)
+impl<'t, A: Copy> Asked<'t, A> {
+    /// What the calls have their memory of.
+    fn memory(&self) -> A {
+        match self {
+            Asked::Tried(_, alloc, _, _) => *alloc,
+            Asked::Owner(_, _, own, _) => *own,
+        }
+    }
+
+    /// The calls, as the row has them.
+    fn calls(&self) -> Result<&'t str, Fail> {
+        match self {
+            Asked::Tried(_, _, row, _) => Ok(row.given),
+            Asked::Owner(_, _, _, row) => Ok(parts(row)?.1),
+        }
+    }
 }
 
-/// Tries the replay of maps in trees.
-pub fn try_trees(heap: &Heap, row: &Row<'_>, left: u64) -> Answer {
-    let calls = calls_of::<HalfOpen, Range<Costly<'_>>, char, &Heap>(heap, row.given);
-    try_replay::<CostlyTree<'_>, _>(heap, heap, calls, row, left)
+/// Answers what is asked, of calls on a container.
+fn answer_of<M: InRows, C: CallOn<M>>(
+    asked: Asked<'_, M::Alloc>,
+    calls: Result<Vec<C, M::Alloc>, Fail>,
+) -> Answer
+    requires non_empty { IfOk calls (λ calls. AllByRecursion C.has_non_empty calls.items) }
+    requires faithful_keys { KeysCloneFaithfully M.Range.Key.is_clone M.Range.Key.cmp }
+    requires faithful_values { ValuesCloneFaithfully M.Value.is_clone M.Value.eq }
+{
+    match asked {
+        Asked::Tried(heap, alloc, row, left) => try_replay::<M, C>(heap, alloc, calls, row, left),
+        Asked::Owner(heaps, allocs, _, row) => {
+            check_added::<M, C>(heaps, allocs, calls?, row)?;
+            Ok(true)
+        }
+    }
 }
 
-/// Tries the replay of sets.
-pub fn try_sets(heap: &Heap, row: &Row<'_>, left: u64) -> Answer {
-    let calls = set_calls_of::<HalfOpen, Range<u32>, &Heap>(heap, row.given);
-    try_replay::<RangeSet<u32, &Heap>, _>(heap, heap, calls, row, left)
+/// Containers that are replayed.
+///
+/// It asks for no other trait, so that a proof which names a container tells of its keys and values
+/// alone, and not of all that a container does.
+pub trait Replayed<'a> {
+    /// That a clone of a key or a value equals its original.
+    ghost clones_are_faithful: { Type 0 };
+
+    /// Answers what is asked.
+    fn answer(asked: Asked<'_, &'a Heap>) -> Answer
+        requires { clones_are_faithful };
 }
 
-/// Tries the replay of closed sets.
-pub fn try_inclusive_sets(heap: &Heap, row: &Row<'_>, left: u64) -> Answer {
-    let calls = set_calls_of::<Closed<u8>, RangeInclusive<u8>, &Heap>(heap, row.given);
-    try_replay::<RangeInclusiveSet<u8, u8, &Heap>, _>(heap, heap, calls, row, left)
+/// Maps over a store.
+pub struct Maps<S> {
+    stores: PhantomData<S>,
 }
 
-/// Tries the replay of sets in trees.
-pub fn try_tree_sets(heap: &Heap, row: &Row<'_>, left: u64) -> Answer {
-    let calls = set_calls_of::<HalfOpen, Range<Costly<'_>>, &Heap>(heap, row.given);
-    try_replay::<CostlyTreeSet<'_>, _>(heap, heap, calls, row, left)
+/// Sets over a store.
+pub struct Sets<S> {
+    stores: PhantomData<S>,
 }
 
-/// Tries the replay of maps in chunks.
-pub fn try_chunked_maps(heap: &Heap, row: &Row<'_>, left: u64) -> Answer {
-    let calls = calls_of::<HalfOpen, Range<u32>, Text<'_>, &Heap>(heap, row.given);
-    try_replay::<Texts<'_>, _>(heap, heap, calls, row, left)
+impl<
+    'a,
+    Q: Kind<R, Steps = R::Key>,
+    R: FromEnds<Key: Word<&'a Heap>>,
+    V: Eq + Clone + Word<&'a Heap>,
+> Replayed<'a> for Maps<SortedVec<Q, R, V, &'a Heap>> {
+    ghost use Rattle.rangemap.specs.Clones.{KeysCloneFaithfully, ValuesCloneFaithfully};
+
+    ghost clones_are_faithful = { KeysCloneFaithfully R.Key.is_clone R.Key.cmp × ValuesCloneFaithfully V.is_clone V.eq };
+
+    fn answer(asked: Asked<'_, &'a Heap>) -> Answer
+        requires { KeysCloneFaithfully R.Key.is_clone R.Key.cmp × ValuesCloneFaithfully V.is_clone V.eq }
+    {
+        let calls = calls_of::<Q, R, V, &'a Heap>(asked.memory(), asked.calls()?);
+        answer_of::<Map<SortedVec<Q, R, V, &'a Heap>>, _>(asked, calls)
+    }
 }
 
-/// Tries the replay of sets in chunks.
-pub fn try_chunked_sets(heap: &Heap, row: &Row<'_>, left: u64) -> Answer {
-    let calls = set_calls_of::<HalfOpen, Range<Costly<'_>>, &Heap>(heap, row.given);
-    try_replay::<CostlySet<'_>, _>(heap, heap, calls, row, left)
+impl<
+    'a,
+    Q: Kind<R, Steps = R::Key>,
+    R: FromEnds<Key: Word<&'a Heap>>,
+    V: Eq + Clone + Word<&'a Heap>,
+    const N: usize,
+> Replayed<'a> for Maps<Chunks<Q, R, V, &'a Heap, N>> {
+    ghost use Rattle.rangemap.specs.Clones.{KeysCloneFaithfully, ValuesCloneFaithfully};
+
+    ghost clones_are_faithful = { KeysCloneFaithfully R.Key.is_clone R.Key.cmp × ValuesCloneFaithfully V.is_clone V.eq };
+
+    fn answer(asked: Asked<'_, &'a Heap>) -> Answer
+        requires { KeysCloneFaithfully R.Key.is_clone R.Key.cmp × ValuesCloneFaithfully V.is_clone V.eq }
+    {
+        let calls = calls_of::<Q, R, V, &'a Heap>(asked.memory(), asked.calls()?);
+        answer_of::<Map<Chunks<Q, R, V, &'a Heap, N>>, _>(asked, calls)
+    }
 }
 
-/// Tries the replay of maps by steps.
-pub fn try_stepped_maps(heap: &Heap, row: &Row<'_>, left: u64) -> Answer {
-    try_changes::<RangeInclusiveMap<i8, bool, SignedSteps, &Heap>>(heap, heap, row, left)
+impl<'a, K: Ord + Clone + Word<&'a Heap>, V: Eq + Clone + Word<&'a Heap>> Replayed<'a>
+    for Maps<Tree<K, V, &'a Heap>> {
+    ghost use Rattle.rangemap.specs.Clones.{KeysCloneFaithfully, ValuesCloneFaithfully};
+
+    ghost clones_are_faithful = { KeysCloneFaithfully K.is_clone K.cmp × ValuesCloneFaithfully V.is_clone V.eq };
+
+    fn answer(asked: Asked<'_, &'a Heap>) -> Answer
+        requires { KeysCloneFaithfully K.is_clone K.cmp × ValuesCloneFaithfully V.is_clone V.eq }
+    {
+        let calls = calls_of::<HalfOpen, Range<K>, V, &'a Heap>(asked.memory(), asked.calls()?);
+        answer_of::<Map<Tree<K, V, &'a Heap>>, _>(asked, calls)
+    }
 }
 
-/// Tries the replay of sets by steps.
-pub fn try_stepped_sets(heap: &Heap, row: &Row<'_>, left: u64) -> Answer {
-    try_changes::<RangeInclusiveSet<i8, SignedSteps, &Heap>>(heap, heap, row, left)
+impl<'a, Q: Kind<R, Steps = R::Key>, R: FromEnds<Key: Word<&'a Heap>>> Replayed<'a>
+    for Sets<SortedVec<Q, R, (), &'a Heap>> {
+    ghost use Rattle.rangemap.specs.Clones.{KeysCloneFaithfully};
+
+    ghost clones_are_faithful = { KeysCloneFaithfully R.Key.is_clone R.Key.cmp };
+
+    fn answer(asked: Asked<'_, &'a Heap>) -> Answer
+        requires { KeysCloneFaithfully R.Key.is_clone R.Key.cmp }
+    {
+        let calls = set_calls_of::<Q, R, &'a Heap>(asked.memory(), asked.calls()?);
+        answer_of::<Set<SortedVec<Q, R, (), &'a Heap>>, _>(asked, calls)
+    }
 }
 
-/// Tries the replay of maps in chunks by steps.
-pub fn try_stepped_chunked_maps(heap: &Heap, row: &Row<'_>, left: u64) -> Answer {
-    try_changes::<SteppedMap<'_>>(heap, heap, row, left)
+impl<'a, Q: Kind<R, Steps = R::Key>, R: FromEnds<Key: Word<&'a Heap>>, const N: usize> Replayed<'a>
+    for Sets<Chunks<Q, R, (), &'a Heap, N>> {
+    ghost use Rattle.rangemap.specs.Clones.{KeysCloneFaithfully};
+
+    ghost clones_are_faithful = { KeysCloneFaithfully R.Key.is_clone R.Key.cmp };
+
+    fn answer(asked: Asked<'_, &'a Heap>) -> Answer
+        requires { KeysCloneFaithfully R.Key.is_clone R.Key.cmp }
+    {
+        let calls = set_calls_of::<Q, R, &'a Heap>(asked.memory(), asked.calls()?);
+        answer_of::<Set<Chunks<Q, R, (), &'a Heap, N>>, _>(asked, calls)
+    }
 }
 
-/// Tries the replay of sets in chunks by steps.
-pub fn try_stepped_chunked_sets(heap: &Heap, row: &Row<'_>, left: u64) -> Answer {
-    try_changes::<SteppedSet<'_>>(heap, heap, row, left)
+impl<'a, K: Ord + Clone + Word<&'a Heap>> Replayed<'a> for Sets<Tree<K, (), &'a Heap>> {
+    ghost use Rattle.rangemap.specs.Clones.{KeysCloneFaithfully};
+
+    ghost clones_are_faithful = { KeysCloneFaithfully K.is_clone K.cmp };
+
+    fn answer(asked: Asked<'_, &'a Heap>) -> Answer
+        requires { KeysCloneFaithfully K.is_clone K.cmp }
+    {
+        let calls = set_calls_of::<HalfOpen, Range<K>, &'a Heap>(asked.memory(), asked.calls()?);
+        answer_of::<Set<Tree<K, (), &'a Heap>>, _>(asked, calls)
+    }
 }

@@ -1,19 +1,15 @@
 //! Rows about maps that are made of pairs and of other maps, in a sorted vector, in a tree and
 //! in chunks.
 
+use crate::made::Made;
+use crate::maps::{made_in_chunks, made_in_tree, made_in_vector};
 use rangemap::map::Map;
-use rangemap_chunked::Chunks;
 use rangemap_core::half_open::HalfOpen;
 use rangemap_core::store::Store;
-use rangemap_sorted::SortedVec;
-use rangemap_tree::Tree;
 use std::alloc::{AllocError, Global};
 use std::ops::Range;
 use std::test::Fail;
 use tests_support::{check_same, check_text};
-
-/// A sorted vector.
-type Sorted = SortedVec<HalfOpen, Range<u32>, char, Global>;
 
 /// Extends a map by the pairs of a chain, which start at 10, 20 and so on.
 fn extend_by_chain<S>(map: &mut Map<S>, end: u8) -> Result<(), AllocError>
@@ -24,7 +20,7 @@ where
 }
 
 /// Compares a map of two pairs, a clone of it, one that a chain extends, and one that a chain makes.
-fn check_made<S>(alloc: Global) -> Result<(), Fail>
+pub fn check_pairs<S>(alloc: Global) -> Result<(), Fail>
 where
     S: Store<Kind = HalfOpen, Range = Range<u32>, Value = char, Alloc = Global> + Drop,
 {
@@ -45,7 +41,7 @@ where
 }
 
 /// Compares two maps that are equal, and two that are not.
-fn check_equality<S>(alloc: Global) -> Result<(), Fail>
+pub fn check_equality<S>(alloc: Global) -> Result<(), Fail>
 where
     S: Store<Kind = HalfOpen, Range = Range<u32>, Value = char, Alloc = Global> + Drop,
 {
@@ -57,29 +53,37 @@ where
     check_same((short == long, short != long), (false, true))
 }
 
+/// Compares a map that an array extends, and its length when a chain has extended it too.
+pub fn check_array_and_chain<S>(alloc: Global) -> Result<(), Fail>
+where
+    S: Store<Kind = HalfOpen, Range = Range<u32>, Value = char, Alloc = Global> + Drop,
+{
+    let mut map: Map<S> = Map::new(alloc);
+    map.extend([(0u32..5, 'a'), (5..9, 'b')])?;
+    check_text(alloc, &map, "{0..5: 'a', 5..9: 'b'}")?;
+    extend_by_chain(&mut map, 100)?;
+    check_same(map.len(), 101)
+}
+
 #[test]
 fn pairs_are_inserted_in_order(rt: HostRuntime) -> Result<(), Fail> {
-    check_made::<Sorted>(rt.alloc())?;
-    check_equality::<Sorted>(rt.alloc())
+    made_in_vector(rt.alloc(), &Made::Pairs)?;
+    made_in_vector(rt.alloc(), &Made::Equals)
 }
 
 #[test]
 fn pairs_are_inserted_in_order_in_a_tree(rt: HostRuntime) -> Result<(), Fail> {
-    check_made::<Tree<u32, char, Global>>(rt.alloc())?;
-    check_equality::<Tree<u32, char, Global>>(rt.alloc())
+    made_in_tree(rt.alloc(), &Made::Pairs)?;
+    made_in_tree(rt.alloc(), &Made::Equals)
 }
 
 #[test]
 fn pairs_are_inserted_in_order_in_chunks(rt: HostRuntime) -> Result<(), Fail> {
-    check_made::<Chunks<HalfOpen, Range<u32>, char, Global, 2>>(rt.alloc())?;
-    check_equality::<Chunks<HalfOpen, Range<u32>, char, Global, 2>>(rt.alloc())
+    made_in_chunks(rt.alloc(), &Made::Pairs)?;
+    made_in_chunks(rt.alloc(), &Made::Equals)
 }
 
 #[test]
 fn an_array_and_a_chain_are_taken(rt: HostRuntime) -> Result<(), Fail> {
-    let mut map: Map<Sorted> = Map::new(rt.alloc());
-    map.extend([(0u32..5, 'a'), (5..9, 'b')])?;
-    check_text(rt.alloc(), &map, "{0..5: 'a', 5..9: 'b'}")?;
-    extend_by_chain(&mut map, 100)?;
-    check_same(map.len(), 101)
+    made_in_vector(rt.alloc(), &Made::Extended)
 }

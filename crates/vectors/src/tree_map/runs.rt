@@ -6,15 +6,16 @@ ghost use Rattle.std.specs.Ordering.{nat_cmp};
 ghost use Rattle.rangemap.specs.Ranges.{half_open};
 ghost use Rattle.rangemap.specs.Runs.{IsAllowed};
 
+use crate::made::Made;
+use crate::maps::{made_in_chunks, made_in_tree, made_in_vector};
 use rangemap::container::Container;
 use rangemap::tree_map::{Answer, Command, Outcome, run};
-use rangemap::{RangeMap, tree_map};
 use rangemap_core::half_open::HalfOpen;
 use std::alloc::{AllocError, Global};
 use std::fmt::Write;
 use std::ops::Range;
 use std::test::Fail;
-use tests_support::{ChunkedMap, check_same};
+use tests_support::check_same;
 
 /// Commands over numbers.
 type Commands = Vec<Command<u32, Range<u32>, char>, Global>;
@@ -59,7 +60,7 @@ fn write_answer(
 }
 
 /// Runs the commands on a map, and compares what they answer.
-fn check_run<M>(alloc: Global) -> Result<(), Fail>
+pub fn check_run<M>(alloc: Global) -> Result<(), Fail>
 where
     M: Container<Alloc = Global, Kind = HalfOpen, Range = Range<u32>, Value = char>,
 {
@@ -74,7 +75,7 @@ where
 
 #[test]
 fn commands_are_answered_by_every_map(rt: HostRuntime) -> Result<(), Fail> {
-    check_run::<RangeMap<u32, char>>(rt.alloc())?;
-    check_run::<tree_map::RangeMap<u32, char>>(rt.alloc())?;
-    check_run::<ChunkedMap<HalfOpen, Range<u32>, char, Global, 2>>(rt.alloc())
+    made_in_vector(rt.alloc(), &Made::Answers)?;
+    made_in_tree(rt.alloc(), &Made::Answers)?;
+    made_in_chunks(rt.alloc(), &Made::Answers)
 }

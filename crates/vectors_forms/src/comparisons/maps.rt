@@ -1,32 +1,65 @@
 //! Rows of maps. The first pair that differs decides, by its start, its end and then its value, and a
 //! difference weighs more than the lengths.
+ghost use Rattle.rangemap.specs.Clones.{KeysCloneFaithfully, ValuesCloneFaithfully};
 
 use super::check_rows;
-use rangemap::{RangeInclusiveMap, RangeMap, tree_map};
+use rangemap::map::Map;
+use rangemap_chunked::Chunks;
 use rangemap_core::closed::Closed;
 use rangemap_core::half_open::HalfOpen;
+use rangemap_core::key_range::KeyRange;
+use rangemap_core::kind::Kind;
+use rangemap_core::store::Store;
+use rangemap_sorted::SortedVec;
+use rangemap_tree::Tree;
 use std::alloc::Global;
+use std::hash::Hash;
 use std::ops::{Range, RangeInclusive};
 use std::test::Fail;
-use tests_support::{ChunkedMap, SignedSteps};
+use tests_support::{SignedSteps, Word};
 
-/// Compares a table for maps of half-open ranges, in a sorted vector, in a tree and in chunks.
+/// Compares a table for maps over a store.
+fn check_maps<S>(alloc: Global, table: &str) -> Result<(), Fail>
+where
+    S: Store<
+        Range: KeyRange<Key: Word<Global> + Hash>,
+        Value: Word<Global> + Ord + Hash,
+        Alloc = Global,
+    >
+        + Drop,
+    requires faithful_keys { KeysCloneFaithfully S.Range.Key.is_clone S.Range.Key.cmp }
+    requires faithful_values { ValuesCloneFaithfully S.Value.is_clone S.Value.eq }
+{
+    check_rows::<Map<S>>(alloc, table)
+}
+
+/// Compares a table for maps in a sorted vector and in chunks of up to two pairs.
+fn check_kind<Q, R, V>(alloc: Global, table: &str) -> Result<(), Fail>
+where
+    Q: Kind<R>,
+    R: KeyRange<Key: Word<Global> + Hash>,
+    V: Word<Global> + Ord + Hash + Clone,
+    requires faithful_keys { KeysCloneFaithfully R.Key.is_clone R.Key.cmp }
+    requires faithful_values { ValuesCloneFaithfully V.is_clone V.eq }
+{
+    check_maps::<SortedVec<Q, R, V, Global>>(alloc, table)?;
+    check_maps::<Chunks<Q, R, V, Global, 2>>(alloc, table)
+}
+
+/// Compares a table for maps of half-open ranges, in a sorted vector, in chunks and in a tree.
 fn check_half_open(alloc: Global, table: &str) -> Result<(), Fail> {
-    check_rows::<RangeMap<u32, char>>(alloc, table)?;
-    check_rows::<tree_map::RangeMap<u32, char>>(alloc, table)?;
-    check_rows::<ChunkedMap<HalfOpen, Range<u32>, char, Global, 2>>(alloc, table)
+    check_kind::<HalfOpen, Range<u32>, char>(alloc, table)?;
+    check_maps::<Tree<u32, char, Global>>(alloc, table)
 }
 
-/// Compares a table for maps of closed ranges, in a sorted vector and in chunks.
+/// Compares a table for maps of closed ranges.
 fn check_closed(alloc: Global, table: &str) -> Result<(), Fail> {
-    check_rows::<RangeInclusiveMap<u32, char>>(alloc, table)?;
-    check_rows::<ChunkedMap<Closed<u32>, RangeInclusive<u32>, char, Global, 2>>(alloc, table)
+    check_kind::<Closed<u32>, RangeInclusive<u32>, char>(alloc, table)
 }
 
-/// Compares a table for maps over the steps of another type, in a sorted vector and in chunks.
+/// Compares a table for maps over the steps of another type.
 fn check_stepped(alloc: Global, table: &str) -> Result<(), Fail> {
-    check_rows::<RangeInclusiveMap<i8, bool, SignedSteps>>(alloc, table)?;
-    check_rows::<ChunkedMap<Closed<SignedSteps>, RangeInclusive<i8>, bool, Global, 2>>(alloc, table)
+    check_kind::<Closed<SignedSteps>, RangeInclusive<i8>, bool>(alloc, table)
 }
 
 #[test]

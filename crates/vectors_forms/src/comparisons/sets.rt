@@ -1,25 +1,51 @@
 //! Rows of sets. The first range that differs decides, by its start and then its end.
+ghost use Rattle.rangemap.specs.Clones.{KeysCloneFaithfully};
 
 use super::check_rows;
-use rangemap::{RangeInclusiveSet, RangeSet, tree_set};
+use rangemap::range_set::Set;
+use rangemap_chunked::Chunks;
 use rangemap_core::closed::Closed;
 use rangemap_core::half_open::HalfOpen;
+use rangemap_core::key_range::KeyRange;
+use rangemap_core::kind::Kind;
+use rangemap_core::store::Store;
+use rangemap_sorted::SortedVec;
+use rangemap_tree::Tree;
 use std::alloc::Global;
+use std::hash::Hash;
 use std::ops::{Range, RangeInclusive};
 use std::test::Fail;
-use tests_support::ChunkedSet;
+use tests_support::Word;
 
-/// Compares a table for sets of half-open ranges, in a sorted vector, in a tree and in chunks.
-fn check_half_open(alloc: Global, table: &str) -> Result<(), Fail> {
-    check_rows::<RangeSet<u32>>(alloc, table)?;
-    check_rows::<tree_set::RangeSet<u32>>(alloc, table)?;
-    check_rows::<ChunkedSet<HalfOpen, Range<u32>, Global, 2>>(alloc, table)
+/// Compares a table for sets over a store.
+fn check_sets<S>(alloc: Global, table: &str) -> Result<(), Fail>
+where
+    S: Store<Range: KeyRange<Key: Word<Global> + Hash>, Value = (), Alloc = Global> + Drop,
+    requires { KeysCloneFaithfully S.Range.Key.is_clone S.Range.Key.cmp }
+{
+    check_rows::<Set<S>>(alloc, table)
 }
 
-/// Compares a table for sets of closed ranges, in a sorted vector and in chunks.
+/// Compares a table for sets in a sorted vector and in chunks of up to two ranges.
+fn check_kind<Q, R>(alloc: Global, table: &str) -> Result<(), Fail>
+where
+    Q: Kind<R>,
+    R: KeyRange<Key: Word<Global> + Hash>,
+    requires { KeysCloneFaithfully R.Key.is_clone R.Key.cmp }
+{
+    check_sets::<SortedVec<Q, R, (), Global>>(alloc, table)?;
+    check_sets::<Chunks<Q, R, (), Global, 2>>(alloc, table)
+}
+
+/// Compares a table for sets of half-open ranges, in a sorted vector, in chunks and in a tree.
+fn check_half_open(alloc: Global, table: &str) -> Result<(), Fail> {
+    check_kind::<HalfOpen, Range<u32>>(alloc, table)?;
+    check_sets::<Tree<u32, (), Global>>(alloc, table)
+}
+
+/// Compares a table for sets of closed ranges.
 fn check_closed(alloc: Global, table: &str) -> Result<(), Fail> {
-    check_rows::<RangeInclusiveSet<u32>>(alloc, table)?;
-    check_rows::<ChunkedSet<Closed<u32>, RangeInclusive<u32>, Global, 2>>(alloc, table)
+    check_kind::<Closed<u32>, RangeInclusive<u32>>(alloc, table)
 }
 
 #[test]

@@ -2,23 +2,25 @@
 
 use super::{Fault, InJson, check_rows, read_number, read_text, write_number, write_text};
 use rangemap::map::Map;
-use rangemap::{Form, RangeInclusiveMap, RangeMap, ReadError, WriteError, tree_map};
+use rangemap::{Form, ReadError, WriteError};
+use rangemap_chunked::Chunks;
 use rangemap_core::closed::Closed;
 use rangemap_core::half_open::HalfOpen;
 use rangemap_core::key_range::KeyRange;
-use rangemap_core::kind::OwnSteps;
+use rangemap_core::kind::Kind;
 use rangemap_core::store::Store;
+use rangemap_sorted::SortedVec;
+use rangemap_tree::Tree;
 use serde_json::Value;
 use std::alloc::Global;
 use std::fmt::Debug;
 use std::ops::{Range, RangeInclusive};
 use std::test::Fail;
-use tests_support::ChunkedMap;
 
 impl<S: Store<Value = String, Alloc = Global, Range: KeyRange<Key = u32> + Debug> + Drop> InJson
     for Map<S>
 where
-    S::Kind: OwnSteps<S::Range>,
+    S::Kind: Kind<S::Range, Steps = <S::Range as KeyRange>::Key>,
 {
     fn write(&self, alloc: Global) -> Result<Value, WriteError<Fault>> {
         self.to_value(alloc, write_number, write_text)
@@ -29,18 +31,33 @@ where
     }
 }
 
-/// Compares a table for maps of numbers to texts, in a sorted vector, in a tree and in
-/// chunks.
-fn check_half_open(alloc: Global, table: &str) -> Result<(), Fail> {
-    check_rows::<RangeMap<u32, String>>(alloc, table)?;
-    check_rows::<tree_map::RangeMap<u32, String>>(alloc, table)?;
-    check_rows::<ChunkedMap<HalfOpen, Range<u32>, String, Global, 2>>(alloc, table)
+/// Compares a table for maps of numbers to texts over a store.
+fn check_maps<S>(alloc: Global, table: &str) -> Result<(), Fail>
+where
+    S: Store<Value = String, Alloc = Global, Range: KeyRange<Key = u32> + Debug> + Drop,
+    S::Kind: Kind<S::Range, Steps = <S::Range as KeyRange>::Key>,
+{
+    check_rows::<Map<S>>(alloc, table)
 }
 
-/// Compares a table for maps over closed ranges, in a sorted vector and in chunks.
+/// Compares a table for maps in a sorted vector and in chunks of up to two pairs.
+fn check_kind<Q: Kind<R, Steps = R::Key>, R: KeyRange<Key = u32> + Debug>(
+    alloc: Global,
+    table: &str,
+) -> Result<(), Fail> {
+    check_maps::<SortedVec<Q, R, String, Global>>(alloc, table)?;
+    check_maps::<Chunks<Q, R, String, Global, 2>>(alloc, table)
+}
+
+/// Compares a table for maps over half-open ranges, in a sorted vector, in chunks and in a tree.
+fn check_half_open(alloc: Global, table: &str) -> Result<(), Fail> {
+    check_kind::<HalfOpen, Range<u32>>(alloc, table)?;
+    check_maps::<Tree<u32, String, Global>>(alloc, table)
+}
+
+/// Compares a table for maps over closed ranges.
 fn check_closed(alloc: Global, table: &str) -> Result<(), Fail> {
-    check_rows::<RangeInclusiveMap<u32, String>>(alloc, table)?;
-    check_rows::<ChunkedMap<Closed<u32>, RangeInclusive<u32>, String, Global, 2>>(alloc, table)
+    check_kind::<Closed<u32>, RangeInclusive<u32>>(alloc, table)
 }
 
 #[test]

@@ -1,6 +1,7 @@
 //! What is made again of what containers hand over, by the laws.
 
 use super::{read_number, write_number};
+use crate::made::Made;
 use rangemap::Form;
 use rangemap::laws::{round_trips, set_round_trips};
 use rangemap::map::Map;
@@ -8,28 +9,23 @@ use rangemap::range_set::Set;
 use rangemap_chunked::Chunks;
 use rangemap_core::closed::Closed;
 use rangemap_core::half_open::HalfOpen;
-use rangemap_core::kind::OwnSteps;
+use rangemap_core::key_range::KeyRange;
+use rangemap_core::kind::Kind;
 use rangemap_core::store::{HandsOver, Store};
 use rangemap_sorted::SortedVec;
 use std::alloc::Global;
+use std::fmt::Debug;
 use std::ops::{Range, RangeInclusive};
 use std::test::Fail;
-use tests_support::{FromEnds, InRows, check_row, check_that, made_of};
+use tests_support::{check_text, check_that};
 
-/// A store of numbers in a sorted vector.
-type Sorted<Q, R, V> = SortedVec<Q, R, V, Global>;
-
-/// A store of numbers in chunks of up to two pairs.
-type InChunks<Q, R, V> = Chunks<Q, R, V, Global, 2>;
-
-/// Reads a map again in either form, and makes one again of its pairs.
-fn check_map<S>(alloc: Global, inserted: &str, pairs: &str) -> Result<(), Fail>
+/// Reads a map again in either form, makes one again of its pairs, and compares the texts of these.
+fn check_map<S>(alloc: Global, pairs: &str, text: &str) -> Result<(), Fail>
 where
-    S: HandsOver + Store<Range: FromEnds<Key = u32>, Value = u32, Alloc = Global> + Drop,
-    S::Kind: OwnSteps<S::Range>,
-    Map<S>: InRows<Range = S::Range, Value = u32, Alloc = Global, Kind = S::Kind>,
+    S: HandsOver<Range: KeyRange<Key = u32> + Debug, Value = u32, Alloc = Global> + Drop,
+    S::Kind: Kind<S::Range, Steps = <S::Range as KeyRange>::Key>,
 {
-    let map: Map<S> = made_of(alloc, inserted)?;
+    let map: Map<S> = Made::made_of(alloc, pairs)?;
     for form in [Form::Any, Form::Canonical] {
         let answer = round_trips::reading_what_was_written_is_equal(
             alloc,
@@ -42,20 +38,30 @@ where
         let Ok((_, again)) = answer else {
             return Err(Fail::new("a map was not read again"));
         };
-        check_again::<Map<S>>(&map, &again, pairs)?;
+        check_that(again == map, "what was read again differs")?;
+        check_map_again(alloc, &again, text)?;
     }
     let again: Map<S> = round_trips::from_iter_of_into_iter_is_equal(alloc, map)?;
-    check_row(&again, pairs)
+    check_map_again(alloc, &again, text)
+}
+
+/// Compares the text of how many pairs a map has, of the first and the last of them, and of all.
+fn check_map_again<S>(alloc: Global, map: &Map<S>, text: &str) -> Result<(), Fail>
+where
+    S: Store<Range: KeyRange<Key = u32> + Debug, Value = u32>,
+    S::Kind: Kind<S::Range, Steps = <S::Range as KeyRange>::Key>,
+{
+    let ends = (map.first_range_value(), map.last_range_value());
+    check_text(alloc, &(map.len(), ends, map), text)
 }
 
 /// The same of a set.
-fn check_set<S>(alloc: Global, ranges: &str) -> Result<(), Fail>
+fn check_set<S>(alloc: Global, ranges: &str, text: &str) -> Result<(), Fail>
 where
-    S: HandsOver + Store<Range: FromEnds<Key = u32>, Value = (), Alloc = Global> + Drop,
-    S::Kind: OwnSteps<S::Range>,
-    Set<S>: InRows<Range = S::Range, Value = (), Alloc = Global, Kind = S::Kind>,
+    S: HandsOver<Range: KeyRange<Key = u32> + Debug, Value = (), Alloc = Global> + Drop,
+    S::Kind: Kind<S::Range, Steps = <S::Range as KeyRange>::Key>,
 {
-    let set: Set<S> = made_of(alloc, ranges)?;
+    let set: Set<S> = Made::made_of(alloc, ranges)?;
     for form in [Form::Any, Form::Canonical] {
         let answer = set_round_trips::reading_what_was_written_is_equal(
             alloc,
@@ -68,69 +74,102 @@ where
         let Ok((_, again)) = answer else {
             return Err(Fail::new("a set was not read again"));
         };
-        check_again::<Set<S>>(&set, &again, ranges)?;
+        check_that(again == set, "what was read again differs")?;
+        check_set_again(alloc, &again, text)?;
     }
     let again: Set<S> = set_round_trips::from_iter_of_into_iter_is_equal(alloc, set)?;
-    check_row(&again, ranges)
+    check_set_again(alloc, &again, text)
 }
 
-/// Compares a container that was made again with the one that it was made of, and with its pairs.
-fn check_again<M: InRows>(made: &M, again: &M, pairs: &str) -> Result<(), Fail> {
-    check_that(again == made, "what was made again differs")?;
-    check_row(again, pairs)
+/// Compares the text of how many ranges a set has, of the first and the last of them, and of all.
+fn check_set_again<S>(alloc: Global, set: &Set<S>, text: &str) -> Result<(), Fail>
+where
+    S: Store<Range: KeyRange<Key = u32> + Debug, Value = ()>,
+    S::Kind: Kind<S::Range, Steps = <S::Range as KeyRange>::Key>,
+{
+    let ends = (set.first(), set.last());
+    check_text(alloc, &(set.len(), ends, set), text)
+}
+
+/// Makes maps again, in a sorted vector and in chunks of up to two pairs.
+fn check_maps<Q: Kind<R, Steps = R::Key>, R: KeyRange<Key = u32> + Debug>(
+    alloc: Global,
+    pairs: &str,
+    text: &str,
+) -> Result<(), Fail> {
+    check_map::<SortedVec<Q, R, u32, Global>>(alloc, pairs, text)?;
+    check_map::<Chunks<Q, R, u32, Global, 2>>(alloc, pairs, text)
+}
+
+/// Makes sets again, in a sorted vector and in chunks of up to two ranges.
+fn check_sets<Q: Kind<R, Steps = R::Key>, R: KeyRange<Key = u32> + Debug>(
+    alloc: Global,
+    ranges: &str,
+    text: &str,
+) -> Result<(), Fail> {
+    check_set::<SortedVec<Q, R, (), Global>>(alloc, ranges, text)?;
+    check_set::<Chunks<Q, R, (), Global, 2>>(alloc, ranges, text)
 }
 
 #[test]
 fn maps_are_made_again(rt: HostRuntime) -> Result<(), Fail> {
-    check_map::<Sorted<HalfOpen, Range<u32>, u32>>(
+    check_maps::<HalfOpen, Range<u32>>(
         rt.alloc(),
         "0..10 1, 3..6 2",
-        "0..3 1, 3..6 2, 6..10 1",
+        "(3, (Some((0..3, 1)), Some((6..10, 1))), {0..3: 1, 3..6: 2, 6..10: 1})",
     )
 }
 
 #[test]
 fn closed_maps_are_made_again(rt: HostRuntime) -> Result<(), Fail> {
-    check_map::<Sorted<Closed<u32>, RangeInclusive<u32>, u32>>(
+    check_maps::<Closed<u32>, RangeInclusive<u32>>(
         rt.alloc(),
         "0..=9 1, 3..=5 2",
-        "0..=2 1, 3..=5 2, 6..=9 1",
+        "(3, (Some((0..=2, 1)), Some((6..=9, 1))), {0..=2: 1, 3..=5: 2, 6..=9: 1})",
     )
 }
 
 #[test]
 fn sets_are_made_again(rt: HostRuntime) -> Result<(), Fail> {
-    check_set::<Sorted<HalfOpen, Range<u32>, ()>>(rt.alloc(), "0..3, 6..10")
+    check_sets::<HalfOpen, Range<u32>>(
+        rt.alloc(),
+        "0..3, 6..10",
+        "(2, (Some(0..3), Some(6..10)), {0..3, 6..10})",
+    )
 }
 
 #[test]
 fn closed_sets_are_made_again(rt: HostRuntime) -> Result<(), Fail> {
-    check_set::<Sorted<Closed<u32>, RangeInclusive<u32>, ()>>(rt.alloc(), "0..=3, 6..=10")
+    check_sets::<Closed<u32>, RangeInclusive<u32>>(
+        rt.alloc(),
+        "0..=3, 6..=10",
+        "(2, (Some(0..=3), Some(6..=10)), {0..=3, 6..=10})",
+    )
 }
 
 #[test]
 fn maps_in_chunks_are_made_again(rt: HostRuntime) -> Result<(), Fail> {
-    let pairs = "0..3 1, 3..6 2, 6..10 1, 12..14 4, 16..18 4";
-    check_map::<InChunks<HalfOpen, Range<u32>, u32>>(
-        rt.alloc(),
-        "0..10 1, 3..6 2, 16..18 4, 12..14 4",
-        pairs,
-    )?;
-    check_map::<InChunks<Closed<u32>, RangeInclusive<u32>, u32>>(
+    let text = "(5, (Some((0..3, 1)), Some((16..18, 4))), \
+        {0..3: 1, 3..6: 2, 6..10: 1, 12..14: 4, 16..18: 4})";
+    check_maps::<HalfOpen, Range<u32>>(rt.alloc(), "0..10 1, 3..6 2, 16..18 4, 12..14 4", text)?;
+    check_maps::<Closed<u32>, RangeInclusive<u32>>(
         rt.alloc(),
         "0..=9 1, 3..=5 2, 16..=17 4, 12..=13 4",
-        "0..=2 1, 3..=5 2, 6..=9 1, 12..=13 4, 16..=17 4",
+        "(5, (Some((0..=2, 1)), Some((16..=17, 4))), \
+        {0..=2: 1, 3..=5: 2, 6..=9: 1, 12..=13: 4, 16..=17: 4})",
     )
 }
 
 #[test]
 fn sets_in_chunks_are_made_again(rt: HostRuntime) -> Result<(), Fail> {
-    check_set::<InChunks<HalfOpen, Range<u32>, ()>>(
+    check_sets::<HalfOpen, Range<u32>>(
         rt.alloc(),
         "0..3, 6..10, 12..14, 16..18, 20..22",
+        "(5, (Some(0..3), Some(20..22)), {0..3, 6..10, 12..14, 16..18, 20..22})",
     )?;
-    check_set::<InChunks<Closed<u32>, RangeInclusive<u32>, ()>>(
+    check_sets::<Closed<u32>, RangeInclusive<u32>>(
         rt.alloc(),
         "0..=3, 6..=10, 12..=14, 16..=18, 20..=22",
+        "(5, (Some(0..=3), Some(20..=22)), {0..=3, 6..=10, 12..=14, 16..=18, 20..=22})",
     )
 }

@@ -2,23 +2,25 @@
 
 use super::{Fault, InJson, check_rows, read_number, write_number};
 use rangemap::range_set::Set;
-use rangemap::{Form, RangeInclusiveSet, RangeSet, ReadError, WriteError, tree_set};
+use rangemap::{Form, ReadError, WriteError};
+use rangemap_chunked::Chunks;
 use rangemap_core::closed::Closed;
 use rangemap_core::half_open::HalfOpen;
 use rangemap_core::key_range::KeyRange;
-use rangemap_core::kind::OwnSteps;
+use rangemap_core::kind::Kind;
 use rangemap_core::store::Store;
+use rangemap_sorted::SortedVec;
+use rangemap_tree::Tree;
 use serde_json::Value;
 use std::alloc::Global;
 use std::fmt::Debug;
 use std::ops::{Range, RangeInclusive};
 use std::test::Fail;
-use tests_support::ChunkedSet;
 
 impl<S: Store<Value = (), Alloc = Global, Range: KeyRange<Key = u32> + Debug> + Drop> InJson
     for Set<S>
 where
-    S::Kind: OwnSteps<S::Range>,
+    S::Kind: Kind<S::Range, Steps = <S::Range as KeyRange>::Key>,
 {
     fn write(&self, alloc: Global) -> Result<Value, WriteError<Fault>> {
         self.to_value(alloc, write_number)
@@ -29,17 +31,33 @@ where
     }
 }
 
-/// Compares a table for sets of numbers, in a sorted vector, in a tree and in chunks.
-fn check_half_open(alloc: Global, table: &str) -> Result<(), Fail> {
-    check_rows::<RangeSet<u32>>(alloc, table)?;
-    check_rows::<tree_set::RangeSet<u32>>(alloc, table)?;
-    check_rows::<ChunkedSet<HalfOpen, Range<u32>, Global, 2>>(alloc, table)
+/// Compares a table for sets of numbers over a store.
+fn check_sets<S>(alloc: Global, table: &str) -> Result<(), Fail>
+where
+    S: Store<Value = (), Alloc = Global, Range: KeyRange<Key = u32> + Debug> + Drop,
+    S::Kind: Kind<S::Range, Steps = <S::Range as KeyRange>::Key>,
+{
+    check_rows::<Set<S>>(alloc, table)
 }
 
-/// Compares a table for sets over closed ranges, in a sorted vector and in chunks.
+/// Compares a table for sets in a sorted vector and in chunks of up to two ranges.
+fn check_kind<Q: Kind<R, Steps = R::Key>, R: KeyRange<Key = u32> + Debug>(
+    alloc: Global,
+    table: &str,
+) -> Result<(), Fail> {
+    check_sets::<SortedVec<Q, R, (), Global>>(alloc, table)?;
+    check_sets::<Chunks<Q, R, (), Global, 2>>(alloc, table)
+}
+
+/// Compares a table for sets over half-open ranges, in a sorted vector, in chunks and in a tree.
+fn check_half_open(alloc: Global, table: &str) -> Result<(), Fail> {
+    check_kind::<HalfOpen, Range<u32>>(alloc, table)?;
+    check_sets::<Tree<u32, (), Global>>(alloc, table)
+}
+
+/// Compares a table for sets over closed ranges.
 fn check_closed(alloc: Global, table: &str) -> Result<(), Fail> {
-    check_rows::<RangeInclusiveSet<u32>>(alloc, table)?;
-    check_rows::<ChunkedSet<Closed<u32>, RangeInclusive<u32>, Global, 2>>(alloc, table)
+    check_kind::<Closed<u32>, RangeInclusive<u32>>(alloc, table)
 }
 
 #[test]

@@ -1,6 +1,6 @@
 //! Rows over sets of closed ranges made by both replays, where every call is accepted.
 
-use crate::tables::{check_bytes_changes, check_closed_replay};
+use crate::sets::{check_bytes_changes, check_closed_replay};
 use std::test::Fail;
 
 #[test]

@@ -1,6 +1,6 @@
 //! Rows over sets made by `replay`, and calls that name no set.
 
-use crate::tables::check_half_open_replay;
+use crate::sets::check_half_open_replay;
 use std::test::Fail;
 
 #[test]

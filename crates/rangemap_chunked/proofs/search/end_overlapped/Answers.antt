@@ -14,7 +14,7 @@ returns-clause-clear g c =
     let end = g.Q.Kind.end_place c.args.range.now in
     let test = chunk_below (S p eq) end in
     let point = found.ensures.partitioned test (always_returns_same _ _ _ (λ a r f called. search rules)) (below_chunked (S p eq) (places p eq) e end c.args.chunks.now (spaced_whole p e c.args.chunks.now c.requires) c.requires.filled) in
-    ends_past p e c.args.chunks.now c.requires c.args.range.now found.result found.ensures.bound point
+    ends_past p e c.args.chunks.now c.requires c.args.range.now found.result found.ensures.bound point.1
 
 pub returns-clause-begun : goal.returns-clause-begun
 returns-clause-begun g c =

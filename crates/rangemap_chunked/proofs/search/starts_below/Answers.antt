@@ -1,23 +1,17 @@
-use Rattle.std.proofs.Common.{◌≡◌, ◌∙◌, ap, Some, is_lt, sym}
+use Rattle.std.proofs.Common.{◌≡◌, ◌∙◌, ap, Some, sym}
 use Rattle.std.specs.Prelude.{slice_get}
 use Rattle.rangemap_core.specs.engine.Shape.{shape_of}
-use Rattle.rangemap_chunked.proofs.ChunkLemmas.{below_is, not_less}
+use Rattle.rangemap_chunked.proofs.ChunkLemmas.{below_is}
 use Rattle.rangemap_chunked.proofs.search.starts_below.Goals as goal
 
-pub returns-in-Less : goal.returns-in-Less
-returns-in-Less g c =
+pub returns-in-Some : goal.returns-in-Some
+returns-in-Some g c =
     let k = g.Q.Kind.kind in
+    let reads = g.met.Q.Kind.reads in
     let pair = c.in-Some.pair.now in
-    let key = c.args.key.now in
     let start = c.start.result.now in
-    let cmp_is : k.cmp (k.start pair.0) key ≡ c.cmp.result = ap (λ x. k.cmp x key) (sym (c.start.ensures ∙ g.met.Q.Kind.reads.start pair.0)) ∙ sym (g.met.Q.Kind.reads.cmp start key) ∙ g.met.R.KeyRange.order start key ∙ sym c.cmp.ensures in
-    sym (ap is_lt c.in-Less.is) ∙ below_is (shape_of k g.Q.Kind.end_place g.V.PartialEq.eq) (Some key) c.args.chunk.now pair c.cmp.result (c.in-Some.ensures.value ∙ ap (λ xs. slice_get xs 0) c.as_slice.ensures) cmp_is
-
-pub returns-in_default : goal.returns-in_default
-returns-in_default g c =
-    let k = g.Q.Kind.kind in
-    let pair = c.in-Some.pair.now in
-    let key = c.args.key.now in
-    let start = c.start.result.now in
-    let cmp_is : k.cmp (k.start pair.0) key ≡ c.cmp.result = ap (λ x. k.cmp x key) (sym (c.start.ensures ∙ g.met.Q.Kind.reads.start pair.0)) ∙ sym (g.met.Q.Kind.reads.cmp start key) ∙ g.met.R.KeyRange.order start key ∙ sym c.cmp.ensures in
-    sym (not_less c.cmp.result c.in_default.not-Less) ∙ below_is (shape_of k g.Q.Kind.end_place g.V.PartialEq.eq) (Some key) c.args.chunk.now pair c.cmp.result (c.in-Some.ensures.value ∙ ap (λ xs. slice_get xs 0) c.as_slice.ensures) cmp_is
+    let from = k.start c.args.range.now in
+    let given = c.start-in-Some.result.now in
+    let from_is : from ≡ given = sym (c.start-in-Some.ensures ∙ reads.start c.args.range.now) in
+    let cmp_is : k.cmp (k.start pair.0) from ≡ c.cmp.result = ap (λ x. k.cmp x from) (sym (c.start.ensures ∙ reads.start pair.0)) ∙ ap (k.cmp start) from_is ∙ sym (reads.cmp start given) ∙ g.met.R.KeyRange.order start given ∙ sym c.cmp.ensures in
+    c.is_lt.ensures ∙ below_is (shape_of k g.Q.Kind.end_place g.V.PartialEq.eq) (Some from) c.args.chunk.now pair c.cmp.result (c.in-Some.ensures.value ∙ ap (λ xs. slice_get xs 0) c.as_slice.ensures) cmp_is

@@ -1,5 +1,0 @@
-use Rattle.rangemap.specs.Ranges.{AreNonEmpty}
-use Rattle.tests_support.proofs.replays.pairs_of.Given as goal
-
-abbrev pub invariant-loop-pair : goal.invariant-loop-pair
-invariant-loop-pair g l = AreNonEmpty g.Q.Kind.kind l.all.items

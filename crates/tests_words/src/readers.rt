@@ -1,0 +1,67 @@
+//! Readers that are told what a container holds, item by item and without a clone.
+//!
+//! Tests compare a container with a row so, also where its memory is refused, and the bench times a
+//! container's own iterators so. A reader may be told anything: no contract says what.
+ghost use Rattle.std.specs.Iterator.{IsFinite};
+
+use rangemap_core::reference::Reference;
+use std::alloc::AllocError;
+use std::iter::Iterator;
+
+/// Is told of pairs of a range and a value, one after another.
+pub trait ReadsPairs<R, V> {
+    /// Takes note of a pair. `Err` says that it could not, and is told of no more.
+    fn pair(&mut self, range: &R, value: &V) -> Result<(), AllocError>;
+}
+
+/// Is told of gaps, one after another.
+pub trait ReadsGaps<R> {
+    /// Takes note of a gap. `Err` says that it could not, and is told of no more.
+    fn gap(&mut self, gap: R) -> Result<(), AllocError>;
+}
+
+/// Tells a reader of the pairs of an iterator.
+#[inline(always)]
+pub fn tell_pairs<'a, R: 'a, V: 'a, I: Iterator<Item = (&'a R, &'a V)> + Drop, U: ReadsPairs<R, V>>(
+    pairs: I,
+    reader: &mut U,
+) -> Result<(), AllocError>
+    requires can { I.can_next pairs }
+    requires ends { IsFinite (I.remaining pairs) }
+{
+    for (range, value) in pairs {
+        reader.pair(range, value)?;
+    }
+    Ok(())
+}
+
+/// Tells a reader of the ranges of an iterator, each with the value that says nothing.
+#[inline(always)]
+pub fn tell_ranges<R, L: Reference<R>, I: Iterator<Item = L> + Drop, U: ReadsPairs<R, ()>>(
+    ranges: I,
+    reader: &mut U,
+) -> Result<(), AllocError>
+    requires can { I.can_next ranges }
+    requires ends { IsFinite (I.remaining ranges) }
+{
+    for range in ranges {
+        reader.pair(range.get(), &())?;
+    }
+    Ok(())
+}
+
+/// Tells a reader of the gaps of an iterator. `Err` says that the reader could not take note, or
+/// that a gap was refused.
+#[inline(always)]
+pub fn tell_gaps<R, I: Iterator<Item = Result<R, AllocError>> + Drop, U: ReadsGaps<R>>(
+    gaps: I,
+    reader: &mut U,
+) -> Result<(), AllocError>
+    requires can { I.can_next gaps }
+    requires ends { IsFinite (I.remaining gaps) }
+{
+    for gap in gaps {
+        reader.gap(gap?)?;
+    }
+    Ok(())
+}

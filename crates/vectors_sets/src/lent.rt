@@ -1,0 +1,229 @@
+//! What sets lend: their ranges, the gaps between them, and the items of two.
+ghost use Rattle.std.specs.Iterator.{IsFinite};
+ghost use Rattle.rangemap.specs.Clones.{KeysCloneFaithfully};
+
+use rangemap::range_set::Set;
+use rangemap_core::gaps::Gaps;
+use rangemap_core::key_range::KeyRange;
+use rangemap_core::kind::Kind;
+use rangemap_core::pair_iter::PairIter;
+use rangemap_core::store::{Lends, Store};
+use rangemap_unions::{Intersection, Ranges, Union};
+use std::alloc::{AllocError, Global};
+use std::fmt::{Debug, Write};
+use std::iter::{DoubleEndedIterator, Iterator};
+use std::test::Fail;
+use tests_rows::{check_both_ends, check_three, check_tries};
+use tests_support::{check_same, check_text, three_lists, two_lists};
+
+/// What a test asks of a set that lends its ranges, or of two. The answer is a text, where three have
+/// semicolons between them.
+#[derive(Drop)]
+pub enum Lent<R> {
+    /// The ranges, of which there are three.
+    Three,
+    /// The ranges that overlap a query, of which there are three.
+    ThreeOverlapping(R),
+    /// There is one range, and none behind it at either end. No text tells of it.
+    One,
+    /// The same of the ranges that overlap a query.
+    OneOverlapping(R),
+    /// The one gap in an outer range.
+    OneGap(R),
+    /// What two calls in turn answer of the two gaps in an outer range, behind the hint.
+    TwoGaps(R),
+    /// What both sets have together.
+    OfBoth(OfBoth),
+}
+
+/// What a test asks of two sets.
+#[derive(Drop)]
+pub enum OfBoth {
+    /// The one item of the union, and that of the intersection.
+    OneItem,
+    /// The items of the union, and those of the intersection.
+    Items,
+    /// What is taken first of the left set, from the front or else from the back; the items of the
+    /// union of the rest with the right set, and those of their intersection.
+    Rests { from_front: bool },
+}
+
+/// Compares what is lent by a set, and where two are asked by the other one too.
+pub fn check_lent<'a, S: Lends<'a> + Store<Range: Debug, Value = ()>>(
+    alloc: Global,
+    set: &'a Set<S>,
+    other: &'a Set<S>,
+    asked: &'a Lent<S::Range>,
+    answer: &str,
+) -> Result<(), Fail>
+where
+    S::Range: 'a,
+    S::Value: 'a,
+    requires { KeysCloneFaithfully S.Range.Key.is_clone S.Range.Key.cmp }
+{
+    match asked {
+        Lent::Three => check_three_ranges(alloc, set.iter(), answer, true),
+        Lent::ThreeOverlapping(query) => {
+            check_three_ranges(alloc, set.overlapping(query), answer, false)
+        }
+        Lent::One => check_one_range(set.iter(), set.iter()),
+        Lent::OneOverlapping(query) => {
+            check_one_range(set.overlapping(query), set.overlapping(query))
+        }
+        Lent::OneGap(outer) => {
+            let gaps = (set.gaps(outer), set.gaps(outer), set.gaps(outer));
+            check_gap(alloc, gaps, answer)
+        }
+        Lent::TwoGaps(outer) => check_two_gaps(alloc, set.gaps(outer), answer),
+        Lent::OfBoth(asked) => check_of_both(alloc, set, other, asked, answer),
+    }
+}
+
+/// Compares what two sets lend of both.
+fn check_of_both<'a, S: Lends<'a> + Store<Range: Debug, Value = ()>>(
+    alloc: Global,
+    left: &'a Set<S>,
+    right: &'a Set<S>,
+    asked: &OfBoth,
+    answer: &str,
+) -> Result<(), Fail>
+where
+    S::Range: 'a,
+    S::Value: 'a,
+    requires { KeysCloneFaithfully S.Range.Key.is_clone S.Range.Key.cmp }
+{
+    match asked {
+        OfBoth::OneItem => {
+            let unions = (left.union(right), left.union(right), left.union(right));
+            let intersections = (
+                left.intersection(right),
+                left.intersection(right),
+                left.intersection(right),
+            );
+            check_item(alloc, unions, intersections, answer)
+        }
+        OfBoth::Items => check_items(alloc, left.union(right), left.intersection(right), answer),
+        OfBoth::Rests { from_front } => {
+            let lefts = (left.iter(), left.iter());
+            let rights = (right.iter(), right.iter());
+            check_rests(alloc, lefts, rights, *from_front, answer)
+        }
+    }
+}
+
+/// Compares the three ranges that are lent.
+fn check_three_ranges<I: PairIter<Lent: Debug>>(
+    alloc: Global,
+    ranges: Ranges<I>,
+    texts: &str,
+    is_counted: bool,
+) -> Result<(), Fail> {
+    let (first, middle, last) = three_lists(texts)?;
+    check_three(alloc, ranges, [first, middle, last], is_counted)
+}
+
+/// Takes the one range that is lent from either end of two iterators that are alike, and asks on.
+fn check_one_range<I: PairIter>(front: Ranges<I>, back: Ranges<I>) -> Result<(), Fail> {
+    check_both_ends(front, back)
+}
+
+/// Compares the one gap of three iterators that are alike, and asks on.
+fn check_gap<Q: Kind<R>, R: KeyRange + Debug, I: PairIter<Range = R>>(
+    alloc: Global,
+    gaps: (Gaps<'_, Q, R, I>, Gaps<'_, Q, R, I>, Gaps<'_, Q, R, I>),
+    gap: &str,
+) -> Result<(), Fail>
+    requires { KeysCloneFaithfully R.Key.is_clone R.Key.cmp }
+{
+    check_tries(alloc, gaps, Gaps::try_next, gap)
+}
+
+/// Takes two gaps by calls in turn, asks on, and compares the text of what is answered behind the hint.
+fn check_two_gaps<Q: Kind<R>, R: KeyRange + Debug, I: PairIter<Range = R>>(
+    alloc: Global,
+    mut gaps: Gaps<'_, Q, R, I>,
+    text: &str,
+) -> Result<(), Fail>
+    requires { KeysCloneFaithfully R.Key.is_clone R.Key.cmp }
+{
+    let hint = gaps.size_hint();
+    let first = (gaps.try_next(), gaps.next());
+    let second = (gaps.try_next(), gaps.next());
+    check_text(alloc, &(hint, first, second), text)
+}
+
+/// Three iterators that are alike.
+type Three<I> = (I, I, I);
+
+/// Compares the one item of a union, and that of an intersection, and asks on.
+fn check_item<I: PairIter<Range: Debug>>(
+    alloc: Global,
+    unions: Three<Union<I>>,
+    intersections: Three<Intersection<I>>,
+    items: &str,
+) -> Result<(), Fail>
+    requires { KeysCloneFaithfully I.Range.Key.is_clone I.Range.Key.cmp }
+{
+    let (either, common) = two_lists(items)?;
+    check_tries(alloc, unions, Union::try_next, either)?;
+    check_tries(alloc, intersections, Intersection::try_next, common)
+}
+
+/// Compares the items of a union, and those of an intersection.
+fn check_items<I: PairIter<Range: Debug>>(
+    alloc: Global,
+    union: Union<I>,
+    intersection: Intersection<I>,
+    items: &str,
+) -> Result<(), Fail>
+    requires { KeysCloneFaithfully I.Range.Key.is_clone I.Range.Key.cmp }
+{
+    let (either, common) = two_lists(items)?;
+    check_listed(alloc, union, either)?;
+    check_listed(alloc, intersection, common)
+}
+
+/// Compares the debug texts of an iterator's items, parted by commas.
+fn check_listed<T: Debug + Drop, I: Iterator<Item = Result<T, AllocError>> + Drop>(
+    alloc: Global,
+    items: I,
+    list: &str,
+) -> Result<(), Fail>
+    requires can { I.can_next items }
+    requires ends { IsFinite (I.remaining items) }
+{
+    let mut written = String::new(alloc);
+    for item in items {
+        let comma = if written.is_empty() { "" } else { ", " };
+        write!(written, "{comma}{:?}", item?)?;
+    }
+    check_same(written.as_str(), list)
+}
+
+/// Compares the first range of two iterators, or the last; and what a union with the rest of one and
+/// an intersection with that of the other make.
+fn check_rests<I: PairIter<Range: Debug, Lent: Debug>>(
+    alloc: Global,
+    left: (Ranges<I>, Ranges<I>),
+    right: (Ranges<I>, Ranges<I>),
+    from_front: bool,
+    texts: &str,
+) -> Result<(), Fail>
+    requires { KeysCloneFaithfully I.Range.Key.is_clone I.Range.Key.cmp }
+{
+    let (taken, either, common) = three_lists(texts)?;
+    let (mut one, mut other) = left;
+    let ranges = (take(&mut one, from_front), take(&mut other, from_front));
+    check_text(alloc, &ranges, taken)?;
+    check_listed(alloc, Union::new(one, right.0), either)?;
+    check_listed(alloc, Intersection::new(other, right.1), common)
+}
+
+/// Takes the first range, or else the last.
+fn take<I: PairIter>(ranges: &mut Ranges<I>, from_front: bool) -> Option<I::Lent> {
+    if from_front {
+        ranges.next()
+    } else {
+        ranges.next_back()
+    }
+}
