@@ -113,15 +113,16 @@ impl<R, V, A: Allocator> Chunk<R, V, A> {
         self.pairs.append(&mut other.pairs)
     }
 
-    /// Gives memory back where half of the room or more is unused, and it is room for more than `least`
-    /// pairs. Where that is refused the room stays.
-    pub fn give_back(&mut self, least: usize)
+    /// Gives memory back where half of the room is unused, as after a growth, which doubles the room,
+    /// or after removals. Room for a third more pairs than there are stays then, but for no fewer than
+    /// `least` and for no more than `most`. Where that is refused all room stays.
+    pub fn give_back(&mut self, least: usize, most: usize)
         ensures { self.new ≡ self.old }
     {
         let room = self.pairs.capacity();
         let len = self.pairs.len();
-        if least < room && len <= room / 2 {
-            self.pairs.shrink_to((len + len / 2).max(least));
+        if least < room && len <= room / 2 + 1 {
+            self.pairs.shrink_to((len + len / 3).min(most).max(least));
         }
     }
 }

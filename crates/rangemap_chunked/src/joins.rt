@@ -70,14 +70,25 @@ fn take_out_between<R: Drop, V: Drop, A: Allocator>(
 }
 
 // How many pairs a chunk has room for, at least, whose room is given back.
-const LEAST: usize = 16;
+const LEAST: usize = 32;
 
-/// Gives the memory of a chunk back that it does not use.
-pub fn give_back_at<R: Drop, V: Drop, A: Allocator>(chunks: &mut Vec<Chunk<R, V, A>, A>, at: usize)
+/// Gives the memory of a chunk back that it does not use. What stays is room for up to `most` pairs, or
+/// for those that there are.
+pub fn give_back_at<R: Drop, V: Drop, A: Allocator>(
+    chunks: &mut Vec<Chunk<R, V, A>, A>,
+    at: usize,
+    most: usize,
+)
     requires { at < length chunks.old.items }
     ensures { chunks.new.items ≡ chunks.old.items }
 {
-    chunks[at].give_back(LEAST);
+    chunks[at].give_back(LEAST, most);
+}
+
+// How many pairs a chunk has before it is cut in two, at most: an insert into a full one that cuts a
+// stored range adds two.
+fn most_pairs<const N: usize>() -> usize {
+    N.saturating_add(2)
 }
 
 /// Drops the chunks from `from` up to `last`, and that one, too, where it is empty.
@@ -160,7 +171,7 @@ fn split<R: Drop, V: Drop, A: Allocator + Clone, const N: usize>(
     let chunk = &mut chunks[at];
     if let Ok(back) = chunk.split_off(place) {
         put_in(chunks, at + 1, back);
-        give_back_at(chunks, at);
+        give_back_at(chunks, at, most_pairs::<N>());
     }
 }
 
@@ -206,7 +217,7 @@ pub fn settle<R: Drop, V: Drop, A: Allocator + Clone, const N: usize>(
         return;
     }
     split::<R, V, A, N>(chunks, at);
-    give_back_at(chunks, at);
+    give_back_at(chunks, at, most_pairs::<N>());
     join_small::<R, V, A, N>(chunks, at);
     if 0 < at {
         join_small::<R, V, A, N>(chunks, at - 1);

@@ -59,7 +59,7 @@ pub fn change_over<Q: Kind<R>, R: KeyRange, V: Eq + Clone, A: Allocator>(
     let before = count(&chunks[at..last]) + place + 1;
     change_between::<Q, R, V, A>(chunks, at, last, place, range, value)?;
     let after = chunks[at].len();
-    give_back_at(chunks, last);
+    give_back_at(chunks, last, usize::MAX);
     drop_between(chunks, at + 1, last);
     Ok(Change { before, after })
 }
