@@ -6,11 +6,12 @@ use crate::maps::{rows_of_chunks, rows_of_tree, rows_of_vector};
 use rangemap::{RangeInclusiveMap, RangeMap, StepFns, StepLite, tree_map};
 use rangemap_core::closed::Closed;
 use rangemap_core::half_open::HalfOpen;
+use rangemap_core::kind::Kind;
 use std::alloc::Global;
 use std::ops::{Range, RangeInclusive};
 use std::test::Fail;
 use tests_rows::check_replay;
-use tests_support::{ChunkedMap, SignedSteps, Word, calls_of, parts};
+use tests_support::{ChunkedMap, FromEnds, SignedSteps, Word, calls_of, parts};
 
 /// Compares a table for maps of half-open ranges, in a sorted vector, in a tree and in chunks.
 pub fn check_half_open<V: Eq + Clone + Word<Global>>(alloc: Global, table: &str) -> Result<(), Fail>
@@ -88,34 +89,16 @@ pub fn check_closed_replay<K: StepLite + Clone + Word<Global>>(
     check_replay::<RangeInclusiveMap<K, bool>, _>(alloc, calls, accepted, lists)
 }
 
-/// A map over half-open ranges in chunks of up to two pairs.
-type Letters = ChunkedMap<HalfOpen, Range<u32>, char, Global, 2>;
-
-/// A map over closed ranges of bytes in such chunks.
-type Bytes = ChunkedMap<Closed<u8>, RangeInclusive<u8>, bool, Global, 2>;
-
-/// The same of signed bytes.
-type SignedBytes = ChunkedMap<Closed<i8>, RangeInclusive<i8>, bool, Global, 2>;
-
-// The maps in chunks are named at keys and values that are known: over any the check doesn't end.
-
-/// Compares a replay on maps of half-open ranges in chunks.
-pub fn check_letters_in_chunks(alloc: Global, row: &str) -> Result<(), Fail> {
+/// Compares a replay on maps in chunks of up to two pairs.
+pub fn check_calls_in_chunks<
+    Q: Kind<R, Steps = R::Key>,
+    R: FromEnds<Key: Word<Global>>,
+    V: Eq + Clone + Word<Global>,
+>(alloc: Global, row: &str) -> Result<(), Fail>
+    requires faithful_keys { KeysCloneFaithfully R.Key.is_clone R.Key.cmp }
+    requires faithful_values { ValuesCloneFaithfully V.is_clone V.eq }
+{
     let (calls, accepted, lists) = parts(row)?;
-    let calls = calls_of::<HalfOpen, Range<u32>, char, Global>(alloc, calls)?;
-    check_replay::<Letters, _>(alloc, calls, accepted, lists)
-}
-
-/// Compares a replay on maps of closed ranges of bytes in chunks.
-pub fn check_bytes_in_chunks(alloc: Global, row: &str) -> Result<(), Fail> {
-    let (calls, accepted, lists) = parts(row)?;
-    let calls = calls_of::<Closed<u8>, RangeInclusive<u8>, bool, Global>(alloc, calls)?;
-    check_replay::<Bytes, _>(alloc, calls, accepted, lists)
-}
-
-/// The same of signed bytes.
-pub fn check_signed_bytes_in_chunks(alloc: Global, row: &str) -> Result<(), Fail> {
-    let (calls, accepted, lists) = parts(row)?;
-    let calls = calls_of::<Closed<i8>, RangeInclusive<i8>, bool, Global>(alloc, calls)?;
-    check_replay::<SignedBytes, _>(alloc, calls, accepted, lists)
+    let calls = calls_of::<Q, R, V, Global>(alloc, calls)?;
+    check_replay::<ChunkedMap<Q, R, V, Global, 2>, _>(alloc, calls, accepted, lists)
 }

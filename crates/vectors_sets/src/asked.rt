@@ -1,12 +1,12 @@
 //! What sets make and hand over, and what the text of rows asks of them.
-ghost use Rattle.rangemap.specs.Clones.{KeysCloneFaithfully};
+ghost use Rattle.rangemap.specs.Clones.{KeysCloneFaithfully, ValuesCloneFaithfully};
 
 use crate::laws::{Laws, check_laws};
 use rangemap::range_set::Set;
 use rangemap_core::key_range::KeyRange;
 use rangemap_core::kind::Kind;
 use rangemap_core::store::HandsOver;
-use std::alloc::Global;
+use std::alloc::{AllocError, Global};
 use std::fmt::Debug;
 use std::test::Fail;
 use tests_rows::{check_both_ends, check_counted_back, check_replay, check_rows, check_three};
@@ -113,6 +113,14 @@ where
     let (left, right) = two_lists(sets)?;
     let left = set_of::<S>(alloc, left)?;
     let right = set_of::<S>(alloc, right)?;
-    check_row(&(&left | &right)?, either)?;
-    check_row(&(&left & &right)?, common)
+    check_set(&left | &right, either)?;
+    check_set(&left & &right, common)
+}
+
+/// Compares a set that an operator makes.
+fn check_set<M: InRows>(made: Result<M, AllocError>, list: &str) -> Result<(), Fail>
+    requires faithful_keys { KeysCloneFaithfully M.Range.Key.is_clone M.Range.Key.cmp }
+    requires faithful_values { ValuesCloneFaithfully M.Value.is_clone M.Value.eq }
+{
+    check_row(&made?, list)
 }

@@ -10,7 +10,7 @@ use rangemap_core::half_open::HalfOpen;
 use rangemap_core::key_range::KeyRange;
 use rangemap_core::kind::Kind;
 use rangemap_core::store::Store;
-use std::alloc::Global;
+use std::alloc::{AllocError, Global};
 use std::fmt::Debug;
 use std::ops::{Range, RangeInclusive};
 use std::test::Fail;
@@ -37,6 +37,15 @@ struct Three<'a, S> {
     third: &'a S,
 }
 
+/// Compares the text of what a law gives: a set, or two.
+fn check_given<T: Debug + Drop>(
+    alloc: Global,
+    given: Result<T, AllocError>,
+    text: &str,
+) -> Result<(), Fail> {
+    check_text(alloc, &given?, text)
+}
+
 /// Runs the laws of an operator that give two sets, and compares their texts. How it distributes is
 /// run on sets of its own.
 fn check_sides<S: Store<Range: Debug, Value = (), Alloc = Global> + Drop>(
@@ -53,43 +62,32 @@ where
 {
     let (first, second, third) = (sets.first, sets.second, sets.third);
     let (commuted, associated, made) = three_lists(texts)?;
-    check_text(alloc, &commutes(operator, first, second)?, commuted)?;
-    check_text(
+    check_given(alloc, commutes(operator, first, second), commuted)?;
+    check_given(
         alloc,
-        &associates(operator, first, second, third)?,
+        associates(operator, first, second, third),
         associated,
     )?;
     let (first, second, third) = (distributed.first, distributed.second, distributed.third);
-    check_text(alloc, &distributes(operator, first, second, third)?, made)
+    check_given(alloc, distributes(operator, first, second, third), made)
 }
 
 /// Runs the laws that give the first set again, for `|` and for `&`, and compares its text.
 fn check_first<S: Store<Range: Debug, Value = (), Alloc = Global> + Drop>(
     alloc: Global,
     sets: &Three<'_, Set<S>>,
-    first: &str,
+    text: &str,
 ) -> Result<(), Fail>
 where
     <S::Range as KeyRange>::Key: Debug,
     S::Kind: Kind<S::Range, Steps = <S::Range as KeyRange>::Key>,
     requires { KeysCloneFaithfully S.Range.Key.is_clone S.Range.Key.cmp }
 {
-    check_text(alloc, &is_idempotent(&Operator::Union, sets.first)?, first)?;
-    check_text(
-        alloc,
-        &absorbs(&Operator::Union, sets.first, sets.third)?,
-        first,
-    )?;
-    check_text(
-        alloc,
-        &is_idempotent(&Operator::Intersection, sets.first)?,
-        first,
-    )?;
-    check_text(
-        alloc,
-        &absorbs(&Operator::Intersection, sets.first, sets.second)?,
-        first,
-    )
+    let (first, second, third) = (sets.first, sets.second, sets.third);
+    check_given(alloc, is_idempotent(&Operator::Union, first), text)?;
+    check_given(alloc, absorbs(&Operator::Union, first, third), text)?;
+    check_given(alloc, is_idempotent(&Operator::Intersection, first), text)?;
+    check_given(alloc, absorbs(&Operator::Intersection, first, second), text)
 }
 
 /// Makes three sets, and runs all laws on them.

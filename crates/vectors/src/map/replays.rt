@@ -1,6 +1,8 @@
 //! Rows made by `replay`, where every call is accepted, and calls that name no map.
 
-use crate::tables::{check_half_open_replay, check_letters_in_chunks};
+use crate::tables::{check_calls_in_chunks, check_half_open_replay};
+use rangemap_core::half_open::HalfOpen;
+use std::ops::Range;
 use std::test::Fail;
 
 #[test]
@@ -20,9 +22,9 @@ fn maps_of_maps_and_of_pairs(rt: HostRuntime) -> Result<(), Fail> {
     ];
     for row in rows {
         check_half_open_replay::<char>(rt.alloc(), row)?;
-        check_letters_in_chunks(rt.alloc(), row)?;
+        check_calls_in_chunks::<HalfOpen, Range<u32>, char>(rt.alloc(), row)?;
     }
-    check_letters_in_chunks(
+    check_calls_in_chunks::<HalfOpen, Range<u32>, char>(
         rt.alloc(),
         "new, insert 0..10 a, insert 3..6 b, clone, insert 3..6 a | +++++ | \
         0..10 a; 0..3 a, 3..6 b, 6..10 a",
