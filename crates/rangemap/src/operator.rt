@@ -7,7 +7,7 @@ ghost use Rattle.rangemap.specs.Ranges.{IsCanonOfPoints, covers};
 use crate::range_set::Set;
 use rangemap_core::key_range::KeyRange;
 use rangemap_core::kind::Kind;
-use rangemap_core::store::Store;
+use rangemap_core::store::StoreMut;
 use std::alloc::AllocError;
 
 /// One of the two operators.
@@ -20,7 +20,7 @@ pub enum Operator {
 
 impl Operator {
     /// Makes the operator.
-    pub fn join<S: Store<Value = ()> + Drop>(
+    pub fn join<S: StoreMut<Value = ()> + Drop>(
         &self,
         first: &Set<S>,
         second: &Set<S>,

@@ -1,20 +1,20 @@
 //! The set, over any store.
-ghost use Rattle.std.specs.Prelude.{◌≡◌, ◌≤◌, ◌+◌, ◌-◌, [], ◌∷◌, length, slice_get, nat_eq, nat_lt, IfSome, IsOk, OnOk, OnErr};
+ghost use Rattle.std.specs.Prelude.{◌≡◌, ◌-◌, [], length, slice_get, nat_eq, nat_lt, IfSome};
 ghost use Rattle.std.specs.Option.{option_copied};
-ghost use Rattle.rangemap.specs.Clones.{KeysCloneFaithfully};
 ghost use Rattle.rangemap.specs.Ranges.{AreGaps, covers};
-ghost use Rattle.rangemap.specs.Sets.{Adds, IsCanonicalSet, TakesOut, met, range_at};
+ghost use Rattle.rangemap.specs.Sets.{IsCanonicalSet, met, range_at};
 
 use rangemap_core::gaps::{Gaps, gaps_of};
 use rangemap_core::key_range::KeyRange;
 use rangemap_core::kind::Kind;
-use rangemap_core::store::{Lends, Store};
+use rangemap_core::pair_iter::PairIter;
+use rangemap_core::store::{Lends, Store, StoreMut};
 use rangemap_maps::readers::IsAny;
 use rangemap_unions::Ranges;
-use std::alloc::AllocError;
 use std::marker::{Model, PhantomData};
 
 pub mod calls;
+mod changes;
 mod collect;
 mod compare;
 mod container;
@@ -55,7 +55,7 @@ impl<S: Store<Value = ()>> Model for Set<S> {
     ghost view = { λ s. map (λ p. p.0) (S.pairs s.stored) };
 }
 
-impl<S: Store<Value = ()>> Set<S>
+impl<S: StoreMut<Value = ()>> Set<S>
 where
     S::Kind: Kind<S::Range, Steps = <S::Range as KeyRange>::Key>,
 {
@@ -67,7 +67,7 @@ where
     }
 }
 
-impl<S: Store<Value = ()>> Set<S> {
+impl<S: StoreMut<Value = ()>> Set<S> {
     /// Returns the empty set over the steps of its kind, whose memory will come from `alloc`.
     ///
     /// Of closed ranges these are the steps of `StepFnsT`. Half-open ranges have none, and `new` is the
@@ -80,7 +80,9 @@ impl<S: Store<Value = ()>> Set<S> {
             lives: PhantomData,
         }
     }
+}
 
+impl<S: Store<Value = ()>> Set<S> {
     /// Does nothing, and tells that the list of a set at hand is canonical.
     pub fn known(&self)
         ensures { IsCanonicalSet S.Kind.kind self.now }
@@ -160,72 +162,6 @@ impl<S: Store<Value = ()>> Set<S> {
         self.stored.known();
         self.stored.read_overlapping::<IsAny>(range, &mut ())
     }
-
-    /// Adds every key of `range`. Stored ranges that it overlaps or touches become one with it.
-    ///
-    /// # Requires
-    ///
-    /// The range is not empty; a closed one was not iterated to its end either. A clone of a key
-    /// ties with its original.
-    ///
-    /// # Errors
-    ///
-    /// `Err` says that memory or a clone was refused. The set is then as it was, and the range is
-    /// dropped.
-    ///
-    /// # Examples
-    ///
-    /// ```text
-    /// {0..3, 6..9}, insert 3..7: {0..9}
-    /// {0..=2, 6..=8}, insert 3..=6: {0..=8}
-    /// ```
-    pub fn insert(&mut self, range: S::Range) -> Result<(), AllocError>
-        requires non_empty { S.Range.has_key range }
-        requires not_exhausted { S.Range.is_fresh range }
-        requires faithful_keys { KeysCloneFaithfully S.Range.Key.is_clone S.Range.Key.cmp }
-        ensures ok { OnOk result (Adds S.Kind.kind self.old (range ∷ []) self.new) }
-        ensures err { OnErr result (self.new ≡ self.old) }
-        ensures growth { OnOk result (length self.new ≤ length self.old + 1) }
-    {
-        self.stored.insert(range, ())
-    }
-
-    /// Takes every key of `range` out. A stored range that it covers in part is cut, and one that
-    /// reaches past both its ends becomes two.
-    ///
-    /// # Requires
-    ///
-    /// As `insert`.
-    ///
-    /// # Errors
-    ///
-    /// As `insert`. Where no stored range overlaps the given one, nothing is refused and nothing
-    /// changes.
-    ///
-    /// # Examples
-    ///
-    /// ```text
-    /// {0..10}, remove 3..6: {0..3, 6..10}
-    /// {0..=9}, remove 3..=5: {0..=2, 6..=9}
-    /// ```
-    pub fn remove(&mut self, range: S::Range) -> Result<(), AllocError>
-        requires non_empty { S.Range.has_key range }
-        requires not_exhausted { S.Range.is_fresh range }
-        requires faithful_keys { KeysCloneFaithfully S.Range.Key.is_clone S.Range.Key.cmp }
-        ensures ok { OnOk result (TakesOut S.Kind.kind self.old range self.new) }
-        ensures err { OnErr result (self.new ≡ self.old) }
-        ensures growth { OnOk result (length self.new ≤ length self.old + 1) }
-        ensures meets_nothing { met S.Kind.kind self.old range ≡ [] → IsOk result × (self.new ≡ self.old) }
-    {
-        self.stored.remove(range)
-    }
-
-    /// Takes every key out, and keeps the memory for later inserts.
-    pub fn clear(&mut self)
-        ensures { self.new ≡ [] }
-    {
-        self.stored.clear();
-    }
 }
 
 impl<'a, S: Lends<'a> + Store<Value = ()>> Set<S>
@@ -254,7 +190,13 @@ where
         self.stored.known();
         Ranges::over(self.stored.overlapping(range))
     }
+}
 
+impl<'a, S: Lends<'a, Overlapping: PairIter> + Store<Value = ()>> Set<S>
+where
+    S::Range: 'a,
+    S::Value: 'a,
+{
     /// Returns the parts of `outer_range` that no stored range covers, in order. Nothing is asked
     /// of `outer_range`; an empty or reversed one gives nothing.
     ///

@@ -2,7 +2,7 @@
 use Rattle.std.proofs.Common.{◌≡◌, ◌⊎◌, inl, inr, Bool, true, false, cond, List, [], ◌∷◌, ◌++◌, Option, Some, None, refl, sym, ap, ◌∙◌, subst, true≢false, Ordering, Less, Equal, Greater, is_gt}
 use Rattle.std.specs.Option.{option_eq}
 use Rattle.std.specs.Cmp.{IsTotalOrder, IsEquivalence}
-use Rattle.rangemap_core.specs.Ranges.{RangeKind, IsStorable, IsCanonical, IsCanonOf, value_at, override, erase}
+use Rattle.rangemap_core.specs.Ranges.{RangeKind, IsStorable, IsCanonical, IsCanonOf, IsNewest, value_at, override, erase}
 use Rattle.rangemap_core.specs.engine.Endpoints.{IsPlaced, EndpointOf}
 use Rattle.rangemap_core.specs.engine.Places.{place_cmp}
 use Rattle.rangemap_core.specs.engine.Shape.{Shape, has_place, place_value, IsApart, IsApartFromNext, IsSpaced}
@@ -151,6 +151,10 @@ module _ {K X : Type 0} {k : RangeKind K X} {end_place : X → Option K} {chunk 
               ap (λ u. option_eq eq u (Some v)) (joined_inside pre mid post new r canonical stored h.canonical override_outside before past (inl behind) x key t)
               ∙ sym (ap (λ b. option_eq eq (value_at k new x) (cond b (Some v) (value_at k mid x))) t) ∙ h.represents x key
           go x key false t = joined_outside pre mid post new r canonical stored h.canonical override_outside before past (inl behind) x key t
+
+      -- the very value that a chunk has on the range
+      pub newest_joined : IsNewest k r v new → IsNewest k r v (pre ++ (new ++ post))
+      newest_joined n x key t = joined_inside pre mid post new r canonical stored h.canonical override_outside before past (inl behind) x key t ∙ n x key t
 
     -- what a removal makes of a chunk
     module _ (h : IsCanonOf k eq (erase k (value_at k mid) r) new) (behind : Every (λ b. is_gt (place_cmp k.cmp (end_place r) (Some (k.start b.0))) ≡ false) post) where

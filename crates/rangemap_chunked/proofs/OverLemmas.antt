@@ -5,14 +5,14 @@ use Rattle.std.proofs.Math.Seq.{drop-cons}
 use Rattle.std.proofs.lemmas.List.{drop-drop, get_or-drop, length-take-le, take-append-drop, take-take, take_at}
 use Rattle.std.specs.Prelude.{IfSome}
 use Rattle.std.specs.Cmp.{IsEquivalence}
-use Rattle.rangemap_core.specs.Ranges.{RangeKind, IsCanonical, IsCanonOf, IsStorable, value_at}
+use Rattle.rangemap_core.specs.Ranges.{RangeKind, IsCanonical, IsStorable, value_at}
 use Rattle.rangemap_core.specs.engine.Endpoints.{IsPlaced, EndpointOf}
 use Rattle.rangemap_core.specs.engine.Places.{place_cmp}
 use Rattle.rangemap_core.specs.engine.Stretch.{Every}
 use Rattle.rangemap_core.proofs.PlaceLemmas.{S, places}
 use Rattle.rangemap_core.proofs.PlaceOrderLemmas.{lt_le}
 use Rattle.rangemap_core.proofs.ListLemmas.{Every-append, Every-map}
-use Rattle.rangemap_sorted.specs.Changes.{changed}
+use Rattle.rangemap_sorted.specs.Changes.{IsChanged}
 use Rattle.rangemap_chunked.proofs.MoveLemmas.{one_at, put_back}
 use Rattle.rangemap_chunked.specs.Chunks.{AreChunks, AreFilled, IsClearBefore, IsClearBehind, IsLastTouched, IsPastBehind, IsPastStart, whole}
 use Rattle.rangemap_chunked.proofs.BorderLemmas.{Every-left}
@@ -180,8 +180,8 @@ module _ {K X : Type 0} {k : RangeKind K X} {end_place : X → Option K} {part :
     clear_all None h = h
     clear_all (Some v) h = Every-append (λ b. place_cmp k.cmp (end_place r) (Some (k.start b.0)) ≡ Less) (drop (place + 1) (get_or chunks last [])) (whole (drop (suc last) chunks)) found.behind h
 
-    pub over_changed : (m : Option V) → IsCanonOf k eq (changed k (value_at k (get_or chunks at [] ++ take 1 (drop place (get_or chunks last [])))) r m) new → IsPastBehind (S p eq) chunks r (suc last) → IfSome m (λ _. IsClearBehind (S p eq) chunks r (suc last))
-        → IsCanonOf k eq (changed k (value_at k (whole chunks)) r m) (whole (take at chunks) ++ (new ++ (drop (place + 1) (get_or chunks last []) ++ whole (drop (suc last) chunks))))
+    pub over_changed : (m : Option V) → IsChanged k eq (value_at k (get_or chunks at [] ++ take 1 (drop place (get_or chunks last [])))) r m new → IsPastBehind (S p eq) chunks r (suc last) → IfSome m (λ _. IsClearBehind (S p eq) chunks r (suc last))
+        → IsChanged k eq (value_at k (whole chunks)) r m (whole (take at chunks) ++ (new ++ (drop (place + 1) (get_or chunks last []) ++ whole (drop (suc last) chunks))))
     over_changed m made behind clear =
         wide_changed p e r stored (whole chunks) (whole (take at chunks)) (get_or chunks at []) (gone chunks at last order bound place found.in_bounds) (one chunks at last order bound place found.in_bounds) (rest chunks at last order bound place found.in_bounds) (post chunks at last order bound place found.in_bounds)
         (around_all chunks at last order bound place found.in_bounds) h.canonical some found.touched past_gone new before m made

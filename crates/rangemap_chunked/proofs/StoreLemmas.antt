@@ -6,16 +6,16 @@ use Rattle.std.proofs.lemmas.List.{length-take-le, take-append-drop}
 use Rattle.std.specs.List.{filter}
 use Rattle.std.specs.Option.{IfSome, option_eq}
 use Rattle.std.specs.Cmp.{IsEquivalence}
-use Rattle.rangemap_core.specs.Ranges.{RangeKind, IsCanonical, IsCanonOf, IsStorable, erase, override, value_at}
+use Rattle.rangemap_core.specs.Ranges.{RangeKind, IsCanonical, IsCanonOf, IsNewest, IsStorable, erase, override, value_at}
 use Rattle.rangemap_core.specs.engine.Endpoints.{IsPlaced, EndpointOf, asked}
 use Rattle.rangemap_core.specs.engine.Stretch.{Every}
 use Rattle.rangemap_core.specs.laws.Orders.{itself}
 use Rattle.rangemap_core.proofs.SearchLemmas.{around}
 use Rattle.rangemap_core.proofs.PlaceLemmas.{S}
 use Rattle.rangemap_core.proofs.ListLemmas.{Every-append}
-use Rattle.rangemap_sorted.specs.Changes.{changed}
+use Rattle.rangemap_sorted.specs.Changes.{IsChanged}
 use Rattle.rangemap_chunked.specs.Chunks.{AreFilled, IsClearBefore, IsClearBehind, AreChunks, IsPastBehind, whole}
-use Rattle.rangemap_chunked.proofs.ChangeLemmas.{override_joined, erase_joined}
+use Rattle.rangemap_chunked.proofs.ChangeLemmas.{override_joined, erase_joined, newest_joined}
 use Rattle.rangemap_chunked.proofs.ChunkLemmas.{whole_append, whole_around}
 
 pub if_some_weaker : {T P Q : Type 0} (m : Option T) → (P → Q) → IfSome m (λ _. P) → IfSome m (λ _. Q)
@@ -148,9 +148,9 @@ module _ {K X : Type 0} {k : RangeKind K X} {end_place : X → Option K} {chunk 
   override_fills f r v [] stored h = absurd (true≢false (sym (h.represents (k.start r) stored.start_is_key) ∙ ap (λ b. option_eq eq None (cond b (Some v) (f (k.start r)))) (holds_start r stored)))
   override_fills f r v (a ∷ new) stored h = omega arith
 
-  pub changed_fills : (f : K → Option V) (r : X) (m : Option V) (new : List (X × V)) → IsStorable k r → IsCanonOf k eq (changed k f r m) new → IfSome m (λ _. 0 < length new)
+  pub changed_fills : (f : K → Option V) (r : X) (m : Option V) (new : List (X × V)) → IsStorable k r → IsChanged k eq f r m new → IfSome m (λ _. 0 < length new)
   changed_fills f r None new stored h = tt
-  changed_fills f r (Some v) new stored h = override_fills f r v new stored h
+  changed_fills f r (Some v) new stored h = override_fills f r v new stored h.canon
 
   module _ (chunks : List (List (X × V))) (h : AreChunks k eq chunks) (at : ℕ) (l : at < length chunks) (mid new : List (X × V)) (is : mid ≡ get_or chunks at mid) (r : X) (stored : IsStorable k r) (before : IsClearBefore (S p eq) chunks r at) where
     around_mid : whole chunks ≡ whole (take at chunks) ++ (mid ++ whole (drop (suc at) chunks))
@@ -164,12 +164,17 @@ module _ {K X : Type 0} {k : RangeKind K X} {end_place : X → Option K} {chunk 
     chunk_overridden v o behind =
         rw (around_mid, whole_set chunks at new l) (override_joined p e (whole (take at chunks)) mid (whole (drop (suc at) chunks)) new r canonical_around stored before v o (subst (λ m. IsClearBehind (S p eq) chunks r m) (add-one at) behind))
 
+    -- it has the very value on the range
+    chunk_newest : (v : V) → IsCanonOf k eq (override k (value_at k mid) r v) new → IsNewest k r v new → IsClearBehind (S p eq) chunks r (at + 1) → IsNewest k r v (whole (set chunks at new))
+    chunk_newest v o n behind =
+        rw (whole_set chunks at new l) (newest_joined p e (whole (take at chunks)) mid (whole (drop (suc at) chunks)) new r canonical_around stored before v o (subst (λ m. IsClearBehind (S p eq) chunks r m) (add-one at) behind) n)
+
     -- a chunk after a removal
     chunk_erased : IsCanonOf k eq (erase k (value_at k mid) r) new → IsPastBehind (S p eq) chunks r (at + 1) → IsCanonOf k eq (erase k (value_at k (whole chunks)) r) (whole (set chunks at new))
     chunk_erased o behind =
         rw (around_mid, whole_set chunks at new l) (erase_joined p e (whole (take at chunks)) mid (whole (drop (suc at) chunks)) new r canonical_around stored before o (subst (λ m. IsPastBehind (S p eq) chunks r m) (add-one at) behind))
 
     -- a chunk after either
-    pub chunk_changed : (m : Option V) → IsCanonOf k eq (changed k (value_at k mid) r m) new → IsPastBehind (S p eq) chunks r (at + 1) → IfSome m (λ _. IsClearBehind (S p eq) chunks r (at + 1)) → IsCanonOf k eq (changed k (value_at k (whole chunks)) r m) (whole (set chunks at new))
-    chunk_changed None o behind clear = chunk_erased o behind
-    chunk_changed (Some v) o behind clear = chunk_overridden v o clear
+    pub chunk_changed : (m : Option V) → IsChanged k eq (value_at k mid) r m new → IsPastBehind (S p eq) chunks r (at + 1) → IfSome m (λ _. IsClearBehind (S p eq) chunks r (at + 1)) → IsChanged k eq (value_at k (whole chunks)) r m (whole (set chunks at new))
+    chunk_changed None o behind clear = record { canon = chunk_erased o.canon behind; newest = tt }
+    chunk_changed (Some v) o behind clear = record { canon = chunk_overridden v o.canon clear; newest = chunk_newest v o.canon o.newest clear }

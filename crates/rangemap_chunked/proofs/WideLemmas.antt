@@ -3,7 +3,7 @@ use Rattle.std.proofs.Common.{arith, ◌≡◌, inl, inr, ◌<◌, Bool, true, f
 use Rattle.std.specs.Option.{option_eq}
 use Rattle.std.specs.Prelude.{IfSome}
 use Rattle.std.specs.Cmp.{IsTotalOrder, IsEquivalence}
-use Rattle.rangemap_core.specs.Ranges.{RangeKind, IsCanonical, IsCanonOf, IsStorable, value_at}
+use Rattle.rangemap_core.specs.Ranges.{RangeKind, IsCanonical, IsStorable, value_at}
 use Rattle.rangemap_core.specs.engine.Endpoints.{IsPlaced, EndpointOf}
 use Rattle.rangemap_core.specs.engine.Places.{place_cmp}
 use Rattle.rangemap_core.specs.engine.Shape.{Shape, has_place, place_value, IsApart, IsSpaced}
@@ -12,10 +12,10 @@ use Rattle.rangemap_core.proofs.PlaceLemmas.{S, places, AreStorable, to_spaced, 
 use Rattle.rangemap_core.proofs.PlaceOrderLemmas.{le_trans, lt_le_trans, lt_or_le}
 use Rattle.rangemap_core.proofs.StoredLemmas.{all_storable}
 use Rattle.rangemap_core.proofs.ListLemmas.{Every-append, Every-right, Every-map, holds_at, next_from_all, value_above, value_below, value_past, IsSpaced-append, IsSpaced-cross, IsSpaced-left, IsSpaced-right}
-use Rattle.rangemap_sorted.specs.Changes.{changed}
+use Rattle.rangemap_sorted.specs.Changes.{IsChanged}
 use Rattle.rangemap_chunked.proofs.CutLemmas.{canonical_left, canonical_right}
 use Rattle.rangemap_chunked.proofs.BorderLemmas.{Every-left, Every-zip}
-use Rattle.rangemap_chunked.proofs.ChangeLemmas.{erase_joined, override_joined}
+use Rattle.rangemap_chunked.proofs.ChangeLemmas.{erase_joined, newest_joined, override_joined}
 
 module _ {G P V : Type 0} (s : Shape G P V) (o : IsTotalOrder s.order) (r : G) where
   -- the pair's range is a part of the given one
@@ -77,8 +77,11 @@ module _ {K X : Type 0} {k : RangeKind K X} {end_place : X → Option K} {part :
         go true t h = h
         go false t h = sym (ap (λ u. option_eq eq (value_at k new x) u) (same_outside x key t)) ∙ h
 
-    changed_without : (m : Option V) (new : List (X × V)) → IsCanonOf k eq (changed k (value_at k (xs ++ ys)) r m) new → IsCanonOf k eq (changed k (value_at k (xs ++ (gone ++ ys))) r m) new
-    changed_without m new h = record { canonical = h.canonical; represents = λ x key. same_changed m new x key (h.represents x key) }
+    changed_without : (m : Option V) (new : List (X × V)) → IsChanged k eq (value_at k (xs ++ ys)) r m new → IsChanged k eq (value_at k (xs ++ (gone ++ ys))) r m new
+    changed_without m new h = record {
+      canon = record { canonical = h.canon.canonical; represents = λ x key. same_changed m new x key (h.canon.represents x key) };
+      newest = h.newest;
+    }
 
   -- a list in which one pair behind the first part may reach past the range, or touch it
   module _ (all pre a gone one rest post : List (X × V)) (all_is : all ≡ pre ++ (a ++ (gone ++ (one ++ (rest ++ post))))) (c : IsCanonical k eq all) (some : 0 < length one)
@@ -103,15 +106,18 @@ module _ {K X : Type 0} {k : RangeKind K X} {end_place : X → Option K} {part :
     first_canonical = canonical_left k eq (a ++ one) (rest ++ post) (canonical_right k eq pre ((a ++ one) ++ (rest ++ post)) left_canonical)
 
     module _ (new : List (X × V)) (before : Every (λ b. place_cmp k.cmp (end_place b.0) (Some (k.start r)) ≡ Less) pre) where
-      changed_joined : (m : Option V) → IsCanonOf k eq (changed k (value_at k (a ++ one)) r m) new → Every (λ b. is_gt (place_cmp k.cmp (end_place r) (Some (k.start b.0))) ≡ false) (rest ++ post)
-          → IfSome m (λ _. Every (λ b. place_cmp k.cmp (end_place r) (Some (k.start b.0)) ≡ Less) (rest ++ post)) → IsCanonOf k eq (changed k (value_at k (pre ++ ((a ++ one) ++ (rest ++ post)))) r m) (pre ++ (new ++ (rest ++ post)))
-      changed_joined None h behind clear = erase_joined p e pre (a ++ one) (rest ++ post) new r left_canonical stored before h behind
-      changed_joined (Some v) h behind clear = override_joined p e pre (a ++ one) (rest ++ post) new r left_canonical stored before v h clear
+      changed_joined : (m : Option V) → IsChanged k eq (value_at k (a ++ one)) r m new → Every (λ b. is_gt (place_cmp k.cmp (end_place r) (Some (k.start b.0))) ≡ false) (rest ++ post)
+          → IfSome m (λ _. Every (λ b. place_cmp k.cmp (end_place r) (Some (k.start b.0)) ≡ Less) (rest ++ post)) → IsChanged k eq (value_at k (pre ++ ((a ++ one) ++ (rest ++ post)))) r m (pre ++ (new ++ (rest ++ post)))
+      changed_joined None h behind clear = record { canon = erase_joined p e pre (a ++ one) (rest ++ post) new r left_canonical stored before h.canon behind; newest = tt }
+      changed_joined (Some v) h behind clear = record {
+        canon = override_joined p e pre (a ++ one) (rest ++ post) new r left_canonical stored before v h.canon clear;
+        newest = newest_joined p e pre (a ++ one) (rest ++ post) new r left_canonical stored before v h.canon clear h.newest;
+      }
 
-      pub wide_changed : (m : Option V) → IsCanonOf k eq (changed k (value_at k (a ++ one)) r m) new → Every (λ b. is_gt (place_cmp k.cmp (end_place r) (Some (k.start b.0))) ≡ false) (rest ++ post)
-          → IfSome m (λ _. Every (λ b. place_cmp k.cmp (end_place r) (Some (k.start b.0)) ≡ Less) (rest ++ post)) → IsCanonOf k eq (changed k (value_at k all) r m) (pre ++ (new ++ (rest ++ post)))
+      pub wide_changed : (m : Option V) → IsChanged k eq (value_at k (a ++ one)) r m new → Every (λ b. is_gt (place_cmp k.cmp (end_place r) (Some (k.start b.0))) ≡ false) (rest ++ post)
+          → IfSome m (λ _. Every (λ b. place_cmp k.cmp (end_place r) (Some (k.start b.0)) ≡ Less) (rest ++ post)) → IsChanged k eq (value_at k all) r m (pre ++ (new ++ (rest ++ post)))
       wide_changed m h behind clear =
-          subst (λ zs. IsCanonOf k eq (changed k (value_at k zs) r m) (pre ++ (new ++ (rest ++ post)))) (sym all_by)
+          subst (λ zs. IsChanged k eq (value_at k zs) r m (pre ++ (new ++ (rest ++ post)))) (sym all_by)
           (changed_without (pre ++ a) gone (one ++ (rest ++ post)) canonical_by within m (pre ++ (new ++ (rest ++ post)))
-          (subst (λ zs. IsCanonOf k eq (changed k (value_at k zs) r m) (pre ++ (new ++ (rest ++ post)))) (sym left_by)
+          (subst (λ zs. IsChanged k eq (value_at k zs) r m (pre ++ (new ++ (rest ++ post)))) (sym left_by)
           (changed_joined m h behind clear)))

@@ -2,9 +2,9 @@
 ghost use Rattle.std.specs.Prelude.{◌≡◌, true, ◌<◌, ◌≤◌, ◌+◌, [], length, take, drop, slice_index_or, IsOk, OnOk, OnErr, IfOk, IfSome, None as NoneWord};
 ghost use Rattle.std.specs.List.{AllWithin};
 ghost use Rattle.rangemap_core.specs.Clones.{KeysCloneFaithfully, ValuesCloneFaithfully};
-ghost use Rattle.rangemap_core.specs.Ranges.{IsCanonOf, erase, overlapped, override, value_at};
+ghost use Rattle.rangemap_core.specs.Ranges.{IsCanonOf, IsNewest, erase, overlapped, override, value_at};
 ghost use Rattle.rangemap_core.specs.engine.Shape.{shape_of};
-ghost use Rattle.rangemap_sorted.specs.Changes.{changed, grown};
+ghost use Rattle.rangemap_sorted.specs.Changes.{IsChanged, grown};
 ghost use Rattle.rangemap_chunked.specs.Chunks.{AreChunks, AreFilled, IsClearBefore, IsClearBehind, IsPastBehind, IsPastStart, chunk_by, whole};
 
 use crate::chunk::Chunk;
@@ -36,6 +36,7 @@ pub fn insert_into<Q: Kind<R>, R: KeyRange, V: Eq + Clone, A: Allocator + Clone,
     requires faithful_keys { KeysCloneFaithfully R.Key.is_clone R.Key.cmp }
     requires faithful_values { ValuesCloneFaithfully V.is_clone V.eq }
     ensures ok { OnOk result (IsCanonOf Q.kind V.eq (override Q.kind (value_at Q.kind (whole chunks.old.items)) range value) (whole chunks.new.items)) }
+    ensures newest { OnOk result (IsNewest Q.kind range value (whole chunks.new.items)) }
     ensures filled { AreFilled chunks.new.items }
     ensures err { OnErr result (whole chunks.new.items ≡ whole chunks.old.items) }
     ensures change { IfOk result (λ change. length (whole chunks.new.items) + change.before ≡ length (whole chunks.old.items) + change.after) }
@@ -64,6 +65,7 @@ fn insert_first<Q: Kind<R>, R: KeyRange, V: Eq + Clone, A: Allocator + Clone>(
     requires faithful_keys { KeysCloneFaithfully R.Key.is_clone R.Key.cmp }
     requires faithful_values { ValuesCloneFaithfully V.is_clone V.eq }
     ensures ok { OnOk result (IsCanonOf Q.kind V.eq (override Q.kind (value_at Q.kind (whole chunks.old.items)) range value) (whole chunks.new.items)) }
+    ensures newest { OnOk result (IsNewest Q.kind range value (whole chunks.new.items)) }
     ensures filled { AreFilled chunks.new.items }
     ensures err { OnErr result (chunks.new.items ≡ chunks.old.items) }
     ensures change { IfOk result (λ change. length (whole chunks.new.items) + change.before ≡ length (whole chunks.old.items) + change.after) }
@@ -137,7 +139,7 @@ fn change_from<Q: Kind<R>, R: KeyRange, V: Eq + Clone, A: Allocator>(
     requires non_empty { Q.kind.IsNonEmpty range }
     requires faithful_keys { KeysCloneFaithfully R.Key.is_clone R.Key.cmp }
     requires faithful_values { ValuesCloneFaithfully V.is_clone V.eq }
-    ensures ok { OnOk result (IsCanonOf Q.kind V.eq (changed Q.kind (value_at Q.kind (whole chunks.old.items)) range value) (whole chunks.new.items)) }
+    ensures ok { OnOk result (IsChanged Q.kind V.eq (value_at Q.kind (whole chunks.old.items)) range value (whole chunks.new.items)) }
     ensures filled { IfSome value (λ _. AreFilled chunks.new.items) }
     ensures filled_before { AreFilled (take at chunks.new.items) }
     ensures filled_behind { AreFilled (drop (at + 1) chunks.new.items) }
@@ -171,7 +173,7 @@ fn change_at<Q: Kind<R>, R: KeyRange, V: Eq + Clone, A: Allocator>(
     requires non_empty { Q.kind.IsNonEmpty range }
     requires faithful_keys { KeysCloneFaithfully R.Key.is_clone R.Key.cmp }
     requires faithful_values { ValuesCloneFaithfully V.is_clone V.eq }
-    ensures ok { OnOk result (IsCanonOf Q.kind V.eq (changed Q.kind (value_at Q.kind (whole chunks.old.items)) range value) (whole chunks.new.items)) }
+    ensures ok { OnOk result (IsChanged Q.kind V.eq (value_at Q.kind (whole chunks.old.items)) range value (whole chunks.new.items)) }
     ensures filled { IfSome value (λ _. AreFilled chunks.new.items) }
     ensures filled_before { AreFilled (take at chunks.new.items) }
     ensures filled_behind { AreFilled (drop (at + 1) chunks.new.items) }

@@ -6,7 +6,7 @@ ghost use Rattle.std.specs.Prelude.{◌≡◌, ◌≤◌, ◌<◌, ◌+◌, ◌-
 ghost use Rattle.std.specs.Option.{option_map};
 ghost use Rattle.rangemap_core.specs.Clones.{KeysCloneFaithfully, ValuesCloneFaithfully};
 ghost use Rattle.rangemap_core.specs.Ranges.{IsCanonical, IsCanonOf, overlapped, same_pairs, value_at};
-ghost use Rattle.rangemap_sorted.specs.Changes.{changed, grown};
+ghost use Rattle.rangemap_sorted.specs.Changes.{IsChanged, grown};
 
 use crate::moves::{drop_first, move_back, move_one};
 use rangemap_core::key_range::KeyRange;
@@ -138,7 +138,7 @@ impl<R: KeyRange, V: Eq + Clone, A: Allocator> Chunk<R, V, A> {
         requires non_empty { Q.kind.IsNonEmpty range }
         requires faithful_keys { KeysCloneFaithfully R.Key.is_clone R.Key.cmp }
         requires faithful_values { ValuesCloneFaithfully V.is_clone V.eq }
-        ensures ok { OnOk result (IsCanonOf Q.kind V.eq (changed Q.kind (value_at Q.kind self.old) range value) self.new) }
+        ensures ok { OnOk result (IsChanged Q.kind V.eq (value_at Q.kind self.old) range value self.new) }
         ensures err { OnErr result (self.new ≡ self.old) }
         ensures growth { OnOk result (length self.new ≤ length self.old + grown value) }
         ensures growth_where_all_are_equal { OnOk result (((v w : V) → V.eq v w ≡ true) → length self.new ≤ length self.old + 1) }
@@ -169,7 +169,7 @@ impl<R: KeyRange, V: Eq + Clone, A: Allocator> Chunk<R, V, A> {
         requires non_empty { Q.kind.IsNonEmpty range }
         requires faithful_keys { KeysCloneFaithfully R.Key.is_clone R.Key.cmp }
         requires faithful_values { ValuesCloneFaithfully V.is_clone V.eq }
-        ensures ok { OnOk result (IsCanonOf Q.kind V.eq (changed Q.kind (value_at Q.kind (self.old ++ take 1 (drop place other.old))) range value) self.new) }
+        ensures ok { OnOk result (IsChanged Q.kind V.eq (value_at Q.kind (self.old ++ take 1 (drop place other.old))) range value self.new) }
         ensures rest { OnOk result (other.new ≡ drop (place + 1) other.old) }
         ensures err { OnErr result ((self.new ≡ self.old) × (other.new ≡ other.old)) }
         ensures growth { OnOk result (length self.new ≤ length self.old + 1 + grown value) }

@@ -11,7 +11,7 @@ use rangemap_core::container::append_gaps;
 use rangemap_core::key_range::KeyRange;
 use rangemap_core::kind::{Kind, known_ends};
 use rangemap_core::reader::{Reader, ReaderOfBoth};
-use rangemap_core::store::{HandsOver, Lends, Store};
+use rangemap_core::store::{HandsOver, Lends, Store, StoreMut};
 use rangemap_sorted::entries::covering;
 use std::alloc::{AllocError, Allocator};
 use std::iter::{DoubleEndedIterator, Iterator};
@@ -79,36 +79,8 @@ impl<Q: Kind<R>, R: KeyRange, V: Eq + Clone, A: Allocator + Clone, const N: usiz
         let _len = self.len;
     }
 
-    fn empty(alloc: A) -> Self {
-        Chunks {
-            chunks: Vec::new(alloc),
-            len: 0,
-            kind: PhantomData,
-        }
-    }
-
     fn allocator(&self) -> &A {
         self.chunks.allocator()
-    }
-
-    fn insert(&mut self, range: R, value: V) -> Result<(), AllocError> {
-        if usize::MAX - 2 < self.len {
-            return Err(AllocError);
-        }
-        let change = insert_into::<Q, R, V, A, N>(&mut self.chunks, range, value)?;
-        self.len = self.len - change.before + change.after;
-        Ok(())
-    }
-
-    fn remove(&mut self, range: R) -> Result<(), AllocError> {
-        let change = remove_from::<Q, R, V, A, N>(&mut self.chunks, self.len, range)?;
-        self.len = self.len - change.before + change.after;
-        Ok(())
-    }
-
-    fn clear(&mut self) {
-        self.chunks.clear();
-        self.len = 0;
     }
 
     fn len(&self) -> usize {
@@ -129,20 +101,6 @@ impl<Q: Kind<R>, R: KeyRange, V: Eq + Clone, A: Allocator + Clone, const N: usiz
     fn last(&self) -> Option<(&R, &V)> {
         let chunk = self.chunks.last()?;
         chunk.last()
-    }
-
-    fn copy(&self, alloc: A) -> Result<Self, AllocError> {
-        let len = self.len;
-        let mut chunks = Vec::with_capacity(alloc, self.chunks.len())?;
-        for chunk in &self.chunks {
-            let alloc = chunk.allocator().clone()?;
-            chunks.push_reserved(chunk.copy::<Q>(alloc)?);
-        }
-        Ok(Chunks {
-            chunks,
-            len,
-            kind: PhantomData,
-        })
     }
 
     fn read<U: Reader<R, V>>(&self, state: &mut U::State) -> U::Answer {
@@ -172,6 +130,51 @@ impl<Q: Kind<R>, R: KeyRange, V: Eq + Clone, A: Allocator + Clone, const N: usiz
         known_ends::<Q, R>(outer_range);
         let pairs = Overlapping::over::<Q>(&self.chunks, outer_range);
         append_gaps::<Q, R, Overlapping<'_, R, V, A>, B>(pairs, outer_range, out)
+    }
+}
+
+impl<Q: Kind<R>, R: KeyRange, V: Eq + Clone, A: Allocator + Clone, const N: usize> StoreMut
+    for Chunks<Q, R, V, A, N> {
+    fn empty(alloc: A) -> Self {
+        Chunks {
+            chunks: Vec::new(alloc),
+            len: 0,
+            kind: PhantomData,
+        }
+    }
+
+    fn insert(&mut self, range: R, value: V) -> Result<(), AllocError> {
+        if usize::MAX - 2 < self.len {
+            return Err(AllocError);
+        }
+        let change = insert_into::<Q, R, V, A, N>(&mut self.chunks, range, value)?;
+        self.len = self.len - change.before + change.after;
+        Ok(())
+    }
+
+    fn remove(&mut self, range: R) -> Result<(), AllocError> {
+        let change = remove_from::<Q, R, V, A, N>(&mut self.chunks, self.len, range)?;
+        self.len = self.len - change.before + change.after;
+        Ok(())
+    }
+
+    fn clear(&mut self) {
+        self.chunks.clear();
+        self.len = 0;
+    }
+
+    fn copy(&self, alloc: A) -> Result<Self, AllocError> {
+        let len = self.len;
+        let mut chunks = Vec::with_capacity(alloc, self.chunks.len())?;
+        for chunk in &self.chunks {
+            let alloc = chunk.allocator().clone()?;
+            chunks.push_reserved(chunk.copy::<Q>(alloc)?);
+        }
+        Ok(Chunks {
+            chunks,
+            len,
+            kind: PhantomData,
+        })
     }
 }
 

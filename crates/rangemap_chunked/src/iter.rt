@@ -116,6 +116,8 @@ impl<'a, R, V, A: Allocator> ExactSizeIterator for Iter<'a, R, V, A> {
 }
 
 impl<'a, R: KeyRange, V, A: Allocator> LentPairs for Iter<'a, R, V, A> {
+    ghost use Rattle.std.specs.Map.Iter.{deref};
+
     type Range = R;
 
     type Value = V;
@@ -123,14 +125,23 @@ impl<'a, R: KeyRange, V, A: Allocator> LentPairs for Iter<'a, R, V, A> {
     type Lent = &'a R;
 
     ghost left = { λ it. it };
+
+    ghost range = { deref };
 }
 
 impl<'a, R: KeyRange, V, A: Allocator> PairIter for Iter<'a, R, V, A> {
+    ghost use Rattle.std.specs.Map.Iter.{deref};
     ghost use Rattle.std.specs.Prelude.{Some as SomeWord};
     ghost use Rattle.rangemap_core.specs.Ends.{by_definition};
     ghost use Rattle.rangemap_core.specs.laws.Hints.{exact_within};
 
     type LentValue = &'a V;
+
+    ghost value = { deref };
+
+    ghost range_leads = { λ lent found leads. leads };
+
+    ghost value_leads = { λ lent found leads. leads };
 
     ghost hinted = { λ count. (count, SomeWord count) };
 

@@ -72,8 +72,8 @@ fn take_out_between<R: Drop, V: Drop, A: Allocator>(
 // How many pairs a chunk has room for, at least, whose room is given back.
 const LEAST: usize = 32;
 
-/// Gives the memory of a chunk back that it does not use. What stays is room for up to `most` pairs, or
-/// for those that there are.
+/// Gives the memory of a chunk back that it does not use, as `Chunk::give_back` says. What stays is
+/// room for up to `most` pairs or for those that there are, and always for `LEAST`.
 pub fn give_back_at<R: Drop, V: Drop, A: Allocator>(
     chunks: &mut Vec<Chunk<R, V, A>, A>,
     at: usize,

@@ -142,6 +142,8 @@ impl<'a, R, V, A: Allocator> DoubleEndedIterator for Overlapping<'a, R, V, A> {
 }
 
 impl<'a, R: KeyRange, V, A: Allocator> LentPairs for Overlapping<'a, R, V, A> {
+    ghost use Rattle.std.specs.Map.Iter.{deref};
+
     type Range = R;
 
     type Value = V;
@@ -149,14 +151,23 @@ impl<'a, R: KeyRange, V, A: Allocator> LentPairs for Overlapping<'a, R, V, A> {
     type Lent = &'a R;
 
     ghost left = { λ it. it };
+
+    ghost range = { deref };
 }
 
 impl<'a, R: KeyRange, V, A: Allocator> PairIter for Overlapping<'a, R, V, A> {
+    ghost use Rattle.std.specs.Map.Iter.{deref};
     ghost use Rattle.std.specs.Prelude.{None as NoneWord};
     ghost use Rattle.rangemap_core.specs.Ends.{by_definition};
     ghost use Rattle.rangemap_core.specs.laws.Hints.{none_within};
 
     type LentValue = &'a V;
+
+    ghost value = { deref };
+
+    ghost range_leads = { λ lent found leads. leads };
+
+    ghost value_leads = { λ lent found leads. leads };
 
     ghost hinted = { λ _. (0, NoneWord) };
 

@@ -7,9 +7,9 @@
 ghost use Rattle.std.specs.Prelude.{◌≡◌, true, ◌<◌, ◌≤◌, ◌+◌, ◌++◌, [], length, take, drop, slice_index_or, slice_set, OnOk, OnErr, IfOk, IfSome};
 ghost use Rattle.std.specs.List.{AllWithin};
 ghost use Rattle.rangemap_core.specs.Clones.{KeysCloneFaithfully, ValuesCloneFaithfully};
-ghost use Rattle.rangemap_core.specs.Ranges.{IsCanonical, IsCanonOf, value_at};
+ghost use Rattle.rangemap_core.specs.Ranges.{IsCanonical, value_at};
 ghost use Rattle.rangemap_core.specs.engine.Shape.{shape_of};
-ghost use Rattle.rangemap_sorted.specs.Changes.{changed, grown};
+ghost use Rattle.rangemap_sorted.specs.Changes.{IsChanged, grown};
 ghost use Rattle.rangemap_chunked.specs.Chunks.{AreChunks, AreFilled, IsClearBefore, IsClearBehind, IsPastBehind, IsPastStart, chunk_by, whole};
 
 use crate::changes::Change;
@@ -42,7 +42,7 @@ pub fn change_over<Q: Kind<R>, R: KeyRange, V: Eq + Clone, A: Allocator>(
     requires non_empty { Q.kind.IsNonEmpty range }
     requires faithful_keys { KeysCloneFaithfully R.Key.is_clone R.Key.cmp }
     requires faithful_values { ValuesCloneFaithfully V.is_clone V.eq }
-    ensures ok { OnOk result (IsCanonOf Q.kind V.eq (changed Q.kind (value_at Q.kind (whole chunks.old.items)) range value) (whole chunks.new.items)) }
+    ensures ok { OnOk result (IsChanged Q.kind V.eq (value_at Q.kind (whole chunks.old.items)) range value (whole chunks.new.items)) }
     ensures filled { IfSome value (λ _. AreFilled chunks.new.items) }
     ensures filled_before { AreFilled (take at chunks.new.items) }
     ensures filled_behind { AreFilled (drop (at + 1) chunks.new.items) }
@@ -92,7 +92,7 @@ fn change_between<Q: Kind<R>, R: KeyRange, V: Eq + Clone, A: Allocator>(
     requires non_empty { Q.kind.IsNonEmpty range }
     requires faithful_keys { KeysCloneFaithfully R.Key.is_clone R.Key.cmp }
     requires faithful_values { ValuesCloneFaithfully V.is_clone V.eq }
-    ensures ok { OnOk result (IsCanonOf Q.kind V.eq (changed Q.kind (value_at Q.kind (slice_index_or chunks.old.items at [] ++ take 1 (drop place (slice_index_or chunks.old.items last [])))) range value) (slice_index_or chunks.new.items at [])) }
+    ensures ok { OnOk result (IsChanged Q.kind V.eq (value_at Q.kind (slice_index_or chunks.old.items at [] ++ take 1 (drop place (slice_index_or chunks.old.items last [])))) range value (slice_index_or chunks.new.items at [])) }
     ensures items { OnOk result (chunks.new.items ≡ slice_set (slice_set chunks.old.items at (slice_index_or chunks.new.items at [])) last (drop (place + 1) (slice_index_or chunks.old.items last []))) }
     ensures err { OnErr result (chunks.new.items ≡ chunks.old.items) }
     ensures growth { OnOk result (length (slice_index_or chunks.new.items at []) ≤ length (slice_index_or chunks.old.items at []) + 1 + grown value) }
@@ -118,7 +118,7 @@ fn change_in<Q: Kind<R>, R: KeyRange, V: Eq + Clone, A: Allocator>(
     requires non_empty { Q.kind.IsNonEmpty range }
     requires faithful_keys { KeysCloneFaithfully R.Key.is_clone R.Key.cmp }
     requires faithful_values { ValuesCloneFaithfully V.is_clone V.eq }
-    ensures ok { OnOk result (IsCanonOf Q.kind V.eq (changed Q.kind (value_at Q.kind (slice_index_or front.old at [] ++ take 1 (drop place (slice_index_or back.old 0 [])))) range value) (slice_index_or front.new at [])) }
+    ensures ok { OnOk result (IsChanged Q.kind V.eq (value_at Q.kind (slice_index_or front.old at [] ++ take 1 (drop place (slice_index_or back.old 0 [])))) range value (slice_index_or front.new at [])) }
     ensures front { front.new ≡ slice_set front.old at (slice_index_or front.new at []) }
     ensures back { OnOk result (back.new ≡ slice_set back.old 0 (drop (place + 1) (slice_index_or back.old 0 []))) }
     ensures err { OnErr result ((front.new ≡ front.old) × (back.new ≡ back.old)) }

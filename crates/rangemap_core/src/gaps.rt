@@ -11,8 +11,7 @@ ghost use Rattle.rangemap_core.specs.Ranges.{AreGaps};
 
 use crate::key_range::KeyRange;
 use crate::kind::{Endpoint, Kind, known_ends};
-use crate::pair_iter::{LentPairs, PairIter};
-use crate::reference::Reference;
+use crate::pair_iter::{LentPairs, PairIter, range_of};
 use crate::store::Lends;
 use std::alloc::AllocError;
 use std::iter::Iterator;
@@ -39,7 +38,7 @@ impl<'a, Q: Kind<R>, R: KeyRange, I: LentPairs<Range = R>> Model for Gaps<'a, Q,
 
     ghost Value = { List R };
 
-    ghost view = { λ s. if s.is_done then [] else gaps_behind Q.kind Q.end_place Q.part_of (start_behind s.outer_range.now (option_map I.Lent.target s.last)) s.outer_range.now (option_map I.Lent.target s.next) (I.left s.pairs) };
+    ghost view = { λ s. if s.is_done then [] else gaps_behind Q.kind Q.end_place Q.part_of (start_behind s.outer_range.now (option_map I.range s.last)) s.outer_range.now (option_map I.range s.next) (I.left s.pairs) };
 }
 
 impl<'a, Q: Kind<R>, R: KeyRange, I: PairIter<Range = R>> Gaps<'a, Q, R, I> {
@@ -73,15 +72,15 @@ impl<'a, Q: Kind<R>, R: KeyRange, I: PairIter<Range = R>> Gaps<'a, Q, R, I> {
             return Ok(None);
         }
         while let Some(next) = &self.next {
-            let from = end_of(&self.last, self.outer_range);
-            let gap = part_between::<Q, R>(from, Endpoint::Start(next.get()))?;
+            let from = end_of::<I>(&self.last, self.outer_range);
+            let gap = part_between::<Q, R>(from, Endpoint::Start(range_of::<I>(next)))?;
             self.last = self.next.take();
             self.next = next_range(&mut self.pairs);
             if gap.is_some() {
                 return Ok(gap);
             }
         }
-        let from = end_of(&self.last, self.outer_range);
+        let from = end_of::<I>(&self.last, self.outer_range);
         let gap = part_between::<Q, R>(from, Endpoint::End(self.outer_range))?;
         self.is_done = true;
         Ok(gap)
@@ -119,7 +118,7 @@ impl<'a, Q: Kind<R>, R: KeyRange, I: PairIter<Range = R>> Iterator for Gaps<'a, 
 }
 
 /// Returns the gaps that what is stored leaves in the range, which may be empty or reversed.
-pub fn gaps_of<'a, S: Lends<'a>>(
+pub fn gaps_of<'a, S: Lends<'a, Overlapping: PairIter>>(
     stored: &'a S,
     outer_range: &'a S::Range,
 ) -> Gaps<'a, S::Kind, S::Range, S::Overlapping>
@@ -135,7 +134,7 @@ where
 
 // Takes the range of the next pair.
 fn next_range<I: PairIter>(pairs: &mut I) -> Option<I::Lent>
-    ensures { MatchOption result ((I.left pairs.old ≡ []) × (I.left pairs.new ≡ [])) (λ range. (value : I.Value) × (I.left pairs.old ≡ (I.Lent.target range, value) ∷ I.left pairs.new)) }
+    ensures { MatchOption result ((I.left pairs.old ≡ []) × (I.left pairs.new ≡ [])) (λ range. (value : I.Value) × (I.left pairs.old ≡ (I.range range, value) ∷ I.left pairs.new)) }
 {
     match pairs.next() {
         Some((range, _)) => Some(range),
@@ -144,11 +143,14 @@ fn next_range<I: PairIter>(pairs: &mut I) -> Option<I::Lent>
 }
 
 // Where the next gap may start.
-fn end_of<'b, R, L: Reference<R>>(last: &'b Option<L>, outer_range: &'b R) -> Endpoint<'b, R>
-    ensures { endpoint_of result ≡ start_behind outer_range.now (option_map L.target last.now) }
+fn end_of<'b, I: PairIter>(
+    last: &'b Option<I::Lent>,
+    outer_range: &'b I::Range,
+) -> Endpoint<'b, I::Range>
+    ensures { endpoint_of result ≡ start_behind outer_range.now (option_map I.range last.now) }
 {
     match last {
-        Some(range) => Endpoint::End(range.get()),
+        Some(range) => Endpoint::End(range_of::<I>(range)),
         None => Endpoint::Start(outer_range),
     }
 }

@@ -1,16 +1,16 @@
 //! What keeps the pairs of a map or a set: a sorted vector, a tree, chunks.
 //!
-//! `Store` is all that a representation has to do. `Map` and `Set` make every public call of it, so
-//! a store has no `extend`, no comparison, no text and no JSON form of its own.
+//! `Store` and `StoreMut` are all that a representation has to do. `Map` and `Set` make every public
+//! call of them, so a store has no `extend`, no comparison, no text and no JSON form of its own.
 ghost use Rattle.std.specs.Prelude.{◌≡◌, ◌-◌, ◌+◌, ◌≤◌, List, [], IfOk, IsOk, OnErr, OnOk, length, map, slice_get, true};
 ghost use Rattle.std.specs.Option.{option_map};
 ghost use Rattle.rangemap_core.specs.Appends.{AppendsGaps};
 ghost use Rattle.rangemap_core.specs.Clones.{KeysCloneFaithfully, ValuesCloneFaithfully};
-ghost use Rattle.rangemap_core.specs.Ranges.{AreGaps, IsCanonOf, IsCanonical, covering, erase, overlapped, override, same_pairs, value_at};
+ghost use Rattle.rangemap_core.specs.Ranges.{AreGaps, IsCanonOf, IsCanonical, IsNewest, covering, erase, overlapped, override, same_pairs, value_at};
 
 use crate::key_range::KeyRange;
 use crate::kind::Kind;
-use crate::pair_iter::{OwnedPairs, PairIter};
+use crate::pair_iter::{LentPairs, OwnedPairs};
 use crate::reader::{Reader, ReaderOfBoth};
 use std::alloc::{AllocError, Allocator};
 use std::iter::Iterator;
@@ -38,45 +38,8 @@ pub trait Store {
     fn known(&self)
         ensures { IsCanonical Self.Kind.kind Self.Value.eq (pairs self.now) };
 
-    /// Returns the empty store, whose memory comes from `alloc`. It takes none yet.
-    fn empty(alloc: Self::Alloc) -> Self
-        ensures { pairs result ≡ [] };
-
     /// Returns what the memory comes from.
     fn allocator(&self) -> &Self::Alloc;
-
-    /// Gives every key of `range` the `value`, whatever it had before.
-    ///
-    /// # Errors
-    ///
-    /// Memory, or a clone of a key or value, was refused: then the store is as it was.
-    fn insert(&mut self, range: Self::Range, value: Self::Value) -> Result<(), AllocError>
-        requires non_empty { Self.Kind.kind.IsNonEmpty range }
-        requires faithful_keys { KeysCloneFaithfully Self.Range.Key.is_clone Self.Range.Key.cmp }
-        requires faithful_values { ValuesCloneFaithfully Self.Value.is_clone Self.Value.eq }
-        ensures ok { OnOk result (IsCanonOf Self.Kind.kind Self.Value.eq (override Self.Kind.kind (value_at Self.Kind.kind (pairs self.old)) range value) (pairs self.new)) }
-        ensures err { OnErr result (pairs self.new ≡ pairs self.old) }
-        ensures growth { OnOk result (length (pairs self.new) ≤ length (pairs self.old) + 2) }
-        ensures growth_where_all_are_equal { OnOk result (((v w : Self.Value) → Self.Value.eq v w ≡ true) → length (pairs self.new) ≤ length (pairs self.old) + 1) };
-
-    /// Takes every key of `range` out. Where no stored range overlaps it, the call takes no memory,
-    /// succeeds and changes nothing.
-    ///
-    /// # Errors
-    ///
-    /// As for `insert`.
-    fn remove(&mut self, range: Self::Range) -> Result<(), AllocError>
-        requires non_empty { Self.Kind.kind.IsNonEmpty range }
-        requires faithful_keys { KeysCloneFaithfully Self.Range.Key.is_clone Self.Range.Key.cmp }
-        requires faithful_values { ValuesCloneFaithfully Self.Value.is_clone Self.Value.eq }
-        ensures ok { OnOk result (IsCanonOf Self.Kind.kind Self.Value.eq (erase Self.Kind.kind (value_at Self.Kind.kind (pairs self.old)) range) (pairs self.new)) }
-        ensures err { OnErr result (pairs self.new ≡ pairs self.old) }
-        ensures growth { OnOk result (length (pairs self.new) ≤ length (pairs self.old) + 1) }
-        ensures meets_nothing { overlapped Self.Kind.kind (pairs self.old) range ≡ [] → IsOk result × (pairs self.new ≡ pairs self.old) };
-
-    /// Takes every key out. It takes no memory.
-    fn clear(&mut self)
-        ensures { pairs self.new ≡ [] };
 
     /// Returns the number of stored ranges.
     fn len(&self) -> usize
@@ -93,18 +56,6 @@ pub trait Store {
     /// Returns the last stored range and its value, if there is one.
     fn last(&self) -> Option<(&Self::Range, &Self::Value)>
         ensures { option_map (λ pair. (pair.0.now, pair.1.now)) result ≡ slice_get (pairs self.now) (length (pairs self.now) - 1) };
-
-    /// Makes an equal store out of clones, in memory of `alloc`, which is a clone of this store's own
-    /// allocator. A store that is cloned whole, as a tree is, may make clones of its own besides.
-    ///
-    /// # Errors
-    ///
-    /// Memory or a clone was refused.
-    fn copy(&self, alloc: Self::Alloc) -> Result<Self, AllocError>
-        requires faithful_keys { KeysCloneFaithfully Self.Range.Key.is_clone Self.Range.Key.cmp }
-        requires faithful_values { ValuesCloneFaithfully Self.Value.is_clone Self.Value.eq }
-        ensures same { IfOk result (λ copy. same_pairs Self.Kind.kind Self.Value.eq (pairs self.now) (pairs copy) ≡ true) }
-        ensures canon { IfOk result (λ copy. IsCanonOf Self.Kind.kind Self.Value.eq (value_at Self.Kind.kind (pairs self.now)) (pairs copy)) };
 
     /// Has all pairs read, in order.
     fn read<U: Reader<Self::Range, Self::Value>>(&self, state: &mut U::State) -> U::Answer
@@ -145,6 +96,62 @@ pub trait Store {
         ensures err { OnErr result (out.new.items ≡ out.old.items) };
 }
 
+/// A store that is made and changed.
+///
+/// It is a trait of its own, since a call on a map whose store is known is checked with each method of
+/// the call's bound: who only asks pays for no change.
+pub trait StoreMut: Store {
+    /// Returns the empty store, whose memory comes from `alloc`. It takes none yet.
+    fn empty(alloc: Self::Alloc) -> Self
+        ensures { Self.pairs result ≡ [] };
+
+    /// Gives every key of `range` the `value`, whatever it had before.
+    ///
+    /// # Errors
+    ///
+    /// Memory, or a clone of a key or value, was refused: then the store is as it was.
+    fn insert(&mut self, range: Self::Range, value: Self::Value) -> Result<(), AllocError>
+        requires non_empty { Self.Kind.kind.IsNonEmpty range }
+        requires faithful_keys { KeysCloneFaithfully Self.Range.Key.is_clone Self.Range.Key.cmp }
+        requires faithful_values { ValuesCloneFaithfully Self.Value.is_clone Self.Value.eq }
+        ensures ok { OnOk result (IsCanonOf Self.Kind.kind Self.Value.eq (override Self.Kind.kind (value_at Self.Kind.kind (Self.pairs self.old)) range value) (Self.pairs self.new)) }
+        ensures newest { OnOk result (IsNewest Self.Kind.kind range value (Self.pairs self.new)) }
+        ensures err { OnErr result (Self.pairs self.new ≡ Self.pairs self.old) }
+        ensures growth { OnOk result (length (Self.pairs self.new) ≤ length (Self.pairs self.old) + 2) }
+        ensures growth_where_all_are_equal { OnOk result (((v w : Self.Value) → Self.Value.eq v w ≡ true) → length (Self.pairs self.new) ≤ length (Self.pairs self.old) + 1) };
+
+    /// Takes every key of `range` out. Where no stored range overlaps it, the call takes no memory,
+    /// succeeds and changes nothing.
+    ///
+    /// # Errors
+    ///
+    /// As for `insert`.
+    fn remove(&mut self, range: Self::Range) -> Result<(), AllocError>
+        requires non_empty { Self.Kind.kind.IsNonEmpty range }
+        requires faithful_keys { KeysCloneFaithfully Self.Range.Key.is_clone Self.Range.Key.cmp }
+        requires faithful_values { ValuesCloneFaithfully Self.Value.is_clone Self.Value.eq }
+        ensures ok { OnOk result (IsCanonOf Self.Kind.kind Self.Value.eq (erase Self.Kind.kind (value_at Self.Kind.kind (Self.pairs self.old)) range) (Self.pairs self.new)) }
+        ensures err { OnErr result (Self.pairs self.new ≡ Self.pairs self.old) }
+        ensures growth { OnOk result (length (Self.pairs self.new) ≤ length (Self.pairs self.old) + 1) }
+        ensures meets_nothing { overlapped Self.Kind.kind (Self.pairs self.old) range ≡ [] → IsOk result × (Self.pairs self.new ≡ Self.pairs self.old) };
+
+    /// Takes every key out. It takes no memory.
+    fn clear(&mut self)
+        ensures { Self.pairs self.new ≡ [] };
+
+    /// Makes an equal store out of clones, in memory of `alloc`, which is a clone of this store's own
+    /// allocator. A store that is cloned whole, as a tree is, may make clones of its own besides.
+    ///
+    /// # Errors
+    ///
+    /// Memory or a clone was refused.
+    fn copy(&self, alloc: Self::Alloc) -> Result<Self, AllocError>
+        requires faithful_keys { KeysCloneFaithfully Self.Range.Key.is_clone Self.Range.Key.cmp }
+        requires faithful_values { ValuesCloneFaithfully Self.Value.is_clone Self.Value.eq }
+        ensures same { IfOk result (λ copy. same_pairs Self.Kind.kind Self.Value.eq (Self.pairs self.now) (Self.pairs copy) ≡ true) }
+        ensures canon { IfOk result (λ copy. IsCanonOf Self.Kind.kind Self.Value.eq (value_at Self.Kind.kind (Self.pairs self.now)) (Self.pairs copy)) };
+}
+
 /// A store that hands its pairs over.
 ///
 /// It is a trait of its own: with an owned iterator in `Store`, each crate that names a map would
@@ -160,26 +167,19 @@ pub trait HandsOver: Store {
 }
 
 /// A store that lends its pairs for `'a`.
+///
+/// It asks of its iterators only what a struct does that holds one (`LentPairs`), so that who is handed
+/// one pays no more. Who goes over them asks for `PairIter` besides.
 pub trait Lends<'a>: Store
 where
     Self::Range: 'a,
     Self::Value: 'a,
 {
     /// The pairs, in order and from both ends.
-    type Iter: PairIter<
-        Range = Self::Range,
-        Value = Self::Value,
-        Lent = &'a Self::Range,
-        LentValue = &'a Self::Value,
-    >;
+    type Iter: LentPairs<Range = Self::Range, Value = Self::Value, Lent = &'a Self::Range>;
 
     /// The pairs that overlap a range, in order and from both ends.
-    type Overlapping: PairIter<
-        Range = Self::Range,
-        Value = Self::Value,
-        Lent = &'a Self::Range,
-        LentValue = &'a Self::Value,
-    >;
+    type Overlapping: LentPairs<Range = Self::Range, Value = Self::Value, Lent = &'a Self::Range>;
 
     /// Returns all pairs.
     fn iter(&'a self) -> Self::Iter

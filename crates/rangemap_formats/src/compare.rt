@@ -6,10 +6,9 @@ ghost use Rattle.rangemap_core.specs.Ranges.{same_pairs};
 
 use rangemap_core::key_range::KeyRange;
 use rangemap_core::kind::Kind;
-use rangemap_core::pair_iter::PairIter;
+use rangemap_core::pair_iter::{PairIter, range_of, value_of};
 use rangemap_core::pairs::is_same;
 use rangemap_core::reader::ReaderOfBoth;
-use rangemap_core::reference::Reference;
 use rangemap_core::store::Store;
 use std::cmp::Ordering;
 use std::iter::Iterator;
@@ -50,8 +49,8 @@ impl<Q: Kind<R>, R: KeyRange, V: Eq> ReaderOfBoth<R, V> for Same<Q> {
             let Some(their) = theirs.next() else {
                 return false;
             };
-            let (range, value) = (our.0.get(), our.1.get());
-            let (other, other_value) = (their.0.get(), their.1.get());
+            let (range, value) = (range_of::<I>(&our.0), value_of::<I>(&our.1));
+            let (other, other_value) = (range_of::<I>(&their.0), value_of::<I>(&their.1));
             if !is_same::<Q, R, V>(range, value, other, other_value) {
                 return false;
             }
@@ -79,8 +78,8 @@ impl<Q: Kind<R>, R: KeyRange, V: Ord> ReaderOfBoth<R, V> for Compared<Q> {
             let Some(their) = theirs.next() else {
                 return Ordering::Greater;
             };
-            let (range, value) = (our.0.get(), our.1.get());
-            let (other, other_value) = (their.0.get(), their.1.get());
+            let (range, value) = (range_of::<I>(&our.0), value_of::<I>(&our.1));
+            let (other, other_value) = (range_of::<I>(&their.0), value_of::<I>(&their.1));
             let found = compare_pairs::<Q, R, V>(range, value, other, other_value);
             if found.is_ne() {
                 return found;

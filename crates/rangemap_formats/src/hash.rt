@@ -4,9 +4,8 @@ ghost use Rattle.rangemap_core.specs.Hashes.{pair_fed, pairs_fed};
 
 use rangemap_core::key_range::KeyRange;
 use rangemap_core::kind::Kind;
-use rangemap_core::pair_iter::PairIter;
+use rangemap_core::pair_iter::{PairIter, range_of, value_of};
 use rangemap_core::reader::Reader;
-use rangemap_core::reference::Reference;
 use rangemap_core::store::Store;
 use std::hash::{Hash, Hasher};
 use std::iter::Iterator;
@@ -44,10 +43,10 @@ where
     fn read<I: PairIter<Range = R, Value = V>>(pairs: I, state: &mut H) {
         let mut rest = pairs;
         'pairs: while let Some(pair) = rest.next() {
-            let range = pair.0.get();
+            let range = range_of::<I>(&pair.0);
             range.start().hash(state);
             range.end().hash(state);
-            pair.1.get().hash(state);
+            value_of::<I>(&pair.1).hash(state);
         }
     }
 }

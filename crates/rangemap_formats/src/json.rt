@@ -14,7 +14,7 @@ ghost use Rattle.rangemap_formats.specs.declared.json.WriteError.TheVariants as 
 
 use entries::{MapReader, MapWriter, SetReader, SetWriter};
 use rangemap_core::key_range::KeyRange;
-use rangemap_core::store::Store;
+use rangemap_core::store::{Store, StoreMut};
 use serde_json::Value;
 use std::alloc::{AllocError, AllocFailed, Global};
 
@@ -76,7 +76,7 @@ pub fn write_set<S: Store<Value = ()>, E, WK: Fn(&<S::Range as KeyRange>::Key) -
 /// with `Form::Canonical` then the order and the touch with the pair before. The first fault is the
 /// answer, and nothing is made then.
 pub fn read_map<
-    S: Store + Drop,
+    S: StoreMut + Drop,
     E,
     RK: Fn(&Value) -> Result<<S::Range as KeyRange>::Key, E>,
     RV: Fn(&Value) -> Result<S::Value, E>,
@@ -109,7 +109,7 @@ pub fn read_map<
 ///
 /// As for `read_map`; there is no value.
 pub fn read_set<
-    S: Store<Value = ()> + Drop,
+    S: StoreMut<Value = ()> + Drop,
     E,
     RK: Fn(&Value) -> Result<<S::Range as KeyRange>::Key, E>,
 >(alloc: S::Alloc, form: Form, value: &Value, read_key: RK) -> Result<S, ReadError<E>>

@@ -9,9 +9,8 @@ ghost use Rattle.rangemap_formats.specs.Texts.{braced_text, items_text, map_text
 
 use rangemap_core::key_range::KeyRange;
 use rangemap_core::kind::Kind;
-use rangemap_core::pair_iter::PairIter;
+use rangemap_core::pair_iter::{PairIter, range_of, value_of};
 use rangemap_core::reader::Reader;
-use rangemap_core::reference::Reference;
 use rangemap_core::store::Store;
 use std::fmt;
 use std::fmt::{Debug, Formatter};
@@ -65,7 +64,7 @@ impl<R: KeyRange + Debug, V: Debug, W: fmt::Write> Reader<R, V> for MapOnLines<W
         let mut rest = pairs;
         let mut map = f.debug_map();
         while let Some(pair) = rest.next() {
-            map.entry(pair.0.get(), pair.1.get());
+            map.entry(range_of::<I>(&pair.0), value_of::<I>(&pair.1));
         }
         map.finish()
     }
@@ -87,7 +86,7 @@ impl<R: KeyRange + Debug, V, W: fmt::Write> Reader<R, V> for SetOnLines<W> {
         let mut rest = pairs;
         let mut set = f.debug_set();
         while let Some(pair) = rest.next() {
-            set.entry(pair.0.get());
+            set.entry(range_of::<I>(&pair.0));
         }
         set.finish()
     }
@@ -166,7 +165,7 @@ impl<T: PairText<R, V>, R: KeyRange, V, W: fmt::Write> Reader<R, V> for Items<T,
         let Some(first) = rest.next() else {
             return Ok(());
         };
-        let (range, value) = (first.0.get(), first.1.get());
+        let (range, value) = (range_of::<I>(&first.0), value_of::<I>(&first.1));
         T::write_pair(range, value, f)?;
         write_others::<T, I, W>(rest, f)
     }
@@ -182,7 +181,7 @@ fn write_others<T: PairText<I::Range, I::Value>, I: PairIter, W: fmt::Write>(
     let mut rest = pairs;
     'pairs: while let Some(pair) = rest.next() {
         f.write_str(", ")?;
-        let (range, value) = (pair.0.get(), pair.1.get());
+        let (range, value) = (range_of::<I>(&pair.0), value_of::<I>(&pair.1));
         T::write_pair(range, value, f)?;
     }
     Ok(())

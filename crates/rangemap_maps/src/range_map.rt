@@ -7,7 +7,8 @@ use crate::readers::IsAny;
 use rangemap_core::gaps::{Gaps, gaps_of};
 use rangemap_core::key_range::KeyRange;
 use rangemap_core::kind::Kind;
-use rangemap_core::store::{Lends, Store};
+use rangemap_core::pair_iter::PairIter;
+use rangemap_core::store::{Lends, Store, StoreMut};
 use std::marker::{Model, PhantomData};
 
 pub mod calls;
@@ -48,7 +49,7 @@ impl<S: Store> Model for Map<S> {
     ghost view = { λ m. S.pairs m.stored };
 }
 
-impl<S: Store> Map<S>
+impl<S: StoreMut> Map<S>
 where
     S::Kind: Kind<S::Range, Steps = <S::Range as KeyRange>::Key>,
 {
@@ -60,7 +61,7 @@ where
     }
 }
 
-impl<S: Store> Map<S> {
+impl<S: StoreMut> Map<S> {
     /// Returns the empty map over the steps of its kind, whose memory will come from `alloc`.
     ///
     /// Of closed ranges these are the steps of `StepFnsT`. Half-open ranges have none, and `new` is the
@@ -73,7 +74,9 @@ impl<S: Store> Map<S> {
             lives: PhantomData,
         }
     }
+}
 
+impl<S: Store> Map<S> {
     /// Does nothing, and tells that the list of a map at hand is canonical.
     pub fn known(&self)
         ensures { IsCanonical S.Kind.kind S.Value.eq self.now }
@@ -186,7 +189,13 @@ where
     {
         self.stored.overlapping(range)
     }
+}
 
+impl<'a, S: Lends<'a, Overlapping: PairIter>> Map<S>
+where
+    S::Range: 'a,
+    S::Value: 'a,
+{
     /// Returns the parts of `outer_range` that no stored range covers, in order.
     ///
     /// Between two stored ranges that touch there is none. Nothing is asked of `outer_range`: an

@@ -1,10 +1,16 @@
 -- A change of the keys of a range: they get a value, or where there is none, lose theirs.
-use Rattle.std.specs.Prelude.{ℕ, Option, Some, None, if◌then◌else◌}
-use Rattle.rangemap_core.specs.Ranges.{RangeKind}
+use Rattle.std.specs.Prelude.{ℕ, Bool, List, Option, Some, None, IfSome, if◌then◌else◌}
+use Rattle.rangemap_core.specs.Ranges.{IsCanonOf, IsNewest, RangeKind}
 
 -- f with the value on the points of r, or undefined there
 abbrev pub changed : {K X V : Type 0} → RangeKind K X → (K → Option V) → X → Option V → K → Option V
 changed k f r value x = if k.holds r x then value else f x
+
+module _ {K X V : Type 0} (k : RangeKind K X) (eq : V → V → Bool) where
+  -- the canonical list of f changed so, which has the very value on the points of r, where there is one
+  pub record IsChanged (f : K → Option V) (r : X) (value : Option V) (list : List (X × V)) : Type 0 where
+    pub canon : IsCanonOf k eq (changed k f r value) list
+    pub newest : IfSome value (λ v. IsNewest k r v list)
 
 -- how many pairs a change may add
 abbrev pub grown : {V : Type 0} → Option V → ℕ

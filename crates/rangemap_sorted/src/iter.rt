@@ -86,6 +86,8 @@ impl<'a, R, V> ExactSizeIterator for Iter<'a, R, V> {
 }
 
 impl<'a, R: KeyRange, V> LentPairs for Iter<'a, R, V> {
+    ghost use Rattle.std.specs.Map.Iter.{deref};
+
     type Range = R;
 
     type Value = V;
@@ -93,14 +95,23 @@ impl<'a, R: KeyRange, V> LentPairs for Iter<'a, R, V> {
     type Lent = &'a R;
 
     ghost left = { λ it. it };
+
+    ghost range = { deref };
 }
 
 impl<'a, R: KeyRange, V> PairIter for Iter<'a, R, V> {
+    ghost use Rattle.std.specs.Map.Iter.{deref};
     ghost use Rattle.std.specs.Prelude.{Some as SomeWord};
     ghost use Rattle.rangemap_core.specs.Ends.{by_definition};
     ghost use Rattle.rangemap_core.specs.laws.Hints.{exact_within};
 
     type LentValue = &'a V;
+
+    ghost value = { deref };
+
+    ghost range_leads = { λ lent found leads. leads };
+
+    ghost value_leads = { λ lent found leads. leads };
 
     ghost hinted = { λ count. (count, SomeWord count) };
 

@@ -116,6 +116,8 @@ impl<'a, R: KeyRange, V> DoubleEndedIterator for Overlapping<'a, R, V> {
 }
 
 impl<'a, R: KeyRange, V> LentPairs for Overlapping<'a, R, V> {
+    ghost use Rattle.std.specs.Map.Iter.{deref};
+
     type Range = R;
 
     type Value = V;
@@ -123,14 +125,23 @@ impl<'a, R: KeyRange, V> LentPairs for Overlapping<'a, R, V> {
     type Lent = &'a R;
 
     ghost left = { λ it. it };
+
+    ghost range = { deref };
 }
 
 impl<'a, R: KeyRange, V> PairIter for Overlapping<'a, R, V> {
+    ghost use Rattle.std.specs.Map.Iter.{deref};
     ghost use Rattle.std.specs.Prelude.{None as NoneWord};
     ghost use Rattle.rangemap_core.specs.Ends.{by_definition};
     ghost use Rattle.rangemap_core.specs.laws.Hints.{none_within};
 
     type LentValue = &'a V;
+
+    ghost value = { deref };
+
+    ghost range_leads = { λ lent found leads. leads };
+
+    ghost value_leads = { λ lent found leads. leads };
 
     ghost hinted = { λ _. (0, NoneWord) };
 

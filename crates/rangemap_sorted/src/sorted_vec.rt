@@ -10,7 +10,7 @@ use rangemap_core::key_range::KeyRange;
 use rangemap_core::kind::{Kind, known_ends};
 use rangemap_core::pairs::clone_pair;
 use rangemap_core::reader::{Reader, ReaderOfBoth};
-use rangemap_core::store::{HandsOver, Lends, Store};
+use rangemap_core::store::{HandsOver, Lends, Store, StoreMut};
 use std::alloc::{AllocError, Allocator};
 use std::marker::{Model, PhantomData};
 
@@ -50,27 +50,8 @@ impl<Q: Kind<R>, R: KeyRange, V: Eq + Clone, A: Allocator> Store for SortedVec<Q
         let _pairs = &self.pairs;
     }
 
-    fn empty(alloc: A) -> Self {
-        SortedVec {
-            pairs: Vec::new(alloc),
-            kind: PhantomData,
-        }
-    }
-
     fn allocator(&self) -> &A {
         self.pairs.allocator()
-    }
-
-    fn insert(&mut self, range: R, value: V) -> Result<(), AllocError> {
-        changes::insert::<Q, R, V, A>(&mut self.pairs, range, value)
-    }
-
-    fn remove(&mut self, range: R) -> Result<(), AllocError> {
-        changes::remove::<Q, R, V, A>(&mut self.pairs, range)
-    }
-
-    fn clear(&mut self) {
-        self.pairs.clear();
     }
 
     fn len(&self) -> usize {
@@ -90,17 +71,6 @@ impl<Q: Kind<R>, R: KeyRange, V: Eq + Clone, A: Allocator> Store for SortedVec<Q
     fn last(&self) -> Option<(&R, &V)> {
         let pair = self.pairs.last()?;
         Some((&pair.0, &pair.1))
-    }
-
-    fn copy(&self, alloc: A) -> Result<Self, AllocError> {
-        let mut pairs = Vec::with_capacity(alloc, self.pairs.len())?;
-        for pair in &self.pairs {
-            pairs.push_reserved(clone_pair::<Q, R, V>(&pair.0, &pair.1)?);
-        }
-        Ok(SortedVec {
-            pairs,
-            kind: PhantomData,
-        })
     }
 
     fn read<U: Reader<R, V>>(&self, state: &mut U::State) -> U::Answer {
@@ -123,6 +93,38 @@ impl<Q: Kind<R>, R: KeyRange, V: Eq + Clone, A: Allocator> Store for SortedVec<Q
         known_ends::<Q, R>(outer_range);
         let pairs = Overlapping::new::<Q>(&self.pairs, outer_range);
         append_gaps::<Q, R, Overlapping<'_, R, V>, B>(pairs, outer_range, out)
+    }
+}
+
+impl<Q: Kind<R>, R: KeyRange, V: Eq + Clone, A: Allocator> StoreMut for SortedVec<Q, R, V, A> {
+    fn empty(alloc: A) -> Self {
+        SortedVec {
+            pairs: Vec::new(alloc),
+            kind: PhantomData,
+        }
+    }
+
+    fn insert(&mut self, range: R, value: V) -> Result<(), AllocError> {
+        changes::insert::<Q, R, V, A>(&mut self.pairs, range, value)
+    }
+
+    fn remove(&mut self, range: R) -> Result<(), AllocError> {
+        changes::remove::<Q, R, V, A>(&mut self.pairs, range)
+    }
+
+    fn clear(&mut self) {
+        self.pairs.clear();
+    }
+
+    fn copy(&self, alloc: A) -> Result<Self, AllocError> {
+        let mut pairs = Vec::with_capacity(alloc, self.pairs.len())?;
+        for pair in &self.pairs {
+            pairs.push_reserved(clone_pair::<Q, R, V>(&pair.0, &pair.1)?);
+        }
+        Ok(SortedVec {
+            pairs,
+            kind: PhantomData,
+        })
     }
 }
 

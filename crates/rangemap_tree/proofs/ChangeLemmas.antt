@@ -4,12 +4,12 @@ use Rattle.std.specs.Cmp.{IsTotalOrder, IsEquivalence, tied_itself}
 use Rattle.std.specs.Option.{unwrap_or}
 use Rattle.std.specs.Ordering.{ordering_reverse}
 use Rattle.std.specs.declared.ops.Range.{Range}
-use Rattle.rangemap_core.specs.Ranges.{half_open, IsCanonical, IsStorable, IsCanonOf, covering, value_at, override, erase}
+use Rattle.rangemap_core.specs.Ranges.{half_open, IsCanonical, IsNewest, IsStorable, IsCanonOf, covering, value_at, override, erase}
 use Rattle.rangemap_core.specs.engine.EndpointKinds.{half_open_placed}
 use Rattle.rangemap_core.specs.engine.PlacedKinds.{place_total}
-use Rattle.rangemap_core.specs.engine.Shape.{IsSpaced}
+use Rattle.rangemap_core.specs.engine.Shape.{IsPlaceOverride, IsSpaced}
 use Rattle.rangemap_core.specs.engine.Stretch.{Every, IsLeftPart, IsRightPart}
-use Rattle.rangemap_core.proofs.PlaceLemmas.{to_spaced, to_override, to_erase}
+use Rattle.rangemap_core.proofs.PlaceLemmas.{to_spaced, to_newest, to_override, to_erase}
 use Rattle.rangemap_core.proofs.StoredLemmas.{all_storable}
 use Rattle.rangemap_core.proofs.JoinLemmas.{joined_canonical, joined_overrides}
 use Rattle.rangemap_core.proofs.ListLemmas.{Every-map, Every-right}
@@ -140,11 +140,17 @@ module _ {K V : Type 0} {cmp : K → K → Ordering} (o : IsTotalOrder cmp) (eq 
       pub past_at : from cmp m.end (past cmp r.end ps) ≡ past cmp r.end ps
       past_at = right.past_end m.end high_tie
 
+      new_spaced : IsSpaced (shape cmp eq) (recut cut (before cmp m.start ps) ++ (m, v) ∷ (piece_list piece ++ from cmp m.end ps))
+      new_spaced = joined_canonical (shape cmp eq) (place_total o) e ps (recut cut (before cmp m.start ps)) (piece_list piece ++ from cmp m.end ps) r m v left_part right_part full
+
+      overrides : IsPlaceOverride (shape cmp eq) ps (recut cut (before cmp m.start ps) ++ (m, v) ∷ (piece_list piece ++ from cmp m.end ps)) (r, v)
+      overrides = joined_overrides (shape cmp eq) (place_total o) e ps (recut cut (before cmp m.start ps)) (piece_list piece ++ from cmp m.end ps) r m v left_part right_part full
+
       pub inserted : IsCanonOf (half_open cmp) eq (override (half_open cmp) (value_at (half_open cmp) ps) r v) (recut cut (before cmp m.start ps) ++ (m, v) ∷ (piece_list piece ++ from cmp m.end ps))
-      inserted =
-          let sp = joined_canonical (shape cmp eq) (place_total o) e ps (recut cut (before cmp m.start ps)) (piece_list piece ++ from cmp m.end ps) r m v left_part right_part full in
-          to_override (half_open_placed o) eq ps (recut cut (before cmp m.start ps) ++ (m, v) ∷ (piece_list piece ++ from cmp m.end ps)) r (all_storable _ eq ps c) (storables _ sp) stored sp v
-          (joined_overrides (shape cmp eq) (place_total o) e ps (recut cut (before cmp m.start ps)) (piece_list piece ++ from cmp m.end ps) r m v left_part right_part full)
+      inserted = to_override (half_open_placed o) eq ps (recut cut (before cmp m.start ps) ++ (m, v) ∷ (piece_list piece ++ from cmp m.end ps)) r (all_storable _ eq ps c) (storables _ new_spaced) stored new_spaced e v overrides
+
+      pub inserted_is_newest : IsNewest (half_open cmp) r v (recut cut (before cmp m.start ps) ++ (m, v) ∷ (piece_list piece ++ from cmp m.end ps))
+      inserted_is_newest = to_newest (half_open_placed o) eq ps (recut cut (before cmp m.start ps) ++ (m, v) ∷ (piece_list piece ++ from cmp m.end ps)) r (all_storable _ eq ps c) (storables _ new_spaced) stored new_spaced v overrides
 
       pub inserted_length : length (recut cut (before cmp m.start ps) ++ (m, v) ∷ (piece_list piece ++ from cmp m.end ps)) ≤ length ps + 1 + length (piece_list piece)
       inserted_length =

@@ -4,7 +4,7 @@ ghost use Rattle.std.specs.BTreeMap.Range.{range_contains};
 ghost use Rattle.std.specs.Map.Iter.{TakesLast, deref_pair};
 ghost use Rattle.std.specs.declared.ops.Bound.TheVariants.{Excluded};
 ghost use Rattle.rangemap_core.specs.Clones.{KeysCloneFaithfully, ValuesCloneFaithfully};
-ghost use Rattle.rangemap_core.specs.Ranges.{IsCanonOf, IsCanonical, half_open, override, value_at};
+ghost use Rattle.rangemap_core.specs.Ranges.{IsCanonOf, IsCanonical, IsNewest, half_open, override, value_at};
 ghost use Rattle.rangemap_tree.specs.Sides.{IsLeft, IsRight};
 ghost use Rattle.rangemap_tree.specs.Starts.{AreStarts, before, from, past, up_to};
 ghost use Rattle.std.specs.Option.{unwrap_or};
@@ -47,6 +47,7 @@ pub fn insert<K: Ord + Clone, V: Eq + Clone, A: Allocator + Clone>(
     requires faithful_keys { KeysCloneFaithfully K.is_clone K.cmp }
     requires faithful_values { ValuesCloneFaithfully V.is_clone V.eq }
     ensures ok { OnOk result (IsCanonOf (half_open K.cmp) V.eq (override (half_open K.cmp) (value_at (half_open K.cmp) pairs.old) range value) pairs.new) }
+    ensures newest { OnOk result (IsNewest (half_open K.cmp) range value pairs.new) }
     ensures err { OnErr result (pairs.new ≡ pairs.old) }
     ensures growth { OnOk result (length pairs.new ≤ length pairs.old + 2) }
     ensures growth_where_all_are_equal { OnOk result (((v w : V) → V.eq v w ≡ true) → length pairs.new ≤ length pairs.old + 1) }

@@ -92,6 +92,8 @@ impl<'a, K, V> ExactSizeIterator for Iter<'a, K, V> {
 }
 
 impl<'a, K: Ord + Clone, V> LentPairs for Iter<'a, K, V> {
+    ghost use Rattle.std.specs.Map.Iter.{deref};
+
     type Range = Range<K>;
 
     type Value = V;
@@ -99,14 +101,23 @@ impl<'a, K: Ord + Clone, V> LentPairs for Iter<'a, K, V> {
     type Lent = &'a Range<K>;
 
     ghost left = { λ it. it };
+
+    ghost range = { deref };
 }
 
 impl<'a, K: Ord + Clone, V> PairIter for Iter<'a, K, V> {
+    ghost use Rattle.std.specs.Map.Iter.{deref};
     ghost use Rattle.std.specs.Prelude.{Some as SomeWord};
     ghost use Rattle.rangemap_core.specs.Ends.{by_definition};
     ghost use Rattle.rangemap_core.specs.laws.Hints.{exact_within};
 
     type LentValue = &'a V;
+
+    ghost value = { deref };
+
+    ghost range_leads = { λ lent found leads. leads };
+
+    ghost value_leads = { λ lent found leads. leads };
 
     ghost hinted = { λ count. (count, SomeWord count) };
 

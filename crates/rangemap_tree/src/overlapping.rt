@@ -90,6 +90,8 @@ impl<'a, K, V> DoubleEndedIterator for Overlapping<'a, K, V> {
 }
 
 impl<'a, K: Ord + Clone, V> LentPairs for Overlapping<'a, K, V> {
+    ghost use Rattle.std.specs.Map.Iter.{deref};
+
     type Range = Range<K>;
 
     type Value = V;
@@ -97,14 +99,23 @@ impl<'a, K: Ord + Clone, V> LentPairs for Overlapping<'a, K, V> {
     type Lent = &'a Range<K>;
 
     ghost left = { λ it. it };
+
+    ghost range = { deref };
 }
 
 impl<'a, K: Ord + Clone, V> PairIter for Overlapping<'a, K, V> {
+    ghost use Rattle.std.specs.Map.Iter.{deref};
     ghost use Rattle.std.specs.Prelude.{None as NoneWord};
     ghost use Rattle.rangemap_core.specs.Ends.{by_definition};
     ghost use Rattle.rangemap_core.specs.laws.Hints.{none_within};
 
     type LentValue = &'a V;
+
+    ghost value = { deref };
+
+    ghost range_leads = { λ lent found leads. leads };
+
+    ghost value_leads = { λ lent found leads. leads };
 
     ghost hinted = { λ _. (0, NoneWord) };
 

@@ -10,7 +10,7 @@ use crate::remove::remove;
 use rangemap_core::container::append_gaps;
 use rangemap_core::half_open::HalfOpen;
 use rangemap_core::reader::{Reader, ReaderOfBoth};
-use rangemap_core::store::{HandsOver, Lends, Store};
+use rangemap_core::store::{HandsOver, Lends, Store, StoreMut};
 use std::alloc::{AllocError, Allocator};
 use std::iter::{DoubleEndedIterator, Iterator};
 use std::marker::Model;
@@ -66,26 +66,8 @@ impl<K: Ord + Clone, V: Eq + Clone, A: Allocator + Clone> Store for Tree<K, V, A
         let _pairs = &self.pairs;
     }
 
-    fn empty(alloc: A) -> Self {
-        Tree {
-            pairs: ByStart::new(alloc),
-        }
-    }
-
     fn allocator(&self) -> &A {
         self.pairs.allocator()
-    }
-
-    fn insert(&mut self, range: Range<K>, value: V) -> Result<(), AllocError> {
-        insert(&mut self.pairs, range, value)
-    }
-
-    fn remove(&mut self, range: Range<K>) -> Result<(), AllocError> {
-        remove(&mut self.pairs, range)
-    }
-
-    fn clear(&mut self) {
-        self.pairs.clear();
     }
 
     fn len(&self) -> usize {
@@ -102,11 +84,6 @@ impl<K: Ord + Clone, V: Eq + Clone, A: Allocator + Clone> Store for Tree<K, V, A
 
     fn last(&self) -> Option<(&Range<K>, &V)> {
         self.pairs.iter().next_back()
-    }
-
-    fn copy(&self, alloc: A) -> Result<Self, AllocError> {
-        let pairs = self.pairs.clone(alloc)?;
-        Ok(Tree { pairs })
     }
 
     fn read<U: Reader<Range<K>, V>>(&self, state: &mut U::State) -> U::Answer {
@@ -136,6 +113,31 @@ impl<K: Ord + Clone, V: Eq + Clone, A: Allocator + Clone> Store for Tree<K, V, A
     ) -> Result<(), AllocError> {
         let pairs = overlapping_pairs(&self.pairs, outer_range);
         append_gaps::<HalfOpen, Range<K>, Overlapping<'_, K, V>, B>(pairs, outer_range, out)
+    }
+}
+
+impl<K: Ord + Clone, V: Eq + Clone, A: Allocator + Clone> StoreMut for Tree<K, V, A> {
+    fn empty(alloc: A) -> Self {
+        Tree {
+            pairs: ByStart::new(alloc),
+        }
+    }
+
+    fn insert(&mut self, range: Range<K>, value: V) -> Result<(), AllocError> {
+        insert(&mut self.pairs, range, value)
+    }
+
+    fn remove(&mut self, range: Range<K>) -> Result<(), AllocError> {
+        remove(&mut self.pairs, range)
+    }
+
+    fn clear(&mut self) {
+        self.pairs.clear();
+    }
+
+    fn copy(&self, alloc: A) -> Result<Self, AllocError> {
+        let pairs = self.pairs.clone(alloc)?;
+        Ok(Tree { pairs })
     }
 }
 

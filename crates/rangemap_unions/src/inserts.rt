@@ -4,7 +4,7 @@ use crate::ranges::Ranges;
 use crate::union::Union;
 use rangemap_core::pair_iter::PairIter;
 use rangemap_core::reader::ReaderOfBoth;
-use rangemap_core::store::Store;
+use rangemap_core::store::StoreMut;
 use std::alloc::AllocError;
 use std::marker::PhantomData;
 
@@ -13,7 +13,7 @@ use std::marker::PhantomData;
 /// It answers `Err` where a clone or an insert was refused. The items before stay.
 pub struct Uniting<S>(PhantomData<S>);
 
-impl<S: Store<Value = ()>> ReaderOfBoth<S::Range, ()> for Uniting<S> {
+impl<S: StoreMut<Value = ()>> ReaderOfBoth<S::Range, ()> for Uniting<S> {
     ghost use Rattle.std.specs.Prelude.{◌≡◌, [], OnOk};
     ghost use Rattle.rangemap_core.specs.Clones.{KeysCloneFaithfully};
     ghost use Rattle.rangemap_core.specs.Sets.{AreEither, IsCanonicalSet, ranges};
@@ -44,7 +44,7 @@ impl<S: Store<Value = ()>> ReaderOfBoth<S::Range, ()> for Uniting<S> {
 /// It answers as `Uniting` does.
 pub struct Intersecting<S>(PhantomData<S>);
 
-impl<S: Store<Value = ()>> ReaderOfBoth<S::Range, ()> for Intersecting<S> {
+impl<S: StoreMut<Value = ()>> ReaderOfBoth<S::Range, ()> for Intersecting<S> {
     ghost use Rattle.std.specs.Prelude.{◌≡◌, [], OnOk};
     ghost use Rattle.rangemap_core.specs.Clones.{KeysCloneFaithfully};
     ghost use Rattle.rangemap_core.specs.Sets.{AreCommon, IsCanonicalSet, ranges};

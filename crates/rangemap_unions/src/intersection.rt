@@ -13,8 +13,7 @@ use crate::item::{between, compare_ends, compare_starts, overlap};
 use crate::ranges::Ranges;
 use crate::side::take;
 use rangemap_core::key_range::KeyRange;
-use rangemap_core::pair_iter::{LentPairs, PairIter};
-use rangemap_core::reference::Reference;
+use rangemap_core::pair_iter::{LentPairs, PairIter, range_of};
 use std::alloc::AllocError;
 use std::iter::Iterator;
 use std::marker::Model;
@@ -150,7 +149,7 @@ impl<I: PairIter> Sides<I> {
         ensures refused { OnErr result (intersection_items I.Range.places (ranges (I.left self.old.left)) (ranges (I.left self.old.right)) ≢ []) }
     {
         'both: while let (Some(p), Some(q)) = (self.left.peek(), self.right.peek()) {
-            let (left, right) = (p.get(), q.get());
+            let (left, right) = (range_of::<I>(&p), range_of::<I>(&q));
             let ends_first = compare_ends(left, right).is_lt();
             let part = common(left, right, ends_first)?;
             if ends_first {

@@ -49,7 +49,7 @@ impl<I: LentPairs> Ranges<I> {
 impl<I: PairIter> Iterator for Ranges<I> {
     type Item = I::Lent;
 
-    ghost next_gives = { TakesFirst I.Lent.target };
+    ghost next_gives = { TakesFirst I.range };
 
     ghost remaining = { λ s. at_most (length s) };
 
@@ -70,7 +70,7 @@ impl<I: PairIter> Iterator for Ranges<I> {
 }
 
 impl<I: PairIter> DoubleEndedIterator for Ranges<I> {
-    ghost next_back_gives = { TakesLast I.Lent.target };
+    ghost next_back_gives = { TakesLast I.range };
 
     fn next_back(&mut self) -> Option<I::Lent> {
         match self.pairs.next_back() {

@@ -14,8 +14,7 @@ use crate::item::{between, compare_ends, compare_starts};
 use crate::ranges::Ranges;
 use crate::side;
 use rangemap_core::key_range::KeyRange;
-use rangemap_core::pair_iter::{LentPairs, PairIter};
-use rangemap_core::reference::Reference;
+use rangemap_core::pair_iter::{LentPairs, PairIter, range_of};
 use std::alloc::AllocError;
 use std::iter::Iterator;
 use std::marker::Model;
@@ -42,9 +41,9 @@ impl<I: LentPairs> Model for Union<I> {
 
     ghost Value = { List I.Range };
 
-    ghost view = { λ s. if s.is_done then [] else items_behind I.Range.places (option_map (λ first. (I.Lent.target first, I.Lent.target (unwrap_or s.sides.last first))) s.sides.first) (merged I.Range.places (ranges (I.left s.sides.left)) (ranges (I.left s.sides.right))) };
+    ghost view = { λ s. if s.is_done then [] else items_behind I.Range.places (option_map (λ first. (I.range first, I.range (unwrap_or s.sides.last first))) s.sides.first) (merged I.Range.places (ranges (I.left s.sides.left)) (ranges (I.left s.sides.right))) };
 
-    ghost invariant = { λ s. AreNonEmptyRanges I.Range.read (items_behind I.Range.places (option_map (λ first. (I.Lent.target first, I.Lent.target (unwrap_or s.sides.last first))) s.sides.first) (merged I.Range.places (ranges (I.left s.sides.left)) (ranges (I.left s.sides.right)))) };
+    ghost invariant = { λ s. AreNonEmptyRanges I.Range.read (items_behind I.Range.places (option_map (λ first. (I.range first, I.range (unwrap_or s.sides.last first))) s.sides.first) (merged I.Range.places (ranges (I.left s.sides.left)) (ranges (I.left s.sides.right)))) };
 }
 
 impl<I: PairIter> Union<I> {
@@ -125,7 +124,7 @@ fn is_left_first<I: PairIter>(left: &mut I, right: &mut I) -> bool
     ensures same_right { I.left right.new ≡ I.left right.old }
 {
     match (left.peek(), right.peek()) {
-        (Some(p), Some(q)) => compare_starts(p.get(), q.get()).is_lt(),
+        (Some(p), Some(q)) => compare_starts(range_of::<I>(&p), range_of::<I>(&q)).is_lt(),
         (Some(_), None) => true,
         (None, _) => false,
     }
@@ -133,7 +132,7 @@ fn is_left_first<I: PairIter>(left: &mut I, right: &mut I) -> bool
 
 // Takes the first of both.
 fn take_first<I: PairIter>(left: &mut I, right: &mut I) -> Option<I::Lent>
-    ensures { TakesFirst I.Lent.target (merged I.Range.places (ranges (I.left left.old)) (ranges (I.left right.old))) result (merged I.Range.places (ranges (I.left left.new)) (ranges (I.left right.new))) }
+    ensures { TakesFirst I.range (merged I.Range.places (ranges (I.left left.old)) (ranges (I.left right.old))) result (merged I.Range.places (ranges (I.left left.new)) (ranges (I.left right.new))) }
 {
     if is_left_first(left, right) {
         side::take(left)
@@ -146,7 +145,7 @@ fn take_first<I: PairIter>(left: &mut I, right: &mut I) -> Option<I::Lent>
 fn take_reached<I: PairIter>(last: &I::Range, left: &mut I, right: &mut I) -> Option<I::Lent>
     ensures { MatchOption result
         ((I.left left.new ≡ I.left left.old) × (I.left right.new ≡ I.left right.old) × IsUnreached I.Range.places last.now (merged I.Range.places (ranges (I.left left.old)) (ranges (I.left right.old))))
-        (λ first. (reaches I.Range.places last.now (I.Lent.target first) ≡ true) × (merged I.Range.places (ranges (I.left left.old)) (ranges (I.left right.old)) ≡ I.Lent.target first ∷ merged I.Range.places (ranges (I.left left.new)) (ranges (I.left right.new)))) }
+        (λ first. (reaches I.Range.places last.now (I.range first) ≡ true) × (merged I.Range.places (ranges (I.left left.old)) (ranges (I.left right.old)) ≡ I.range first ∷ merged I.Range.places (ranges (I.left left.new)) (ranges (I.left right.new)))) }
 {
     if is_left_first(left, right) {
         side::take_reached(last, left)
@@ -157,24 +156,24 @@ fn take_reached<I: PairIter>(last: &I::Range, left: &mut I, right: &mut I) -> Op
 
 // The last of the ranges that are joined.
 fn last_of<'b, I: PairIter>(first: &'b I::Lent, last: &'b Option<I::Lent>) -> &'b I::Range
-    ensures { result.now ≡ I.Lent.target (unwrap_or last.now first.now) }
+    ensures { result.now ≡ I.range (unwrap_or last.now first.now) }
 {
     match last {
-        Some(last) => last.get(),
-        None => first.get(),
+        Some(last) => range_of::<I>(last),
+        None => range_of::<I>(first),
     }
 }
 
 // Goes on as far as the next range overlaps what is joined, which goes from the first range up to
 // the last so far.
 fn join<I: PairIter>(first: &I::Lent, last: &mut Option<I::Lent>, left: &mut I, right: &mut I)
-    ensures same { hulls_from I.Range.places (I.Lent.target first.now) (I.Lent.target (unwrap_or last.old first.now)) (merged I.Range.places (ranges (I.left left.old)) (ranges (I.left right.old)))
-        ≡ hulls_from I.Range.places (I.Lent.target first.now) (I.Lent.target (unwrap_or last.new first.now)) (merged I.Range.places (ranges (I.left left.new)) (ranges (I.left right.new))) }
-    ensures ended { hulls_from I.Range.places (I.Lent.target first.now) (I.Lent.target (unwrap_or last.new first.now)) (merged I.Range.places (ranges (I.left left.new)) (ranges (I.left right.new)))
-        ≡ I.Range.places.between (I.Lent.target first.now) (I.Lent.target (unwrap_or last.new first.now)) ∷ hulls I.Range.places (merged I.Range.places (ranges (I.left left.new)) (ranges (I.left right.new))) }
+    ensures same { hulls_from I.Range.places (I.range first.now) (I.range (unwrap_or last.old first.now)) (merged I.Range.places (ranges (I.left left.old)) (ranges (I.left right.old)))
+        ≡ hulls_from I.Range.places (I.range first.now) (I.range (unwrap_or last.new first.now)) (merged I.Range.places (ranges (I.left left.new)) (ranges (I.left right.new))) }
+    ensures ended { hulls_from I.Range.places (I.range first.now) (I.range (unwrap_or last.new first.now)) (merged I.Range.places (ranges (I.left left.new)) (ranges (I.left right.new)))
+        ≡ I.Range.places.between (I.range first.now) (I.range (unwrap_or last.new first.now)) ∷ hulls I.Range.places (merged I.Range.places (ranges (I.left left.new)) (ranges (I.left right.new))) }
 {
     'joined: while let Some(next) = take_reached(last_of::<I>(first, last), left, right) {
-        if compare_ends(last_of::<I>(first, last), next.get()).is_lt() {
+        if compare_ends(last_of::<I>(first, last), range_of::<I>(&next)).is_lt() {
             *last = Some(next);
         }
     }
@@ -196,9 +195,9 @@ impl<I: PairIter> Sides<I> {
     fn begin(&mut self) -> Option<(I::Lent, Option<I::Lent>)>
         ensures none_begun { self.new.first ≡ NoneWord }
         ensures begun { MatchOption result
-            ((items_behind I.Range.places (option_map (λ first. (I.Lent.target first, I.Lent.target (unwrap_or self.old.last first))) self.old.first) (merged I.Range.places (ranges (I.left self.old.left)) (ranges (I.left self.old.right))) ≡ []) × (merged I.Range.places (ranges (I.left self.new.left)) (ranges (I.left self.new.right)) ≡ []))
-            (λ begun. items_behind I.Range.places (option_map (λ first. (I.Lent.target first, I.Lent.target (unwrap_or self.old.last first))) self.old.first) (merged I.Range.places (ranges (I.left self.old.left)) (ranges (I.left self.old.right)))
-            ≡ hulls_from I.Range.places (I.Lent.target begun.0) (I.Lent.target (unwrap_or begun.1 begun.0)) (merged I.Range.places (ranges (I.left self.new.left)) (ranges (I.left self.new.right)))) }
+            ((items_behind I.Range.places (option_map (λ first. (I.range first, I.range (unwrap_or self.old.last first))) self.old.first) (merged I.Range.places (ranges (I.left self.old.left)) (ranges (I.left self.old.right))) ≡ []) × (merged I.Range.places (ranges (I.left self.new.left)) (ranges (I.left self.new.right)) ≡ []))
+            (λ begun. items_behind I.Range.places (option_map (λ first. (I.range first, I.range (unwrap_or self.old.last first))) self.old.first) (merged I.Range.places (ranges (I.left self.old.left)) (ranges (I.left self.old.right)))
+            ≡ hulls_from I.Range.places (I.range begun.0) (I.range (unwrap_or begun.1 begun.0)) (merged I.Range.places (ranges (I.left self.new.left)) (ranges (I.left self.new.right)))) }
     {
         if let Some(first) = self.first.take() {
             return Some((first, self.last.take()));
@@ -209,17 +208,17 @@ impl<I: PairIter> Sides<I> {
 
     // Takes the next item, made of clones. `Err` says that a clone was refused: no item is lost then.
     fn try_next(&mut self) -> Result<Option<I::Range>, AllocError>
-        requires non_empty { AreNonEmptyRanges I.Range.read (items_behind I.Range.places (option_map (λ first. (I.Lent.target first, I.Lent.target (unwrap_or self.now.last first))) self.now.first) (merged I.Range.places (ranges (I.left self.now.left)) (ranges (I.left self.now.right)))) }
+        requires non_empty { AreNonEmptyRanges I.Range.read (items_behind I.Range.places (option_map (λ first. (I.range first, I.range (unwrap_or self.now.last first))) self.now.first) (merged I.Range.places (ranges (I.left self.now.left)) (ranges (I.left self.now.right)))) }
         requires faithful_keys { KeysCloneFaithfully I.Range.Key.is_clone I.Range.Key.cmp }
-        ensures ok { IfOk result (λ item. TakesRange I.Range.read (items_behind I.Range.places (option_map (λ first. (I.Lent.target first, I.Lent.target (unwrap_or self.old.last first))) self.old.first) (merged I.Range.places (ranges (I.left self.old.left)) (ranges (I.left self.old.right)))) item (items_behind I.Range.places (option_map (λ first. (I.Lent.target first, I.Lent.target (unwrap_or self.new.last first))) self.new.first) (merged I.Range.places (ranges (I.left self.new.left)) (ranges (I.left self.new.right))))) }
-        ensures err { OnErr result (items_behind I.Range.places (option_map (λ first. (I.Lent.target first, I.Lent.target (unwrap_or self.new.last first))) self.new.first) (merged I.Range.places (ranges (I.left self.new.left)) (ranges (I.left self.new.right))) ≡ items_behind I.Range.places (option_map (λ first. (I.Lent.target first, I.Lent.target (unwrap_or self.old.last first))) self.old.first) (merged I.Range.places (ranges (I.left self.old.left)) (ranges (I.left self.old.right)))) }
-        ensures refused { OnErr result (items_behind I.Range.places (option_map (λ first. (I.Lent.target first, I.Lent.target (unwrap_or self.old.last first))) self.old.first) (merged I.Range.places (ranges (I.left self.old.left)) (ranges (I.left self.old.right))) ≢ []) }
+        ensures ok { IfOk result (λ item. TakesRange I.Range.read (items_behind I.Range.places (option_map (λ first. (I.range first, I.range (unwrap_or self.old.last first))) self.old.first) (merged I.Range.places (ranges (I.left self.old.left)) (ranges (I.left self.old.right)))) item (items_behind I.Range.places (option_map (λ first. (I.range first, I.range (unwrap_or self.new.last first))) self.new.first) (merged I.Range.places (ranges (I.left self.new.left)) (ranges (I.left self.new.right))))) }
+        ensures err { OnErr result (items_behind I.Range.places (option_map (λ first. (I.range first, I.range (unwrap_or self.new.last first))) self.new.first) (merged I.Range.places (ranges (I.left self.new.left)) (ranges (I.left self.new.right))) ≡ items_behind I.Range.places (option_map (λ first. (I.range first, I.range (unwrap_or self.old.last first))) self.old.first) (merged I.Range.places (ranges (I.left self.old.left)) (ranges (I.left self.old.right)))) }
+        ensures refused { OnErr result (items_behind I.Range.places (option_map (λ first. (I.range first, I.range (unwrap_or self.old.last first))) self.old.first) (merged I.Range.places (ranges (I.left self.old.left)) (ranges (I.left self.old.right))) ≢ []) }
     {
         let Some((first, mut last)) = self.begin() else {
             return Ok(None);
         };
         join(&first, &mut last, &mut self.left, &mut self.right);
-        match between(first.get(), last_of::<I>(&first, &last)) {
+        match between(range_of::<I>(&first), last_of::<I>(&first, &last)) {
             Ok(item) => Ok(item),
             Err(error) => {
                 self.first = Some(first);

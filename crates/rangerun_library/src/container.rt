@@ -8,7 +8,7 @@ use rangemap::range_set::Set;
 use rangemap::{RangeInclusiveMap, RangeInclusiveSet, RangeMap, RangeSet, WriteError};
 use rangemap_core::key_range::KeyRange;
 use rangemap_core::kind::Kind;
-use rangemap_core::store::Store;
+use rangemap_core::store::StoreMut;
 use serde_json::Value;
 use std::alloc::{AllocError, Allocator, Global};
 use std::fmt::Debug;
@@ -38,7 +38,7 @@ pub type ClosedSet<A> = RangeInclusiveSet<u32, u32, A>;
 
 impl<
     A: Allocator + Copy,
-    S: Store<Range: NumberRange, Value = String<A>, Alloc = A> + Drop,
+    S: StoreMut<Range: NumberRange, Value = String<A>, Alloc = A> + Drop,
 > Container for Map<S>
 where
     S::Kind: Kind<S::Range, Steps = <S::Range as KeyRange>::Key>,
@@ -52,7 +52,7 @@ where
     }
 }
 
-impl<S: Store<Range: NumberRange, Value = ()> + Drop> Container for Set<S>
+impl<S: StoreMut<Range: NumberRange, Value = ()> + Drop> Container for Set<S>
 where
     S::Alloc: Clone,
     S::Kind: Kind<S::Range, Steps = <S::Range as KeyRange>::Key>,

@@ -17,7 +17,7 @@ use rangemap::map::Map;
 use rangemap::range_set::Set;
 use rangemap_core::key_range::KeyRange;
 use rangemap_core::kind::Kind;
-use rangemap_core::store::Store;
+use rangemap_core::store::StoreMut;
 use std::alloc::AllocError;
 
 /// How a run ended.
@@ -53,7 +53,7 @@ impl Report {
 /// Makes so many calls on a map over a store, as `soak` does.
 pub fn soak_map<S>(heap: S::Alloc, model: Model<'_>, calls: u64) -> Report
 where
-    S: Store<Alloc: Copy> + Drop,
+    S: StoreMut<Alloc: Copy> + Drop,
     S::Range: PointRange<S::Alloc>,
     S::Value: Mark<S::Alloc>,
     S::Kind: Kind<S::Range, Steps = <S::Range as KeyRange>::Key>,
@@ -65,7 +65,7 @@ where
 /// Makes so many calls on a set over a store, as `soak` does.
 pub fn soak_set<S>(heap: S::Alloc, model: Model<'_>, calls: u64) -> Report
 where
-    S: Store<Value = (), Alloc: Copy> + Drop,
+    S: StoreMut<Value = (), Alloc: Copy> + Drop,
     S::Range: PointRange<S::Alloc>,
     S::Kind: Kind<S::Range, Steps = <S::Range as KeyRange>::Key>,
     Set<S>: LendsGaps<S::Range>,

@@ -5,7 +5,8 @@ use rangemap::range_set::Set;
 use rangemap_chunked::Chunks;
 use rangemap_core::key_range::KeyRange;
 use rangemap_core::kind::Kind;
-use rangemap_core::store::{Lends, Store};
+use rangemap_core::pair_iter::PairIter;
+use rangemap_core::store::{Lends, StoreMut};
 use rangemap_sorted::SortedVec;
 use rangemap_tree::Tree;
 use std::marker::PhantomData;
@@ -29,7 +30,8 @@ impl<'a, Q: Kind<R, Steps = R::Key>, R: FromEnds<Key: Word<&'a Heap>>> Tried
     fn is_accepted(heap: &Heap, alloc: &'a Heap, row: &Row<'_>, left: u64) -> Answer {
         match try_or_make::<Set<SortedVec<Q, R, (), &'a Heap>>>(heap, alloc, row, left)? {
             Step::Tried(is_accepted) => Ok(is_accepted),
-            Step::Lends(one, other) => try_lent(heap, &one, &other, row, left),
+            Step::Gaps(set, other) => try_gaps(heap, &set, &other, row.outcome, left),
+            Step::Joins(one, other) => try_joined(heap, &one, &other, row, left),
         }
     }
 }
@@ -45,7 +47,8 @@ impl<'a, Q: Kind<R, Steps = R::Key>, R: FromEnds<Key: Word<&'a Heap>>, const N: 
     fn is_accepted(heap: &Heap, alloc: &'a Heap, row: &Row<'_>, left: u64) -> Answer {
         match try_or_make::<Set<Chunks<Q, R, (), &'a Heap, N>>>(heap, alloc, row, left)? {
             Step::Tried(is_accepted) => Ok(is_accepted),
-            Step::Lends(one, other) => try_lent(heap, &one, &other, row, left),
+            Step::Gaps(set, other) => try_gaps(heap, &set, &other, row.outcome, left),
+            Step::Joins(one, other) => try_joined(heap, &one, &other, row, left),
         }
     }
 }
@@ -60,21 +63,23 @@ impl<'a, T: Ord + Clone + Word<&'a Heap>> Tried for Sets<Tree<T, (), &'a Heap>> 
     fn is_accepted(heap: &Heap, alloc: &'a Heap, row: &Row<'_>, left: u64) -> Answer {
         match try_or_make::<Set<Tree<T, (), &'a Heap>>>(heap, alloc, row, left)? {
             Step::Tried(is_accepted) => Ok(is_accepted),
-            Step::Lends(one, other) => try_lent(heap, &one, &other, row, left),
+            Step::Gaps(set, other) => try_gaps(heap, &set, &other, row.outcome, left),
+            Step::Joins(one, other) => try_joined(heap, &one, &other, row, left),
         }
     }
 }
 
-/// How far a call is tried before sets are lent.
+/// How far a call is tried before its sets are lent.
 enum Step<S> {
     /// The call was tried, and was accepted or not.
     Tried(bool),
-    /// It is to be tried on these two.
-    Lends(S, S),
+    /// The gaps of the first are to be asked for, in the one range of the second.
+    Gaps(S, S),
+    /// These two are to be put together.
+    Joins(S, S),
 }
 
-/// Tries the call of a row, or makes the two sets that it is tried on. Gaps are asked for in the one
-/// range of the second set.
+/// Tries the call of a row, or makes the two sets that it is tried on.
 fn try_or_make<S: InRows<Value = ()> + OwnCalls>(
     heap: &Heap,
     alloc: S::Alloc,
@@ -84,9 +89,10 @@ fn try_or_make<S: InRows<Value = ()> + OwnCalls>(
     requires { KeysCloneFaithfully S.Range.Key.is_clone S.Range.Key.cmp }
 {
     match first_word(row.call) {
-        ("gaps" | "union" | "intersection" | "or" | "and", other) => {
+        ("gaps", other) => Ok(Step::Gaps(made_of(alloc, row.given)?, made_of(alloc, other)?)),
+        ("union" | "intersection" | "or" | "and", other) => {
             let one = made_of(alloc, row.given)?;
-            Ok(Step::Lends(one, made_of(alloc, other)?))
+            Ok(Step::Joins(one, made_of(alloc, other)?))
         }
         ("extend", _) => Ok(Step::Tried(try_makers::<S>(heap, alloc, row, left)?)),
         ("grow", _) => Ok(Step::Tried(try_growths::<S>(heap, alloc, row.given, left)?)),
@@ -94,8 +100,19 @@ fn try_or_make<S: InRows<Value = ()> + OwnCalls>(
     }
 }
 
-/// Asks a set for its gaps, or puts two together.
-fn try_lent<'a, S>(
+/// Asks a set for its gaps in the one range of another.
+fn try_gaps<'a, S>(heap: &Heap, set: &'a Set<S>, other: &'a Set<S>, list: &str, left: u64) -> Answer
+where
+    S: Lends<'a, Range: 'a + KeyRange<Key: Word<S::Alloc>>, Value = (), Overlapping: PairIter>,
+    requires { KeysCloneFaithfully S.Range.Key.is_clone S.Range.Key.cmp }
+{
+    let outer = other.first().ok_or("gaps are asked for in a range")?;
+    let gaps = (set.gaps(outer), set.gaps(outer));
+    try_both::<S::Range, S::Alloc, _>(heap, gaps, list, left)
+}
+
+/// Puts two sets together.
+fn try_joined<'a, S>(
     heap: &Heap,
     one: &'a Set<S>,
     other: &'a Set<S>,
@@ -103,17 +120,13 @@ fn try_lent<'a, S>(
     left: u64,
 ) -> Answer
 where
-    S: Lends<'a, Range: 'a + FromEnds<Key: Word<S::Alloc>>> + Store<Value = (), Alloc: Copy> + Drop,
+    S: Lends<'a, Value = (), Iter: PairIter> + StoreMut<Alloc: Copy> + Drop,
+    S::Range: FromEnds<Key: Word<S::Alloc>> + 'a,
     S::Kind: Kind<S::Range, Steps = <S::Range as KeyRange>::Key>,
     Set<S>: InRows<Range = S::Range, Value = (), Alloc = S::Alloc, Kind = S::Kind>,
     requires { KeysCloneFaithfully S.Range.Key.is_clone S.Range.Key.cmp }
 {
     match first_word(row.call).0 {
-        "gaps" => {
-            let outer = other.first().ok_or("gaps are asked for in a range")?;
-            let gaps = (one.gaps(outer), one.gaps(outer));
-            try_both::<S::Range, S::Alloc, _>(heap, gaps, row.outcome, left)
-        }
         "union" => {
             let items = (one.union(other), one.union(other));
             try_both::<S::Range, S::Alloc, _>(heap, items, row.outcome, left)

@@ -5,7 +5,7 @@ use crate::in_rows::InRows;
 use rangemap::map::Map;
 use rangemap::range_set::Set;
 use rangemap_core::key_range::KeyRange;
-use rangemap_core::store::Store;
+use rangemap_core::store::StoreMut;
 use rangemap_replay::calls::Change;
 use std::alloc::Global;
 use std::test::Fail;
@@ -54,7 +54,10 @@ pub fn insert_all<M: InRows>(map: &mut M, alloc: M::Alloc, pairs: &str) -> Resul
 
 /// Makes a map over a store of the pairs of a list, by inserts. A proof tells less of it than of
 /// `made_of`.
-pub fn map_of<S: Store<Alloc = Global> + Drop>(alloc: Global, pairs: &str) -> Result<Map<S>, Fail>
+pub fn map_of<S: StoreMut<Alloc = Global> + Drop>(
+    alloc: Global,
+    pairs: &str,
+) -> Result<Map<S>, Fail>
 where
     <S::Range as KeyRange>::Key: Word<Global>,
     S::Value: Word<Global>,
@@ -72,7 +75,7 @@ where
 }
 
 /// Makes a set over a store of the ranges of a list, by inserts.
-pub fn set_of<S: Store<Value = (), Alloc = Global> + Drop>(
+pub fn set_of<S: StoreMut<Value = (), Alloc = Global> + Drop>(
     alloc: Global,
     ranges: &str,
 ) -> Result<Set<S>, Fail>

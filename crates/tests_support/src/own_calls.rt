@@ -10,7 +10,7 @@ use rangemap::map::Map;
 use rangemap::range_set::Set;
 use rangemap_core::key_range::KeyRange;
 use rangemap_core::kind::Kind;
-use rangemap_core::store::Store;
+use rangemap_core::store::StoreMut;
 use std::alloc::AllocError;
 use std::iter::IntoIterator;
 
@@ -76,7 +76,7 @@ pub fn made_from<M: OwnCalls>(
     M::from_iter(alloc, items)
 }
 
-impl<S: Store + Drop> OwnCalls for Map<S>
+impl<S: StoreMut + Drop> OwnCalls for Map<S>
 where
     S::Alloc: Clone,
     S::Kind: Kind<S::Range, Steps = <S::Range as KeyRange>::Key>,
@@ -108,7 +108,7 @@ where
     }
 }
 
-impl<S: Store<Value = ()> + Drop> OwnCalls for Set<S>
+impl<S: StoreMut<Value = ()> + Drop> OwnCalls for Set<S>
 where
     S::Alloc: Clone,
     S::Kind: Kind<S::Range, Steps = <S::Range as KeyRange>::Key>,

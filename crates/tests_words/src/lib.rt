@@ -31,7 +31,7 @@ pub use pairs::{pair_of, pairs_of, ranges_of};
 pub use ranges::{FromEnds, filled, is_range, query_of, range_of};
 pub use readers::{ReadsGaps, ReadsPairs, tell_gaps, tell_pairs, tell_ranges};
 pub use refusing::Refusing;
-pub use same::{check_same, check_text, check_that};
+pub use same::{check_made, check_same, check_text, check_that};
 pub use signed::SignedSteps;
 pub use tries::Tries;
 pub use words::{Plain, Word};

@@ -4,9 +4,9 @@
 //! container's own iterators so. A reader may be told anything: no contract says what.
 ghost use Rattle.std.specs.Iterator.{IsFinite};
 
-use rangemap_core::reference::Reference;
 use std::alloc::AllocError;
 use std::iter::Iterator;
+use std::ops::Deref;
 
 /// Is told of pairs of a range and a value, one after another.
 pub trait ReadsPairs<R, V> {
@@ -37,15 +37,17 @@ pub fn tell_pairs<'a, R: 'a, V: 'a, I: Iterator<Item = (&'a R, &'a V)> + Drop, U
 
 /// Tells a reader of the ranges of an iterator, each with the value that says nothing.
 #[inline(always)]
-pub fn tell_ranges<R, L: Reference<R>, I: Iterator<Item = L> + Drop, U: ReadsPairs<R, ()>>(
-    ranges: I,
-    reader: &mut U,
-) -> Result<(), AllocError>
+pub fn tell_ranges<
+    R,
+    L: Deref<Target = R> + Drop,
+    I: Iterator<Item = L> + Drop,
+    U: ReadsPairs<R, ()>,
+>(ranges: I, reader: &mut U) -> Result<(), AllocError>
     requires can { I.can_next ranges }
     requires ends { IsFinite (I.remaining ranges) }
 {
     for range in ranges {
-        reader.pair(range.get(), &())?;
+        reader.pair(&*range, &())?;
     }
     Ok(())
 }

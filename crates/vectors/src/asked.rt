@@ -6,7 +6,7 @@ use rangemap::map::Map;
 use rangemap_core::key_range::KeyRange;
 use rangemap_core::kind::Kind;
 use rangemap_core::pair_iter::OwnedPairs;
-use rangemap_core::store::{HandsOver, Store};
+use rangemap_core::store::{HandsOver, StoreMut};
 use std::alloc::Global;
 use std::fmt::Debug;
 use std::test::Fail;
@@ -55,10 +55,9 @@ pub enum Asked<'t> {
 }
 
 /// Compares what maps over a store answer.
-pub fn check_asked<S: HandsOver<Range: FromEnds + Debug, Value: Debug, Alloc = Global> + Drop>(
-    alloc: Global,
-    asked: &Asked<'_>,
-) -> Result<(), Fail>
+pub fn check_asked<
+    S: HandsOver<Range: FromEnds + Debug, Value: Debug, Alloc = Global> + StoreMut + Drop,
+>(alloc: Global, asked: &Asked<'_>) -> Result<(), Fail>
 where
     <S::Range as KeyRange>::Key: Word<Global> + Debug,
     S::Value: Word<Global>,
@@ -68,17 +67,24 @@ where
 {
     match asked {
         Asked::HandedOver(pairs, texts) => check_handed_over::<S>(alloc, *pairs, *texts),
-        Asked::OneHandedOver(pair) => check_one_handed_over::<S>(alloc, *pair),
+        Asked::OneHandedOver(pair) => {
+            let map = map_of::<S>(alloc, *pair)?;
+            let copy = map.clone()?;
+            check_one_handed(map.into_iter(), copy.into_iter())
+        }
         Asked::Stretches {
             pairs,
             queries,
             text,
-        } => check_stretches_of::<S>(alloc, *pairs, *queries, *text),
+        } => {
+            let map = map_of::<S>(alloc, *pairs)?;
+            check_stretches(alloc, &map, *queries, *text)
+        }
     }
 }
 
 /// Compares the three pairs that a map hands over: to a loop, and from both ends.
-fn check_handed_over<S: HandsOver<Range: Debug, Value: Debug, Alloc = Global> + Drop>(
+fn check_handed_over<S: HandsOver<Range: Debug, Value: Debug, Alloc = Global> + StoreMut + Drop>(
     alloc: Global,
     pairs: &str,
     texts: &str,
@@ -94,41 +100,6 @@ where
     check_loop(alloc, map.clone()?, texts)?;
     let copy = map.clone()?;
     check_three_handed(alloc, map.into_iter(), copy.into_iter(), texts)
-}
-
-/// Takes the one pair of a map and of its clone, from either end, and asks on.
-fn check_one_handed_over<S: HandsOver<Alloc = Global> + Drop>(
-    alloc: Global,
-    pair: &str,
-) -> Result<(), Fail>
-where
-    <S::Range as KeyRange>::Key: Word<Global>,
-    S::Value: Word<Global>,
-    S::Kind: Kind<S::Range, Steps = <S::Range as KeyRange>::Key>,
-    requires faithful_keys { KeysCloneFaithfully S.Range.Key.is_clone S.Range.Key.cmp }
-    requires faithful_values { ValuesCloneFaithfully S.Value.is_clone S.Value.eq }
-{
-    let map = map_of::<S>(alloc, pair)?;
-    let copy = map.clone()?;
-    check_one_handed(map.into_iter(), copy.into_iter())
-}
-
-/// Compares the stretches of a map, for each query.
-fn check_stretches_of<S: Store<Range: FromEnds + Debug, Value: Debug, Alloc = Global> + Drop>(
-    alloc: Global,
-    pairs: &str,
-    queries: &str,
-    text: &str,
-) -> Result<(), Fail>
-where
-    <S::Range as KeyRange>::Key: Word<Global> + Debug,
-    S::Value: Word<Global>,
-    S::Kind: Kind<S::Range, Steps = <S::Range as KeyRange>::Key>,
-    requires faithful_keys { KeysCloneFaithfully S.Range.Key.is_clone S.Range.Key.cmp }
-    requires faithful_values { ValuesCloneFaithfully S.Value.is_clone S.Value.eq }
-{
-    let map = map_of::<S>(alloc, pairs)?;
-    check_stretches(alloc, &map, queries, text)
 }
 
 /// Compares the three pairs over which a loop goes.

@@ -2,7 +2,7 @@
 ghost use Rattle.rangemap.specs.Clones.{KeysCloneFaithfully};
 
 use crate::asked::Asked;
-use crate::lent::Lent;
+use crate::lent::{All, In, Lent};
 use crate::maps::{ask_chunks, ask_tree, ask_vector, lent_by_chunks, lent_by_tree, lent_by_vector};
 use rangemap_core::closed::Closed;
 use rangemap_core::half_open::HalfOpen;
@@ -21,7 +21,7 @@ fn check_all<Q: Kind<R, Steps = R::Key>, R: FromEnds<Key: Word<Global> + Debug> 
 ) -> Result<(), Fail>
     requires { KeysCloneFaithfully R.Key.is_clone R.Key.cmp }
 {
-    lent_by_vector::<Q, R>(alloc, inserted, Lent::Three, pairs)?;
+    lent_by_vector::<Q, R>(alloc, inserted, Lent::All(All::Three), pairs)?;
     ask_vector::<Q, R, char>(alloc, &Asked::HandedOver(inserted, pairs))
 }
 
@@ -29,9 +29,9 @@ fn check_all<Q: Kind<R, Steps = R::Key>, R: FromEnds<Key: Word<Global> + Debug> 
 fn overlapping_pairs_come_from_both_ends(rt: HostRuntime) -> Result<(), Fail> {
     let pairs = "0..2 a, 2..4 b, 4..6 a, 8..9 c";
     let found = "(0..2, 'a'); (2..4, 'b'); (4..6, 'a')";
-    let three = Lent::ThreeOverlapping(1..8);
+    let three = Lent::In(1..8, In::Three);
     lent_by_vector::<HalfOpen, Range<u32>>(rt.alloc(), pairs, three, found)?;
-    lent_by_tree(rt.alloc(), pairs, Lent::ThreeOverlapping(1..8), found)
+    lent_by_tree(rt.alloc(), pairs, Lent::In(1..8, In::Three), found)
 }
 
 #[test]
@@ -66,24 +66,24 @@ fn closed_maps_lend_and_hand_their_pairs_over(rt: HostRuntime) -> Result<(), Fai
 fn a_map_in_a_tree_hands_its_pairs_over(rt: HostRuntime) -> Result<(), Fail> {
     let list = "0..2 a, 4..6 b, 8..9 c";
     let pairs = "(0..2, 'a'); (4..6, 'b'); (8..9, 'c')";
-    lent_by_tree(rt.alloc(), list, Lent::Three, pairs)?;
+    lent_by_tree(rt.alloc(), list, Lent::All(All::Three), pairs)?;
     ask_tree::<char>(rt.alloc(), &Asked::HandedOver(list, pairs))
 }
 
 #[test]
 fn iterators_of_maps_stay_ended(rt: HostRuntime) -> Result<(), Fail> {
-    let gap = Lent::OneGap(0..3);
+    let gap = Lent::In(0..3, In::OneGap);
     lent_by_vector::<HalfOpen, Range<u32>>(rt.alloc(), "", gap, "0..3")?;
-    let gap = Lent::OneGap(0..12);
+    let gap = Lent::In(0..12, In::OneGap);
     lent_by_vector::<HalfOpen, Range<u32>>(rt.alloc(), "0..10 a", gap, "10..12")?;
-    lent_by_vector::<HalfOpen, Range<u32>>(rt.alloc(), "0..10 a", Lent::One, "")?;
-    lent_by_vector::<HalfOpen, Range<u32>>(rt.alloc(), "0..10 a", Lent::OneOverlapping(3..6), "")?;
+    lent_by_vector::<HalfOpen, Range<u32>>(rt.alloc(), "0..10 a", Lent::All(All::One), "")?;
+    lent_by_vector::<HalfOpen, Range<u32>>(rt.alloc(), "0..10 a", Lent::In(3..6, In::One), "")?;
     ask_vector::<HalfOpen, Range<u32>, char>(rt.alloc(), &Asked::OneHandedOver("0..10 a"))
 }
 
 #[test]
 fn gaps_of_closed_maps_stay_ended(rt: HostRuntime) -> Result<(), Fail> {
-    let gap = Lent::OneGap(0..=3);
+    let gap = Lent::In(0..=3, In::OneGap);
     lent_by_vector::<Closed<u32>, RangeInclusive<u32>>(rt.alloc(), "", gap, "0..=3")
 }
 
@@ -92,7 +92,7 @@ fn gaps_of_closed_maps_stay_ended(rt: HostRuntime) -> Result<(), Fail> {
 fn maps_in_chunks_lend_and_hand_their_pairs_over(rt: HostRuntime) -> Result<(), Fail> {
     let list = "4..6 a, 6..8 b, 9..10 c";
     let pairs = "(4..6, 'a'); (6..8, 'b'); (9..10, 'c')";
-    lent_by_chunks::<HalfOpen, Range<u32>>(rt.alloc(), list, Lent::Three, pairs)?;
+    lent_by_chunks::<HalfOpen, Range<u32>>(rt.alloc(), list, Lent::All(All::Three), pairs)?;
     ask_chunks::<HalfOpen, Range<u32>, char>(rt.alloc(), &Asked::HandedOver(list, pairs))?;
     for list in [
         "4..6 a, 6..8 b, 9..10 c",
@@ -100,7 +100,7 @@ fn maps_in_chunks_lend_and_hand_their_pairs_over(rt: HostRuntime) -> Result<(), 
         "4..6 a, 6..8 b, 9..10 c, 0..1 d, 2..3 e, 12..13 f",
         "4..6 a, 6..8 b, 9..10 c, 12..13 d, 14..15 e",
     ] {
-        let three = Lent::ThreeOverlapping(5..12);
+        let three = Lent::In(5..12, In::Three);
         lent_by_chunks::<HalfOpen, Range<u32>>(rt.alloc(), list, three, pairs)?;
     }
     Ok(())
@@ -110,7 +110,12 @@ fn maps_in_chunks_lend_and_hand_their_pairs_over(rt: HostRuntime) -> Result<(), 
 fn closed_maps_in_chunks_lend_and_hand_their_pairs_over(rt: HostRuntime) -> Result<(), Fail> {
     let list = "4..=5 a, 6..=7 b, 9..=9 c";
     let pairs = "(4..=5, 'a'); (6..=7, 'b'); (9..=9, 'c')";
-    lent_by_chunks::<Closed<u32>, RangeInclusive<u32>>(rt.alloc(), list, Lent::Three, pairs)?;
+    lent_by_chunks::<Closed<u32>, RangeInclusive<u32>>(
+        rt.alloc(),
+        list,
+        Lent::All(All::Three),
+        pairs,
+    )?;
     ask_chunks::<Closed<u32>, RangeInclusive<u32>, char>(
         rt.alloc(),
         &Asked::HandedOver(list, pairs),
@@ -121,7 +126,7 @@ fn closed_maps_in_chunks_lend_and_hand_their_pairs_over(rt: HostRuntime) -> Resu
         "4..=5 a, 6..=7 b, 9..=9 c, 0..=0 d, 2..=2 e, 12..=12 f",
         "4..=5 a, 6..=7 b, 9..=9 c, 12..=12 d, 14..=14 e",
     ] {
-        let three = Lent::ThreeOverlapping(5..=11);
+        let three = Lent::In(5..=11, In::Three);
         lent_by_chunks::<Closed<u32>, RangeInclusive<u32>>(rt.alloc(), list, three, pairs)?;
     }
     Ok(())
@@ -137,16 +142,16 @@ fn iterators_of_maps_in_chunks_stay_ended(rt: HostRuntime) -> Result<(), Fail> {
         (10, 13, "10..12"),
         (17, 30, "18..30"),
     ] {
-        let one = Lent::OneGap(start..end);
+        let one = Lent::In(start..end, In::OneGap);
         lent_by_chunks::<HalfOpen, Range<u32>>(rt.alloc(), pairs, one, gap)?;
-        let one = Lent::OneOverlapping(start..end);
+        let one = Lent::In(start..end, In::One);
         lent_by_chunks::<HalfOpen, Range<u32>>(rt.alloc(), pairs, one, "")?;
     }
     let pairs = "0..=1 a, 4..=5 b, 8..=9 c, 12..=13 d, 16..=17 e";
     for (start, end, gap) in [(5, 7, "6..=7"), (9, 11, "10..=11")] {
-        let one = Lent::OneGap(start..=end);
+        let one = Lent::In(start..=end, In::OneGap);
         lent_by_chunks::<Closed<u32>, RangeInclusive<u32>>(rt.alloc(), pairs, one, gap)?;
-        let one = Lent::OneOverlapping(start..=end);
+        let one = Lent::In(start..=end, In::One);
         lent_by_chunks::<Closed<u32>, RangeInclusive<u32>>(rt.alloc(), pairs, one, "")?;
     }
     Ok(())

@@ -6,56 +6,72 @@ use rangemap_core::gaps::Gaps;
 use rangemap_core::key_range::KeyRange;
 use rangemap_core::kind::Kind;
 use rangemap_core::pair_iter::PairIter;
-use rangemap_core::store::{Lends, Store};
+use rangemap_core::store::Lends;
 use std::alloc::Global;
 use std::fmt::Debug;
 use std::test::Fail;
 use tests_rows::{check_both_ends, check_three, check_tries};
 use tests_support::three_lists;
 
-/// What a test asks of a map that lends its pairs. The answer is a text, where three have semicolons
-/// between them.
+/// What a test asks of a map that lends its pairs.
 #[derive(Drop)]
 pub enum Lent<R> {
-    /// The pairs, of which there are three.
-    Three,
-    /// The pairs that overlap a query, of which there are three.
-    ThreeOverlapping(R),
-    /// There is one pair, and none behind it at either end. No text tells of it.
-    One,
-    /// The same of the pairs that overlap a query.
-    OneOverlapping(R),
-    /// The one gap in an outer range.
-    OneGap(R),
+    /// What it lends of all pairs.
+    All(All),
+    /// What it lends in a range.
+    In(R, In),
 }
 
-/// Compares what a map lends.
-pub fn check_lent<'a, S: Lends<'a> + Store<Range: Debug, Value: Debug>>(
-    alloc: Global,
-    map: &'a Map<S>,
-    asked: &'a Lent<S::Range>,
-    answer: &str,
-) -> Result<(), Fail>
+/// What a test asks of all pairs. The answer is a text, where three have semicolons between them.
+#[derive(Drop)]
+pub enum All {
+    /// The pairs, of which there are three.
+    Three,
+    /// There is one pair, and none behind it at either end. No text tells of it.
+    One,
+}
+
+/// What a test asks in a range.
+#[derive(Drop)]
+pub enum In {
+    /// The pairs that overlap it, of which there are three.
+    Three,
+    /// One pair overlaps it, and there is none behind it at either end.
+    One,
+    /// The one gap.
+    OneGap,
+}
+
+/// Compares what a map lends of all its pairs.
+pub fn check_all<
+    'a,
+    S: Lends<'a, Range: Debug, Value: Debug, Iter: PairIter<LentValue = &'a S::Value>>,
+>(alloc: Global, map: &'a Map<S>, asked: &All, answer: &str) -> Result<(), Fail>
+where
+    S::Range: 'a,
+    S::Value: 'a,
+{
+    match asked {
+        All::Three => check_three_pairs(alloc, map.iter(), answer, true),
+        All::One => check_one_pair(map.iter(), map.iter()),
+    }
+}
+
+/// Compares what a map lends in a range.
+pub fn check_in_range<
+    'a,
+    S: Lends<'a, Range: Debug, Value: Debug, Overlapping: PairIter<LentValue = &'a S::Value>>,
+>(alloc: Global, map: &'a Map<S>, range: &'a S::Range, asked: &In, answer: &str) -> Result<(), Fail>
 where
     S::Range: 'a,
     S::Value: 'a,
     requires { KeysCloneFaithfully S.Range.Key.is_clone S.Range.Key.cmp }
 {
     match asked {
-        Lent::Three => check_three_pairs(alloc, map.iter(), answer, true),
-        Lent::ThreeOverlapping(query) => {
-            check_three_pairs(alloc, map.overlapping(query), answer, false)
-        }
-        Lent::One => check_one_pair(map.iter(), map.iter()),
-        Lent::OneOverlapping(query) => {
-            check_one_pair(map.overlapping(query), map.overlapping(query))
-        }
-        Lent::OneGap(outer_range) => {
-            let gaps = (
-                map.gaps(outer_range),
-                map.gaps(outer_range),
-                map.gaps(outer_range),
-            );
+        In::Three => check_three_pairs(alloc, map.overlapping(range), answer, false),
+        In::One => check_one_pair(map.overlapping(range), map.overlapping(range)),
+        In::OneGap => {
+            let gaps = (map.gaps(range), map.gaps(range), map.gaps(range));
             check_gap(alloc, gaps, answer)
         }
     }

@@ -4,7 +4,7 @@ use crate::map::collections::{check_array_and_chain, check_equality, check_pairs
 use crate::tree_map::runs::check_run;
 use rangemap::map::Map;
 use rangemap_core::half_open::HalfOpen;
-use rangemap_core::store::Store;
+use rangemap_core::store::StoreMut;
 use std::alloc::Global;
 use std::ops::Range;
 use std::test::Fail;
@@ -24,7 +24,7 @@ pub enum Made {
 /// Compares what is made.
 pub fn check_made<S>(alloc: Global, made: &Made) -> Result<(), Fail>
 where
-    S: Store<Kind = HalfOpen, Range = Range<u32>, Value = char, Alloc = Global> + Drop,
+    S: StoreMut<Kind = HalfOpen, Range = Range<u32>, Value = char, Alloc = Global> + Drop,
 {
     match made {
         Made::Pairs => check_pairs::<S>(alloc),

@@ -8,7 +8,7 @@ use rangemap_core::closed::Closed;
 use rangemap_core::half_open::HalfOpen;
 use rangemap_core::key_range::KeyRange;
 use rangemap_core::kind::Kind;
-use rangemap_core::store::Store;
+use rangemap_core::store::StoreMut;
 use rangemap_sorted::SortedVec;
 use rangemap_sorted::entries::covering;
 use std::alloc::Global;
@@ -17,7 +17,7 @@ use std::test::Fail;
 use tests_support::{check_same, check_that, filled};
 
 /// So many ranges of two keys, each with a key between it and the next. The first goes to `end`.
-fn spread<S: Store<Range: KeyRange<Key = u32>, Value = u8, Alloc = Global> + Drop>(
+fn spread<S: StoreMut<Range: KeyRange<Key = u32>, Value = u8, Alloc = Global> + Drop>(
     alloc: Global,
     count: u16,
     end: u8,

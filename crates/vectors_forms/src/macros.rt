@@ -5,19 +5,9 @@ use rangemap::{
     RangeInclusiveMap, RangeMap, RangeSet, range_inclusive_map, range_inclusive_set, range_map,
     range_set,
 };
-use std::alloc::{AllocError, Global};
-use std::fmt::Debug;
+use std::alloc::AllocError;
 use std::test::Fail;
-use tests_support::check_text;
-
-/// Compares the debug text of a container that was made, unless it was refused memory.
-fn check_made<M: Debug + Drop>(
-    alloc: Global,
-    made: Result<M, AllocError>,
-    text: &str,
-) -> Result<(), Fail> {
-    check_text(alloc, &made?, text)
-}
+use tests_support::{check_made, check_text};
 
 #[test]
 fn a_list_makes_a_map(rt: HostRuntime) -> Result<(), Fail> {

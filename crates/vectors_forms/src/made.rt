@@ -3,7 +3,7 @@
 use rangemap::map::Map;
 use rangemap::range_set::Set;
 use rangemap_core::key_range::KeyRange;
-use rangemap_core::store::Store;
+use rangemap_core::store::StoreMut;
 use std::alloc::Global;
 use std::test::Fail;
 use tests_support::{Word, map_of, set_of};
@@ -24,7 +24,7 @@ pub trait Made: Sized {
 
 impl<S> Made for Map<S>
 where
-    S: Store<Range: KeyRange<Key: Word<Global>>, Value: Word<Global>, Alloc = Global> + Drop,
+    S: StoreMut<Range: KeyRange<Key: Word<Global>>, Value: Word<Global>, Alloc = Global> + Drop,
 {
     ghost use Rattle.rangemap.specs.Clones.{KeysCloneFaithfully, ValuesCloneFaithfully};
 
@@ -37,7 +37,7 @@ where
 
 impl<S> Made for Set<S>
 where
-    S: Store<Range: KeyRange<Key: Word<Global>>, Value = (), Alloc = Global> + Drop,
+    S: StoreMut<Range: KeyRange<Key: Word<Global>>, Value = (), Alloc = Global> + Drop,
 {
     ghost use Rattle.rangemap.specs.Clones.{KeysCloneFaithfully};
 

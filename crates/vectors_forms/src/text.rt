@@ -9,7 +9,7 @@ use rangemap_core::closed::Closed;
 use rangemap_core::half_open::HalfOpen;
 use rangemap_core::key_range::KeyRange;
 use rangemap_core::kind::Kind;
-use rangemap_core::store::Store;
+use rangemap_core::store::StoreMut;
 use rangemap_sorted::SortedVec;
 use rangemap_tree::Tree;
 use std::alloc::Global;
@@ -42,7 +42,7 @@ fn check_pairs<S, const N: usize>(
     lines: &str,
 ) -> Result<(), Fail>
 where
-    S: Store<Range: KeyRange<Key: Debug> + Debug, Value: Debug, Alloc = Global> + Drop,
+    S: StoreMut<Range: KeyRange<Key: Debug> + Debug, Value: Debug, Alloc = Global> + Drop,
     S::Kind: Kind<S::Range, Steps = <S::Range as KeyRange>::Key>,
     requires non_empty { AreNonEmpty S.Kind.kind pairs }
     requires faithful_keys { KeysCloneFaithfully S.Range.Key.is_clone S.Range.Key.cmp }

@@ -1,12 +1,12 @@
 //! What sets make and hand over, and what the text of rows asks of them.
-ghost use Rattle.rangemap.specs.Clones.{KeysCloneFaithfully, ValuesCloneFaithfully};
+ghost use Rattle.rangemap.specs.Clones.{KeysCloneFaithfully};
 
 use crate::laws::{Laws, check_laws};
 use rangemap::range_set::Set;
 use rangemap_core::key_range::KeyRange;
 use rangemap_core::kind::Kind;
-use rangemap_core::store::HandsOver;
-use std::alloc::{AllocError, Global};
+use rangemap_core::store::{HandsOver, StoreMut};
+use std::alloc::Global;
 use std::fmt::Debug;
 use std::test::Fail;
 use tests_rows::{check_both_ends, check_counted_back, check_replay, check_rows, check_three};
@@ -36,10 +36,9 @@ pub enum Asked<'t> {
 }
 
 /// Compares what sets over a store answer.
-pub fn check_asked<S: HandsOver<Range: FromEnds + Debug, Value = (), Alloc = Global> + Drop>(
-    alloc: Global,
-    asked: &Asked<'_>,
-) -> Result<(), Fail>
+pub fn check_asked<
+    S: HandsOver<Range: FromEnds + Debug, Value = (), Alloc = Global> + StoreMut + Drop,
+>(alloc: Global, asked: &Asked<'_>) -> Result<(), Fail>
 where
     <S::Range as KeyRange>::Key: Word<Global> + Debug,
     S::Kind: Kind<S::Range, Steps = <S::Range as KeyRange>::Key>,
@@ -65,7 +64,7 @@ where
 }
 
 /// Compares a replay of changes.
-fn check_changes<S: HandsOver<Range: FromEnds, Value = (), Alloc = Global> + Drop>(
+fn check_changes<S: HandsOver<Range: FromEnds, Value = (), Alloc = Global> + StoreMut + Drop>(
     alloc: Global,
     row: &str,
 ) -> Result<(), Fail>
@@ -80,7 +79,7 @@ where
 }
 
 /// Compares the three ranges that a set hands over, and its clone.
-fn check_handed_over<S: HandsOver<Range: Debug, Value = (), Alloc = Global> + Drop>(
+fn check_handed_over<S: HandsOver<Range: Debug, Value = (), Alloc = Global> + StoreMut + Drop>(
     alloc: Global,
     ranges: &str,
     texts: &str,
@@ -98,7 +97,7 @@ where
 }
 
 /// Compares what the operators make of two sets.
-fn check_joined<S: HandsOver<Range: FromEnds, Value = (), Alloc = Global> + Drop>(
+fn check_joined<S: HandsOver<Range: FromEnds, Value = (), Alloc = Global> + StoreMut + Drop>(
     alloc: Global,
     sets: &str,
     either: &str,
@@ -113,14 +112,6 @@ where
     let (left, right) = two_lists(sets)?;
     let left = set_of::<S>(alloc, left)?;
     let right = set_of::<S>(alloc, right)?;
-    check_set(&left | &right, either)?;
-    check_set(&left & &right, common)
-}
-
-/// Compares a set that an operator makes.
-fn check_set<M: InRows>(made: Result<M, AllocError>, list: &str) -> Result<(), Fail>
-    requires faithful_keys { KeysCloneFaithfully M.Range.Key.is_clone M.Range.Key.cmp }
-    requires faithful_values { ValuesCloneFaithfully M.Value.is_clone M.Value.eq }
-{
-    check_row(&made?, list)
+    check_row(&(&left | &right)?, either)?;
+    check_row(&(&left & &right)?, common)
 }

@@ -1,7 +1,7 @@
 //! What sets lend and hand over, taken from both ends and beyond: each iterator ends and stays ended.
 
 use crate::asked::Asked;
-use crate::lent::{Lent, OfBoth};
+use crate::lent::{All, In, Lent, OfBoth};
 use crate::sets::{ask_chunks, ask_tree, ask_vector, lent_by_chunks, lent_by_tree, lent_by_vector};
 use rangemap_core::closed::Closed;
 use rangemap_core::half_open::HalfOpen;
@@ -13,13 +13,13 @@ fn overlapping_ranges_come_from_both_ends(rt: HostRuntime) -> Result<(), Fail> {
     lent_by_vector::<HalfOpen, Range<u32>>(
         rt.alloc(),
         ("0..2, 3..4, 5..6, 8..9", ""),
-        Lent::ThreeOverlapping(1..8),
+        Lent::In(1..8, In::Three),
         "0..2; 3..4; 5..6",
     )?;
     lent_by_vector::<Closed<u32>, RangeInclusive<u32>>(
         rt.alloc(),
         ("0..=1, 3..=3, 5..=5, 8..=9", ""),
-        Lent::ThreeOverlapping(1..=7),
+        Lent::In(1..=7, In::Three),
         "0..=1; 3..=3; 5..=5",
     )
 }
@@ -27,13 +27,13 @@ fn overlapping_ranges_come_from_both_ends(rt: HostRuntime) -> Result<(), Fail> {
 #[test]
 fn sets_lend_and_hand_their_ranges_over(rt: HostRuntime) -> Result<(), Fail> {
     let (list, ranges) = ("0..2, 4..6, 8..9", "0..2; 4..6; 8..9");
-    lent_by_vector::<HalfOpen, Range<u32>>(rt.alloc(), (list, ""), Lent::Three, ranges)?;
+    lent_by_vector::<HalfOpen, Range<u32>>(rt.alloc(), (list, ""), Lent::All(All::Three), ranges)?;
     ask_vector::<HalfOpen, Range<u32>>(rt.alloc(), &Asked::HandedOver(list, ranges))?;
     let (list, ranges) = ("0..=1, 4..=5, 8..=8", "0..=1; 4..=5; 8..=8");
     lent_by_vector::<Closed<u32>, RangeInclusive<u32>>(
         rt.alloc(),
         (list, ""),
-        Lent::Three,
+        Lent::All(All::Three),
         ranges,
     )?;
     ask_vector::<Closed<u32>, RangeInclusive<u32>>(rt.alloc(), &Asked::HandedOver(list, ranges))
@@ -42,21 +42,21 @@ fn sets_lend_and_hand_their_ranges_over(rt: HostRuntime) -> Result<(), Fail> {
 #[test]
 fn a_set_in_a_tree_lends_and_hands_its_ranges_over(rt: HostRuntime) -> Result<(), Fail> {
     let (list, ranges) = ("0..2, 4..6, 8..9", "0..2; 4..6; 8..9");
-    lent_by_tree(rt.alloc(), (list, ""), Lent::Three, ranges)?;
-    lent_by_tree(rt.alloc(), (list, ""), Lent::ThreeOverlapping(1..9), ranges)?;
+    lent_by_tree(rt.alloc(), (list, ""), Lent::All(All::Three), ranges)?;
+    lent_by_tree(rt.alloc(), (list, ""), Lent::In(1..9, In::Three), ranges)?;
     ask_tree(rt.alloc(), &Asked::HandedOver(list, ranges))
 }
 
 #[test]
 fn iterators_of_sets_stay_ended(rt: HostRuntime) -> Result<(), Fail> {
-    lent_by_vector::<HalfOpen, Range<u32>>(rt.alloc(), ("1..3", ""), Lent::OneGap(0..3), "0..1")?;
-    lent_by_vector::<HalfOpen, Range<u32>>(rt.alloc(), ("0..5", ""), Lent::One, "")?;
     lent_by_vector::<HalfOpen, Range<u32>>(
         rt.alloc(),
-        ("0..5", ""),
-        Lent::OneOverlapping(3..6),
-        "",
+        ("1..3", ""),
+        Lent::In(0..3, In::OneGap),
+        "0..1",
     )?;
+    lent_by_vector::<HalfOpen, Range<u32>>(rt.alloc(), ("0..5", ""), Lent::All(All::One), "")?;
+    lent_by_vector::<HalfOpen, Range<u32>>(rt.alloc(), ("0..5", ""), Lent::In(3..6, In::One), "")?;
     ask_vector::<HalfOpen, Range<u32>>(rt.alloc(), &Asked::OneHandedOver("0..5"))
 }
 
@@ -66,7 +66,7 @@ fn gaps_lie_between_the_ranges(rt: HostRuntime) -> Result<(), Fail> {
     lent_by_vector::<Closed<u32>, RangeInclusive<u32>>(
         rt.alloc(),
         ("0..=100, 200..=300, 400..=500", ""),
-        Lent::TwoGaps(0..=500),
+        Lent::In(0..=500, In::TwoGaps),
         text,
     )
 }
@@ -76,13 +76,13 @@ fn items_of_two_sets_stay_ended(rt: HostRuntime) -> Result<(), Fail> {
     lent_by_vector::<HalfOpen, Range<u32>>(
         rt.alloc(),
         ("0..5", "3..10"),
-        Lent::OfBoth(OfBoth::OneItem),
+        Lent::All(All::OfBoth(OfBoth::OneItem)),
         "0..10; 3..5",
     )?;
     lent_by_vector::<Closed<u32>, RangeInclusive<u32>>(
         rt.alloc(),
         ("0..=4", "4..=9"),
-        Lent::OfBoth(OfBoth::OneItem),
+        Lent::All(All::OfBoth(OfBoth::OneItem)),
         "0..=9; 4..=4",
     )
 }
@@ -91,7 +91,7 @@ fn items_of_two_sets_stay_ended(rt: HostRuntime) -> Result<(), Fail> {
 #[test]
 fn sets_in_chunks_lend_and_hand_their_ranges_over(rt: HostRuntime) -> Result<(), Fail> {
     let (list, ranges) = ("4..5, 6..8, 9..10", "4..5; 6..8; 9..10");
-    lent_by_chunks::<HalfOpen, Range<u32>>(rt.alloc(), (list, ""), Lent::Three, ranges)?;
+    lent_by_chunks::<HalfOpen, Range<u32>>(rt.alloc(), (list, ""), Lent::All(All::Three), ranges)?;
     ask_chunks::<HalfOpen, Range<u32>>(rt.alloc(), &Asked::HandedOver(list, ranges))?;
     for list in [
         "4..5, 6..8, 9..10",
@@ -102,7 +102,7 @@ fn sets_in_chunks_lend_and_hand_their_ranges_over(rt: HostRuntime) -> Result<(),
         lent_by_chunks::<HalfOpen, Range<u32>>(
             rt.alloc(),
             (list, ""),
-            Lent::ThreeOverlapping(4..12),
+            Lent::In(4..12, In::Three),
             ranges,
         )?;
     }
@@ -115,7 +115,7 @@ fn closed_sets_in_chunks_lend_and_hand_their_ranges_over(rt: HostRuntime) -> Res
     lent_by_chunks::<Closed<u32>, RangeInclusive<u32>>(
         rt.alloc(),
         (list, ""),
-        Lent::Three,
+        Lent::All(All::Three),
         ranges,
     )?;
     ask_chunks::<Closed<u32>, RangeInclusive<u32>>(rt.alloc(), &Asked::HandedOver(list, ranges))?;
@@ -128,7 +128,7 @@ fn closed_sets_in_chunks_lend_and_hand_their_ranges_over(rt: HostRuntime) -> Res
         lent_by_chunks::<Closed<u32>, RangeInclusive<u32>>(
             rt.alloc(),
             (list, ""),
-            Lent::ThreeOverlapping(4..=11),
+            Lent::In(4..=11, In::Three),
             ranges,
         )?;
     }
@@ -140,15 +140,15 @@ fn closed_sets_in_chunks_lend_and_hand_their_ranges_over(rt: HostRuntime) -> Res
 fn iterators_of_sets_in_chunks_stay_ended(rt: HostRuntime) -> Result<(), Fail> {
     let lists = ("0..2, 4..6, 8..10, 12..14, 16..18", "");
     for (outer_range, gap) in [(5..8, "6..8"), (10..13, "10..12")] {
-        let one = Lent::OneOverlapping(outer_range.clone()?);
+        let one = Lent::In(outer_range.clone()?, In::One);
         lent_by_chunks::<HalfOpen, Range<u32>>(rt.alloc(), lists, one, "")?;
-        let one = Lent::OneGap(outer_range);
+        let one = Lent::In(outer_range, In::OneGap);
         lent_by_chunks::<HalfOpen, Range<u32>>(rt.alloc(), lists, one, gap)?;
     }
     lent_by_chunks::<HalfOpen, Range<u32>>(
         rt.alloc(),
         ("0..5", "3..10"),
-        Lent::OfBoth(OfBoth::OneItem),
+        Lent::All(All::OfBoth(OfBoth::OneItem)),
         "0..10; 3..5",
     )
 }
@@ -156,14 +156,14 @@ fn iterators_of_sets_in_chunks_stay_ended(rt: HostRuntime) -> Result<(), Fail> {
 #[test]
 fn iterators_of_closed_sets_in_chunks_stay_ended(rt: HostRuntime) -> Result<(), Fail> {
     let lists = ("0..=1, 4..=5, 8..=9, 12..=13, 16..=17", "");
-    let one = Lent::OneGap(5..=7);
+    let one = Lent::In(5..=7, In::OneGap);
     lent_by_chunks::<Closed<u32>, RangeInclusive<u32>>(rt.alloc(), lists, one, "6..=7")?;
-    let one = Lent::OneOverlapping(5..=7);
+    let one = Lent::In(5..=7, In::One);
     lent_by_chunks::<Closed<u32>, RangeInclusive<u32>>(rt.alloc(), lists, one, "")?;
     lent_by_chunks::<Closed<u32>, RangeInclusive<u32>>(
         rt.alloc(),
         ("0..=4", "4..=9"),
-        Lent::OfBoth(OfBoth::OneItem),
+        Lent::All(All::OfBoth(OfBoth::OneItem)),
         "0..=9; 4..=4",
     )
 }

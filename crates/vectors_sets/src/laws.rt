@@ -9,12 +9,12 @@ use rangemap_core::closed::Closed;
 use rangemap_core::half_open::HalfOpen;
 use rangemap_core::key_range::KeyRange;
 use rangemap_core::kind::Kind;
-use rangemap_core::store::Store;
-use std::alloc::{AllocError, Global};
+use rangemap_core::store::StoreMut;
+use std::alloc::Global;
 use std::fmt::Debug;
 use std::ops::{Range, RangeInclusive};
 use std::test::Fail;
-use tests_support::{Word, check_text, set_of, three_lists};
+use tests_support::{Word, check_made, set_of, three_lists};
 
 /// Three sets, and the texts of what laws of theirs make. Semicolons stand between three texts.
 #[derive(Drop)]
@@ -37,18 +37,9 @@ struct Three<'a, S> {
     third: &'a S,
 }
 
-/// Compares the text of what a law gives: a set, or two.
-fn check_given<T: Debug + Drop>(
-    alloc: Global,
-    given: Result<T, AllocError>,
-    text: &str,
-) -> Result<(), Fail> {
-    check_text(alloc, &given?, text)
-}
-
 /// Runs the laws of an operator that give two sets, and compares their texts. How it distributes is
 /// run on sets of its own.
-fn check_sides<S: Store<Range: Debug, Value = (), Alloc = Global> + Drop>(
+fn check_sides<S: StoreMut<Range: Debug, Value = (), Alloc = Global> + Drop>(
     alloc: Global,
     operator: &Operator,
     sets: &Three<'_, Set<S>>,
@@ -62,18 +53,18 @@ where
 {
     let (first, second, third) = (sets.first, sets.second, sets.third);
     let (commuted, associated, made) = three_lists(texts)?;
-    check_given(alloc, commutes(operator, first, second), commuted)?;
-    check_given(
+    check_made(alloc, commutes(operator, first, second), commuted)?;
+    check_made(
         alloc,
         associates(operator, first, second, third),
         associated,
     )?;
     let (first, second, third) = (distributed.first, distributed.second, distributed.third);
-    check_given(alloc, distributes(operator, first, second, third), made)
+    check_made(alloc, distributes(operator, first, second, third), made)
 }
 
 /// Runs the laws that give the first set again, for `|` and for `&`, and compares its text.
-fn check_first<S: Store<Range: Debug, Value = (), Alloc = Global> + Drop>(
+fn check_first<S: StoreMut<Range: Debug, Value = (), Alloc = Global> + Drop>(
     alloc: Global,
     sets: &Three<'_, Set<S>>,
     text: &str,
@@ -84,14 +75,14 @@ where
     requires { KeysCloneFaithfully S.Range.Key.is_clone S.Range.Key.cmp }
 {
     let (first, second, third) = (sets.first, sets.second, sets.third);
-    check_given(alloc, is_idempotent(&Operator::Union, first), text)?;
-    check_given(alloc, absorbs(&Operator::Union, first, third), text)?;
-    check_given(alloc, is_idempotent(&Operator::Intersection, first), text)?;
-    check_given(alloc, absorbs(&Operator::Intersection, first, second), text)
+    check_made(alloc, is_idempotent(&Operator::Union, first), text)?;
+    check_made(alloc, absorbs(&Operator::Union, first, third), text)?;
+    check_made(alloc, is_idempotent(&Operator::Intersection, first), text)?;
+    check_made(alloc, absorbs(&Operator::Intersection, first, second), text)
 }
 
 /// Makes three sets, and runs all laws on them.
-pub fn check_laws<S: Store<Range: Debug, Value = (), Alloc = Global> + Drop>(
+pub fn check_laws<S: StoreMut<Range: Debug, Value = (), Alloc = Global> + Drop>(
     alloc: Global,
     laws: &Laws<'_>,
 ) -> Result<(), Fail>

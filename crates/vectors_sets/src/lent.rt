@@ -7,7 +7,7 @@ use rangemap_core::gaps::Gaps;
 use rangemap_core::key_range::KeyRange;
 use rangemap_core::kind::Kind;
 use rangemap_core::pair_iter::PairIter;
-use rangemap_core::store::{Lends, Store};
+use rangemap_core::store::Lends;
 use rangemap_unions::{Intersection, Ranges, Union};
 use std::alloc::{AllocError, Global};
 use std::fmt::{Debug, Write};
@@ -16,24 +16,37 @@ use std::test::Fail;
 use tests_rows::{check_both_ends, check_three, check_tries};
 use tests_support::{check_same, check_text, three_lists, two_lists};
 
-/// What a test asks of a set that lends its ranges, or of two. The answer is a text, where three have
-/// semicolons between them.
+/// What a test asks of a set that lends its ranges, or of two.
 #[derive(Drop)]
 pub enum Lent<R> {
+    /// What it lends of all ranges.
+    All(All),
+    /// What it lends in a range.
+    In(R, In),
+}
+
+/// What a test asks of all ranges. The answer is a text, where three have semicolons between them.
+#[derive(Drop)]
+pub enum All {
     /// The ranges, of which there are three.
     Three,
-    /// The ranges that overlap a query, of which there are three.
-    ThreeOverlapping(R),
     /// There is one range, and none behind it at either end. No text tells of it.
     One,
-    /// The same of the ranges that overlap a query.
-    OneOverlapping(R),
-    /// The one gap in an outer range.
-    OneGap(R),
-    /// What two calls in turn answer of the two gaps in an outer range, behind the hint.
-    TwoGaps(R),
     /// What both sets have together.
     OfBoth(OfBoth),
+}
+
+/// What a test asks in a range.
+#[derive(Drop)]
+pub enum In {
+    /// The ranges that overlap it, of which there are three.
+    Three,
+    /// One range overlaps it, and there is none behind it at either end.
+    One,
+    /// The one gap.
+    OneGap,
+    /// What two calls in turn answer of the two gaps, behind the hint.
+    TwoGaps,
 }
 
 /// What a test asks of two sets.
@@ -48,12 +61,12 @@ pub enum OfBoth {
     Rests { from_front: bool },
 }
 
-/// Compares what is lent by a set, and where two are asked by the other one too.
-pub fn check_lent<'a, S: Lends<'a> + Store<Range: Debug, Value = ()>>(
+/// Compares what a set lends of all its ranges, and where two are asked the other one too.
+pub fn check_all<'a, S: Lends<'a, Range: Debug, Value = (), Iter: PairIter>>(
     alloc: Global,
     set: &'a Set<S>,
     other: &'a Set<S>,
-    asked: &'a Lent<S::Range>,
+    asked: &All,
     answer: &str,
 ) -> Result<(), Fail>
 where
@@ -62,25 +75,38 @@ where
     requires { KeysCloneFaithfully S.Range.Key.is_clone S.Range.Key.cmp }
 {
     match asked {
-        Lent::Three => check_three_ranges(alloc, set.iter(), answer, true),
-        Lent::ThreeOverlapping(query) => {
-            check_three_ranges(alloc, set.overlapping(query), answer, false)
-        }
-        Lent::One => check_one_range(set.iter(), set.iter()),
-        Lent::OneOverlapping(query) => {
-            check_one_range(set.overlapping(query), set.overlapping(query))
-        }
-        Lent::OneGap(outer) => {
-            let gaps = (set.gaps(outer), set.gaps(outer), set.gaps(outer));
+        All::Three => check_three_ranges(alloc, set.iter(), answer, true),
+        All::One => check_one_range(set.iter(), set.iter()),
+        All::OfBoth(asked) => check_of_both(alloc, set, other, asked, answer),
+    }
+}
+
+/// Compares what a set lends in a range.
+pub fn check_in_range<'a, S: Lends<'a, Range: Debug, Value = (), Overlapping: PairIter>>(
+    alloc: Global,
+    set: &'a Set<S>,
+    range: &'a S::Range,
+    asked: &In,
+    answer: &str,
+) -> Result<(), Fail>
+where
+    S::Range: 'a,
+    S::Value: 'a,
+    requires { KeysCloneFaithfully S.Range.Key.is_clone S.Range.Key.cmp }
+{
+    match asked {
+        In::Three => check_three_ranges(alloc, set.overlapping(range), answer, false),
+        In::One => check_one_range(set.overlapping(range), set.overlapping(range)),
+        In::OneGap => {
+            let gaps = (set.gaps(range), set.gaps(range), set.gaps(range));
             check_gap(alloc, gaps, answer)
         }
-        Lent::TwoGaps(outer) => check_two_gaps(alloc, set.gaps(outer), answer),
-        Lent::OfBoth(asked) => check_of_both(alloc, set, other, asked, answer),
+        In::TwoGaps => check_two_gaps(alloc, set.gaps(range), answer),
     }
 }
 
 /// Compares what two sets lend of both.
-fn check_of_both<'a, S: Lends<'a> + Store<Range: Debug, Value = ()>>(
+fn check_of_both<'a, S: Lends<'a, Range: Debug, Value = (), Iter: PairIter>>(
     alloc: Global,
     left: &'a Set<S>,
     right: &'a Set<S>,

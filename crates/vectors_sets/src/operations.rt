@@ -5,7 +5,7 @@
 ghost use Rattle.rangemap.specs.Clones.{KeysCloneFaithfully};
 
 use crate::asked::Asked;
-use crate::lent::{Lent, OfBoth};
+use crate::lent::{All, Lent, OfBoth};
 use crate::sets::{ask_chunks, ask_vector, lent_by_chunks, lent_by_vector};
 use rangemap_core::closed::Closed;
 use rangemap_core::half_open::HalfOpen;
@@ -29,8 +29,18 @@ fn check_operations<Q: Kind<R, Steps = R::Key>, R: FromEnds<Key: Word<Global> + 
         let (either, common) = (two_lists(either)?, two_lists(common)?);
         let lists = two_lists(sets)?;
         let items = format!(in alloc; "{}; {}", either.0, common.0)?;
-        lent_by_vector::<Q, R>(alloc, lists, Lent::OfBoth(OfBoth::Items), items.as_str())?;
-        lent_by_chunks::<Q, R>(alloc, lists, Lent::OfBoth(OfBoth::Items), items.as_str())?;
+        lent_by_vector::<Q, R>(
+            alloc,
+            lists,
+            Lent::All(All::OfBoth(OfBoth::Items)),
+            items.as_str(),
+        )?;
+        lent_by_chunks::<Q, R>(
+            alloc,
+            lists,
+            Lent::All(All::OfBoth(OfBoth::Items)),
+            items.as_str(),
+        )?;
         let joined = Asked::Joined {
             sets,
             either: either.1,
@@ -79,7 +89,7 @@ fn any_steps_will_do(rt: HostRuntime) -> Result<(), Fail> {
     lent_by_vector::<Closed<SignedSteps>, RangeInclusive<i8>>(
         rt.alloc(),
         ("-128..=-1", "-1..=127"),
-        Lent::OfBoth(OfBoth::Items),
+        Lent::All(All::OfBoth(OfBoth::Items)),
         "-128..=127; -1..=-1",
     )
 }
@@ -96,13 +106,13 @@ fn check_in_part<Q: Kind<R>, R: KeyRange<Key: Word<Global>> + Debug>(
     lent_by_vector::<Q, R>(
         alloc,
         lists,
-        Lent::OfBoth(OfBoth::Rests { from_front }),
+        Lent::All(All::OfBoth(OfBoth::Rests { from_front })),
         texts,
     )?;
     lent_by_chunks::<Q, R>(
         alloc,
         lists,
-        Lent::OfBoth(OfBoth::Rests { from_front }),
+        Lent::All(All::OfBoth(OfBoth::Rests { from_front })),
         texts,
     )
 }

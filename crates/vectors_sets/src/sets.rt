@@ -5,7 +5,7 @@
 ghost use Rattle.rangemap.specs.Clones.{KeysCloneFaithfully};
 
 use crate::asked::{Asked, check_asked};
-use crate::lent::{Lent, check_lent};
+use crate::lent::{Lent, check_all, check_in_range};
 use rangemap::{RangeInclusiveSet, RangeSet, StepLite, tree_set};
 use rangemap_chunked::Chunks;
 use rangemap_core::closed::Closed;
@@ -32,7 +32,10 @@ pub fn lent_by_vector<Q: Kind<R>, R: KeyRange<Key: Word<Global>> + Debug>(
 {
     let set = set_of::<SortedVec<Q, R, (), Global>>(alloc, lists.0)?;
     let other = set_of::<SortedVec<Q, R, (), Global>>(alloc, lists.1)?;
-    check_lent(alloc, &set, &other, &asked, answer)
+    match &asked {
+        Lent::All(asked) => check_all(alloc, &set, &other, asked, answer),
+        Lent::In(range, asked) => check_in_range(alloc, &set, range, asked, answer),
+    }
 }
 
 /// Asks two sets in a tree.
@@ -44,7 +47,10 @@ pub fn lent_by_tree(
 ) -> Result<(), Fail> {
     let set = set_of::<Tree<u32, (), Global>>(alloc, lists.0)?;
     let other = set_of::<Tree<u32, (), Global>>(alloc, lists.1)?;
-    check_lent(alloc, &set, &other, &asked, answer)
+    match &asked {
+        Lent::All(asked) => check_all(alloc, &set, &other, asked, answer),
+        Lent::In(range, asked) => check_in_range(alloc, &set, range, asked, answer),
+    }
 }
 
 /// Asks two sets in chunks of up to two ranges.
@@ -58,7 +64,10 @@ pub fn lent_by_chunks<Q: Kind<R>, R: KeyRange<Key: Word<Global>> + Debug>(
 {
     let set = set_of::<Chunks<Q, R, (), Global, 2>>(alloc, lists.0)?;
     let other = set_of::<Chunks<Q, R, (), Global, 2>>(alloc, lists.1)?;
-    check_lent(alloc, &set, &other, &asked, answer)
+    match &asked {
+        Lent::All(asked) => check_all(alloc, &set, &other, asked, answer),
+        Lent::In(range, asked) => check_in_range(alloc, &set, range, asked, answer),
+    }
 }
 
 /// Asks sets in a sorted vector.

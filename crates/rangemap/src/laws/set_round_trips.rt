@@ -11,7 +11,7 @@ ghost use Rattle.rangemap.specs.Ranges.{same_ranges, unit_eq, with_unit};
 use crate::range_set::Set;
 use rangemap_core::key_range::KeyRange;
 use rangemap_core::kind::Kind;
-use rangemap_core::store::{HandsOver, Store};
+use rangemap_core::store::{HandsOver, Store, StoreMut};
 use rangemap_formats::json::{Form, WriteError};
 use rangemap_maps::laws::round_trips::for_memory;
 use serde_json::Value;
@@ -20,7 +20,7 @@ use std::alloc::{AllocError, Global};
 /// `from_iter` of `into_iter` gives an equal set.
 pub fn from_iter_of_into_iter_is_equal<
     S: HandsOver + Store<Value = ()>,
-    T: Store<Range = S::Range, Value = (), Kind = S::Kind> + Drop,
+    T: StoreMut<Range = S::Range, Value = (), Kind = S::Kind> + Drop,
 >(alloc: T::Alloc, set: Set<S>) -> Result<Set<T>, AllocError>
 where
     S::Kind: Kind<S::Range, Steps = <S::Range as KeyRange>::Key>,
@@ -40,7 +40,7 @@ where
 /// The writer refused a key, or memory was refused. The reader refuses nothing of what was written.
 pub fn reading_what_was_written_is_equal<
     S: Store<Value = ()>,
-    T: Store<Range = S::Range, Value = (), Kind = S::Kind> + Drop,
+    T: StoreMut<Range = S::Range, Value = (), Kind = S::Kind> + Drop,
     E,
     F: Drop,
     WK: Fn(&<S::Range as KeyRange>::Key) -> Result<Value, E>,

@@ -12,7 +12,7 @@ pub use crate::operator::Operator;
 use crate::range_set::Set;
 use rangemap_core::key_range::KeyRange;
 use rangemap_core::kind::Kind;
-use rangemap_core::store::Store;
+use rangemap_core::store::StoreMut;
 pub use rangemap_unions::laws::closed_operations;
 use std::alloc::AllocError;
 
@@ -20,7 +20,7 @@ use std::alloc::AllocError;
 pub type Sides<M> = Result<(M, M), AllocError>;
 
 /// `a | b` equals `b | a`, and `a & b` equals `b & a`.
-pub fn commutes<S: Store<Value = ()> + Drop>(
+pub fn commutes<S: StoreMut<Value = ()> + Drop>(
     operator: &Operator,
     first: &Set<S>,
     second: &Set<S>,
@@ -39,7 +39,7 @@ where
 }
 
 /// `(a | b) | c` equals `a | (b | c)`, and `(a & b) & c` equals `a & (b & c)`.
-pub fn associates<S: Store<Value = ()> + Drop>(
+pub fn associates<S: StoreMut<Value = ()> + Drop>(
     operator: &Operator,
     first: &Set<S>,
     second: &Set<S>,
@@ -63,7 +63,7 @@ where
 }
 
 /// `a | a` equals `a`, and so does `a & a`.
-pub fn is_idempotent<S: Store<Value = ()> + Drop>(
+pub fn is_idempotent<S: StoreMut<Value = ()> + Drop>(
     operator: &Operator,
     first: &Set<S>,
 ) -> Result<Set<S>, AllocError>
@@ -80,7 +80,7 @@ where
 }
 
 /// `a | (a & b)` equals `a`, and so does `a & (a | b)`. The operator is the outer one.
-pub fn absorbs<S: Store<Value = ()> + Drop>(
+pub fn absorbs<S: StoreMut<Value = ()> + Drop>(
     operator: &Operator,
     first: &Set<S>,
     second: &Set<S>,
@@ -100,7 +100,7 @@ where
 
 /// `a | (b & c)` equals `(a | b) & (a | c)`, and `a & (b | c)` equals `(a & b) | (a & c)`. The operator
 /// is the outer one of the left side.
-pub fn distributes<S: Store<Value = ()> + Drop>(
+pub fn distributes<S: StoreMut<Value = ()> + Drop>(
     operator: &Operator,
     first: &Set<S>,
     second: &Set<S>,

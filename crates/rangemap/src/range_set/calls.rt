@@ -10,7 +10,7 @@ use super::Set;
 use crate::operator::Operator;
 use rangemap_core::key_range::KeyRange;
 use rangemap_core::kind::Kind;
-use rangemap_core::store::Store;
+use rangemap_core::store::StoreMut;
 use rangemap_replay::calls::Change;
 use rangemap_replay::replay::{CallOn, add};
 use std::alloc::Allocator;
@@ -40,7 +40,7 @@ pub enum SetCall<R, A: Allocator> {
     Intersection { left: usize, right: usize },
 }
 
-impl<S: Store<Value = ()> + Drop> CallOn<Set<S>> for SetCall<S::Range, S::Alloc>
+impl<S: StoreMut<Value = ()> + Drop> CallOn<Set<S>> for SetCall<S::Range, S::Alloc>
 where
     S::Alloc: Clone,
     S::Kind: Kind<S::Range, Steps = <S::Range as KeyRange>::Key>,
@@ -79,7 +79,7 @@ where
     }
 }
 
-fn add_joined<S: Store<Value = ()> + Drop>(
+fn add_joined<S: StoreMut<Value = ()> + Drop>(
     operator: &Operator,
     sets: &mut Vec<Set<S>, S::Alloc>,
     left: usize,

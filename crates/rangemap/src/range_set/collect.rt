@@ -8,13 +8,14 @@ ghost use Rattle.rangemap.specs.Sets.{Adds, AreNonEmptyRanges, GivesNonEmptyRang
 use super::Set;
 use rangemap_core::key_range::KeyRange;
 use rangemap_core::kind::Kind;
-use rangemap_core::store::{HandsOver, Lends, Store};
+use rangemap_core::pair_iter::PairIter;
+use rangemap_core::store::{HandsOver, Lends, Store, StoreMut};
 use rangemap_unions::{IntoRanges, Ranges};
 use std::alloc::AllocError;
 use std::iter::IntoIterator;
 use std::marker::PhantomData;
 
-impl<S: Store<Value = ()>> Set<S>
+impl<S: StoreMut<Value = ()>> Set<S>
 where
     S::Alloc: Clone,
 {
@@ -40,7 +41,7 @@ where
     }
 }
 
-impl<S: Store<Value = ()>> Set<S>
+impl<S: StoreMut<Value = ()>> Set<S>
 where
     S::Kind: Kind<S::Range, Steps = <S::Range as KeyRange>::Key>,
 {
@@ -69,7 +70,7 @@ where
     }
 }
 
-impl<S: Store<Value = ()> + Drop> Set<S>
+impl<S: StoreMut<Value = ()> + Drop> Set<S>
 where
     S::Kind: Kind<S::Range, Steps = <S::Range as KeyRange>::Key>,
 {
@@ -138,7 +139,7 @@ where
     }
 }
 
-impl<'a, S: Lends<'a> + Store<Value = ()>> IntoIterator for &'a Set<S>
+impl<'a, S: Lends<'a, Iter: PairIter> + Store<Value = ()>> IntoIterator for &'a Set<S>
 where
     S::Range: 'a,
     S::Value: 'a,

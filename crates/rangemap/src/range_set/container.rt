@@ -7,10 +7,10 @@ use super::Set;
 use rangemap_core::container::{Appending, Container};
 use rangemap_core::key_range::KeyRange;
 use rangemap_core::kind::Kind;
-use rangemap_core::store::Store;
+use rangemap_core::store::StoreMut;
 use std::alloc::{AllocError, Allocator};
 
-impl<S: Store<Value = ()> + Drop> Container for Set<S>
+impl<S: StoreMut<Value = ()> + Drop> Container for Set<S>
 where
     S::Alloc: Clone,
 {

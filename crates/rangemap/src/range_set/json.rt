@@ -8,7 +8,7 @@ ghost use Rattle.rangemap.specs.Ranges.{unit_eq, with_unit};
 use super::Set;
 use rangemap_core::key_range::KeyRange;
 use rangemap_core::kind::Kind;
-use rangemap_core::store::Store;
+use rangemap_core::store::{Store, StoreMut};
 use rangemap_formats::json::{Form, ReadError, WriteError, read_set, write_set};
 use serde_json::Value;
 use std::alloc::Global;
@@ -47,7 +47,7 @@ where
     }
 }
 
-impl<S: Store<Value = ()> + Drop> Set<S>
+impl<S: StoreMut<Value = ()> + Drop> Set<S>
 where
     S::Kind: Kind<S::Range, Steps = <S::Range as KeyRange>::Key>,
 {

@@ -5,14 +5,15 @@ ghost use Rattle.rangemap.specs.Sets.{AreCommon, AreHulls, CoverEither};
 use super::Set;
 use rangemap_core::key_range::KeyRange;
 use rangemap_core::kind::Kind;
-use rangemap_core::store::{Lends, Store};
+use rangemap_core::pair_iter::PairIter;
+use rangemap_core::store::{Lends, Store, StoreMut};
 use rangemap_unions::inserts::{Intersecting, Uniting};
 use rangemap_unions::{Intersection, Union};
 use std::alloc::AllocError;
 use std::marker::PhantomData;
 use std::ops::{BitAnd, BitOr};
 
-impl<'a, S: Lends<'a> + Store<Value = ()>> Set<S>
+impl<'a, S: Lends<'a, Iter: PairIter> + Store<Value = ()>> Set<S>
 where
     S::Range: 'a,
     S::Value: 'a,
@@ -53,7 +54,7 @@ where
     }
 }
 
-impl<'a, S: Store<Value = ()> + Drop> BitOr<&'a Set<S>> for &'a Set<S>
+impl<'a, S: StoreMut<Value = ()> + Drop> BitOr<&'a Set<S>> for &'a Set<S>
 where
     S::Alloc: Clone,
     S::Kind: Kind<S::Range, Steps = <S::Range as KeyRange>::Key>,
@@ -86,7 +87,7 @@ where
     }
 }
 
-impl<'a, S: Store<Value = ()> + Drop> BitAnd<&'a Set<S>> for &'a Set<S>
+impl<'a, S: StoreMut<Value = ()> + Drop> BitAnd<&'a Set<S>> for &'a Set<S>
 where
     S::Alloc: Clone,
     S::Kind: Kind<S::Range, Steps = <S::Range as KeyRange>::Key>,

@@ -13,10 +13,9 @@ ghost use Rattle.rangemap_core.specs.Ranges.{IsStorable};
 use crate::gaps::Gaps;
 use crate::key_range::KeyRange;
 use crate::kind::Kind;
-use crate::pair_iter::PairIter;
+use crate::pair_iter::{PairIter, range_of, value_of};
 use crate::pairs::clone_pair;
 use crate::reader::Reader;
-use crate::reference::Reference;
 use std::alloc::{AllocError, Allocator};
 use std::iter::Iterator;
 use std::marker::PhantomData;
@@ -68,7 +67,7 @@ impl<Q: Kind<R>, R: KeyRange, V: Eq + Clone, B: Allocator> Reader<R, V> for Appe
         let len = out.len();
         let mut rest = pairs;
         'pairs: while let Some(pair) = rest.next() {
-            let (range, value) = (pair.0.get(), pair.1.get());
+            let (range, value) = (range_of::<I>(&pair.0), value_of::<I>(&pair.1));
             if let Err(error) = append_clone::<Q, R, V, B>(range, value, out) {
                 out.truncate(len);
                 return Err(error);

@@ -11,7 +11,7 @@ use super::{Form, Part, ReadError};
 use rangemap_core::key_range::KeyRange;
 use rangemap_core::kind::{Kind, known_ends};
 use rangemap_core::std_ext::Touch;
-use rangemap_core::store::Store;
+use rangemap_core::store::{Store, StoreMut};
 use serde_json::Value;
 
 /// What reads the parts of an entry, with keys of type `K`, values of type `V` and faults of type
@@ -42,7 +42,7 @@ pub(crate) trait ReadsParts<K, V, E> {
 }
 
 // Reads a store: inserts the pairs of the entries, in order.
-pub(crate) fn read<S: Store + Drop, E, R: ReadsParts<<S::Range as KeyRange>::Key, S::Value, E>>(
+pub(crate) fn read<S: StoreMut + Drop, E, R: ReadsParts<<S::Range as KeyRange>::Key, S::Value, E>>(
     alloc: S::Alloc,
     form: Form,
     value: &Value,

@@ -7,9 +7,8 @@ ghost use Rattle.rangemap_core.specs.Lent.{shown};
 use super::WriteError;
 use rangemap_core::key_range::KeyRange;
 use rangemap_core::kind::Kind;
-use rangemap_core::pair_iter::PairIter;
+use rangemap_core::pair_iter::{PairIter, range_of, value_of};
 use rangemap_core::reader::Reader;
-use rangemap_core::reference::Reference;
 use rangemap_core::store::Store;
 use serde_json::Value;
 use std::alloc::Global;
@@ -91,10 +90,10 @@ fn write_entry<
     W: WritesParts<<I::Range as KeyRange>::Key, I::Value, E>,
 >(pair: &I::Item, writer: &W) -> Result<Value, WriteError<E>>
     requires { W.is_ready writer.now }
-    ensures ok { IfOk result (IsWritten Q.kind (W.writer writer.now) (shown I.Lent.target I.LentValue.target pair.now)) }
-    ensures err { IfErr result (CallerOr (IsRefusedIn Q.kind (W.writer writer.now) (shown I.Lent.target I.LentValue.target pair.now))) }
+    ensures ok { IfOk result (IsWritten Q.kind (W.writer writer.now) (shown I.range I.value pair.now)) }
+    ensures err { IfErr result (CallerOr (IsRefusedIn Q.kind (W.writer writer.now) (shown I.range I.value pair.now))) }
 {
-    let (range, value) = (pair.0.get(), pair.1.get());
+    let (range, value) = (range_of::<I>(&pair.0), value_of::<I>(&pair.1));
     let start = match writer.key(range.start()) {
         Ok(part) => part,
         Err(fault) => return Err(WriteError::Caller(fault)),

@@ -13,7 +13,7 @@ ghost use Rattle.rangemap_formats.specs.declared.json.WriteError.TheVariants as 
 use crate::range_map::Map;
 use rangemap_core::key_range::KeyRange;
 use rangemap_core::kind::Kind;
-use rangemap_core::store::{HandsOver, Store};
+use rangemap_core::store::{HandsOver, Store, StoreMut};
 use rangemap_formats::json::{Form, ReadError, WriteError};
 use serde_json::Value;
 use std::alloc::{AllocError, Global};
@@ -21,7 +21,7 @@ use std::alloc::{AllocError, Global};
 /// `from_iter` of `into_iter` gives an equal map.
 pub fn from_iter_of_into_iter_is_equal<
     S: HandsOver,
-    T: Store<Range = S::Range, Value = S::Value, Kind = S::Kind> + Drop,
+    T: StoreMut<Range = S::Range, Value = S::Value, Kind = S::Kind> + Drop,
 >(alloc: T::Alloc, map: Map<S>) -> Result<Map<T>, AllocError>
 where
     S::Kind: Kind<S::Range, Steps = <S::Range as KeyRange>::Key>,
@@ -42,7 +42,7 @@ where
 /// written.
 pub fn reading_what_was_written_is_equal<
     S: Store,
-    T: Store<Range = S::Range, Value = S::Value, Kind = S::Kind> + Drop,
+    T: StoreMut<Range = S::Range, Value = S::Value, Kind = S::Kind> + Drop,
     E,
     F: Drop,
     WK: Fn(&<S::Range as KeyRange>::Key) -> Result<Value, E>,

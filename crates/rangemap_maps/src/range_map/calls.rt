@@ -3,7 +3,7 @@
 use super::Map;
 use rangemap_core::key_range::KeyRange;
 use rangemap_core::kind::Kind;
-use rangemap_core::store::Store;
+use rangemap_core::store::StoreMut;
 use rangemap_replay::calls::Change;
 use rangemap_replay::replay::{CallOn, add};
 use std::alloc::Allocator;
@@ -21,7 +21,7 @@ pub enum Call<R, V, A: Allocator> {
     Extend { at: usize, pairs: Vec<(R, V), A> },
 }
 
-impl<S: Store + Drop> CallOn<Map<S>> for Call<S::Range, S::Value, S::Alloc>
+impl<S: StoreMut + Drop> CallOn<Map<S>> for Call<S::Range, S::Value, S::Alloc>
 where
     S::Alloc: Clone,
     S::Kind: Kind<S::Range, Steps = <S::Range as KeyRange>::Key>,

@@ -1,15 +1,15 @@
 //! Giving the keys of a range a value, and taking them out.
 ghost use Rattle.std.specs.Prelude.{◌≡◌, true, ◌≤◌, ◌+◌, [], length, IsOk, OnOk, OnErr};
 ghost use Rattle.rangemap_core.specs.Clones.{KeysCloneFaithfully, ValuesCloneFaithfully};
-ghost use Rattle.rangemap_core.specs.Ranges.{IsCanonOf, erase, overlapped, override, value_at};
+ghost use Rattle.rangemap_core.specs.Ranges.{IsCanonOf, IsNewest, erase, overlapped, override, value_at};
 
 use super::Map;
 use rangemap_core::key_range::KeyRange;
 use rangemap_core::kind::Kind;
-use rangemap_core::store::Store;
+use rangemap_core::store::StoreMut;
 use std::alloc::AllocError;
 
-impl<S: Store> Map<S> {
+impl<S: StoreMut> Map<S> {
     /// Gives every key of `range` the `value`, whatever it had before.
     ///
     /// What stays of stored ranges to the left and right of it keeps its value. Stored ranges that
@@ -40,6 +40,7 @@ impl<S: Store> Map<S> {
         requires faithful_keys { KeysCloneFaithfully S.Range.Key.is_clone S.Range.Key.cmp }
         requires faithful_values { ValuesCloneFaithfully S.Value.is_clone S.Value.eq }
         ensures ok { OnOk result (IsCanonOf S.Kind.kind S.Value.eq (override S.Kind.kind (value_at S.Kind.kind self.old) range value) self.new) }
+        ensures newest { OnOk result (IsNewest S.Kind.kind range value self.new) }
         ensures err { OnErr result (self.new ≡ self.old) }
         ensures growth { OnOk result (length self.new ≤ length self.old + 2) }
         ensures growth_where_all_are_equal { OnOk result (((v w : S.Value) → S.Value.eq v w ≡ true) → length self.new ≤ length self.old + 1) }

@@ -8,12 +8,13 @@ ghost use Rattle.rangemap_core.specs.Ranges.{AreNonEmpty, IsCanonOf, Overrides, 
 use super::Map;
 use rangemap_core::key_range::KeyRange;
 use rangemap_core::kind::Kind;
-use rangemap_core::store::{HandsOver, Lends, Store};
+use rangemap_core::pair_iter::PairIter;
+use rangemap_core::store::{HandsOver, Lends, StoreMut};
 use std::alloc::AllocError;
 use std::iter::IntoIterator;
 use std::marker::PhantomData;
 
-impl<S: Store> Map<S>
+impl<S: StoreMut> Map<S>
 where
     S::Alloc: Clone,
 {
@@ -42,7 +43,7 @@ where
     }
 }
 
-impl<S: Store> Map<S>
+impl<S: StoreMut> Map<S>
 where
     S::Kind: Kind<S::Range, Steps = <S::Range as KeyRange>::Key>,
 {
@@ -92,7 +93,7 @@ where
     }
 }
 
-impl<S: Store + Drop> Map<S>
+impl<S: StoreMut + Drop> Map<S>
 where
     S::Kind: Kind<S::Range, Steps = <S::Range as KeyRange>::Key>,
 {
@@ -174,7 +175,7 @@ where
     }
 }
 
-impl<'a, S: Lends<'a>> IntoIterator for &'a Map<S>
+impl<'a, S: Lends<'a, Iter: PairIter<LentValue = &'a S::Value>>> IntoIterator for &'a Map<S>
 where
     S::Range: 'a,
     S::Value: 'a,

@@ -5,10 +5,10 @@ ghost use Rattle.std.specs.Prelude.{◌≡◌};
 use super::Map;
 use rangemap_core::container::{Appending, Container};
 use rangemap_core::key_range::KeyRange;
-use rangemap_core::store::Store;
+use rangemap_core::store::StoreMut;
 use std::alloc::{AllocError, Allocator};
 
-impl<S: Store + Drop> Container for Map<S>
+impl<S: StoreMut + Drop> Container for Map<S>
 where
     S::Alloc: Clone,
 {

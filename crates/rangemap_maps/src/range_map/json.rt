@@ -7,7 +7,7 @@ ghost use Rattle.rangemap_formats.specs.Json.{IsForm, IsReading, IsRefusedForMem
 use super::Map;
 use rangemap_core::key_range::KeyRange;
 use rangemap_core::kind::Kind;
-use rangemap_core::store::Store;
+use rangemap_core::store::{Store, StoreMut};
 use rangemap_formats::json::{Form, ReadError, WriteError, read_map, write_map};
 use serde_json::Value;
 use std::alloc::Global;
@@ -48,7 +48,7 @@ where
     }
 }
 
-impl<S: Store + Drop> Map<S>
+impl<S: StoreMut + Drop> Map<S>
 where
     S::Kind: Kind<S::Range, Steps = <S::Range as KeyRange>::Key>,
 {

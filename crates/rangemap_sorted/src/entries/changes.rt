@@ -1,8 +1,8 @@
 //! Giving the keys of a range a value, and taking them out, in a list of pairs.
 ghost use Rattle.std.specs.Prelude.{◌≡◌, true, ◌≤◌, ◌+◌, [], length, IsOk, OnOk, OnErr, None as NoneWord};
 ghost use Rattle.rangemap_core.specs.Clones.{KeysCloneFaithfully, ValuesCloneFaithfully};
-ghost use Rattle.rangemap_core.specs.Ranges.{IsCanonOf, IsCanonical, erase, overlapped, override, value_at};
-ghost use Rattle.rangemap_sorted.specs.Changes.{changed, grown};
+ghost use Rattle.rangemap_core.specs.Ranges.{IsCanonOf, IsCanonical, IsNewest, erase, overlapped, override, value_at};
+ghost use Rattle.rangemap_sorted.specs.Changes.{IsChanged, grown};
 
 use super::stretch::{left_side, middle, right_side, stretch};
 use crate::overlapping::overlap;
@@ -27,6 +27,7 @@ pub fn insert<Q: Kind<R>, R: KeyRange, V: Eq + Clone, A: Allocator>(
     requires faithful_keys { KeysCloneFaithfully R.Key.is_clone R.Key.cmp }
     requires faithful_values { ValuesCloneFaithfully V.is_clone V.eq }
     ensures ok { OnOk result (IsCanonOf Q.kind V.eq (override Q.kind (value_at Q.kind list.old.items) range value) list.new.items) }
+    ensures newest { OnOk result (IsNewest Q.kind range value list.new.items) }
     ensures err { OnErr result (list.new.items ≡ list.old.items) }
     ensures growth { OnOk result (length list.new.items ≤ length list.old.items + 2) }
     ensures growth_where_all_are_equal { OnOk result (((v w : V) → V.eq v w ≡ true) → length list.new.items ≤ length list.old.items + 1) }
@@ -91,7 +92,7 @@ pub fn change<Q: Kind<R>, R: KeyRange, V: Eq + Clone, A: Allocator>(
     requires non_empty { Q.kind.IsNonEmpty range }
     requires faithful_keys { KeysCloneFaithfully R.Key.is_clone R.Key.cmp }
     requires faithful_values { ValuesCloneFaithfully V.is_clone V.eq }
-    ensures ok { OnOk result (IsCanonOf Q.kind V.eq (changed Q.kind (value_at Q.kind list.old.items) range value) list.new.items) }
+    ensures ok { OnOk result (IsChanged Q.kind V.eq (value_at Q.kind list.old.items) range value list.new.items) }
     ensures err { OnErr result (list.new.items ≡ list.old.items) }
     ensures growth { OnOk result (length list.new.items ≤ length list.old.items + grown value) }
     ensures growth_where_all_are_equal { OnOk result (((v w : V) → V.eq v w ≡ true) → length list.new.items ≤ length list.old.items + 1) }

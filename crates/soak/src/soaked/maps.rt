@@ -12,7 +12,8 @@ use rangemap_core::closed::Closed;
 use rangemap_core::half_open::HalfOpen;
 use rangemap_core::key_range::KeyRange;
 use rangemap_core::kind::Kind;
-use rangemap_core::store::{Lends, Store};
+use rangemap_core::pair_iter::PairIter;
+use rangemap_core::store::{Lends, StoreMut};
 use rangemap_sorted::SortedVec;
 use rangemap_tree::Tree;
 use std::alloc::AllocError;
@@ -44,7 +45,7 @@ pub type ClosedChunkedPairs<'a> = Chunks<
 
 impl<S> Soaked for Map<S>
 where
-    S: Store<Alloc: Copy> + Drop,
+    S: StoreMut<Alloc: Copy> + Drop,
     S::Range: PointRange<S::Alloc>,
     S::Value: Mark<S::Alloc>,
     S::Kind: Kind<S::Range, Steps = <S::Range as KeyRange>::Key>,
@@ -69,7 +70,7 @@ where
 }
 
 /// Asks a map for its gaps.
-fn ask<'b, S: Lends<'b, Range: Told>>(
+fn ask<'b, S: Lends<'b, Range: Told, Overlapping: PairIter>>(
     map: &'b Map<S>,
     outer: &'b S::Range,
     pieces: &[Piece],

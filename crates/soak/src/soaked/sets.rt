@@ -13,7 +13,8 @@ use rangemap_core::closed::Closed;
 use rangemap_core::half_open::HalfOpen;
 use rangemap_core::key_range::KeyRange;
 use rangemap_core::kind::Kind;
-use rangemap_core::store::{Lends, Store};
+use rangemap_core::pair_iter::PairIter;
+use rangemap_core::store::{Lends, StoreMut};
 use rangemap_sorted::SortedVec;
 use rangemap_tree::Tree;
 use std::alloc::AllocError;
@@ -44,7 +45,7 @@ pub type ClosedChunkedRanges<'a> = Chunks<
 
 impl<S> Soaked for Set<S>
 where
-    S: Store<Value = (), Alloc: Copy> + Drop,
+    S: StoreMut<Value = (), Alloc: Copy> + Drop,
     S::Range: PointRange<S::Alloc>,
     S::Kind: Kind<S::Range, Steps = <S::Range as KeyRange>::Key>,
     Set<S>: LendsGaps<S::Range>,
@@ -69,7 +70,7 @@ where
 }
 
 /// Makes `one | other` or `one & other`.
-fn combined<S: Store<Value = ()> + Drop>(
+fn combined<S: StoreMut<Value = ()> + Drop>(
     one: &Set<S>,
     other: &Set<S>,
     is_union: bool,
@@ -83,7 +84,7 @@ where
 }
 
 /// Asks a set for its gaps.
-fn ask<'b, S: Lends<'b, Range: Told, Value = ()>>(
+fn ask<'b, S: Lends<'b, Range: Told, Value = (), Overlapping: PairIter>>(
     set: &'b Set<S>,
     outer: &'b S::Range,
     pieces: &[Piece],

@@ -7,7 +7,7 @@ use rangemap::range_set::Set;
 use rangemap::{Form, RangeInclusiveMap, ReadError};
 use rangemap_core::key_range::KeyRange;
 use rangemap_core::kind::Kind;
-use rangemap_core::store::Store;
+use rangemap_core::store::StoreMut;
 use serde_json::Value;
 use std::alloc::{AllocError, Global};
 use std::test::Fail;
@@ -47,7 +47,7 @@ fn form_and_value(alloc: Global, given: &str) -> Result<(Form, Value), Fail> {
 /// Tries to read a map of numbers.
 pub fn try_map<'a, S>(heap: &'a Heap, alloc: Global, row: &Row<'_>, left: u64) -> Answer
 where
-    S: Store<Range: FromEnds<Key = u32>, Value = u32, Alloc = &'a Heap> + Drop,
+    S: StoreMut<Range: FromEnds<Key = u32>, Value = u32, Alloc = &'a Heap> + Drop,
     S::Kind: Kind<S::Range, Steps = <S::Range as KeyRange>::Key>,
     Map<S>: InRows<Range = S::Range, Value = u32, Alloc = &'a Heap, Kind = S::Kind>,
 {
@@ -60,7 +60,7 @@ where
 /// Tries to read a set of numbers.
 pub fn try_set<'a, S>(heap: &'a Heap, alloc: Global, row: &Row<'_>, left: u64) -> Answer
 where
-    S: Store<Range: FromEnds<Key = u32>, Value = (), Alloc = &'a Heap> + Drop,
+    S: StoreMut<Range: FromEnds<Key = u32>, Value = (), Alloc = &'a Heap> + Drop,
     S::Kind: Kind<S::Range, Steps = <S::Range as KeyRange>::Key>,
     Set<S>: InRows<Range = S::Range, Value = (), Alloc = &'a Heap, Kind = S::Kind>,
 {

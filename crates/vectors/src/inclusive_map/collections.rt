@@ -4,7 +4,7 @@ use rangemap::RangeInclusiveMap;
 use rangemap::map::Map;
 use rangemap_chunked::Chunks;
 use rangemap_core::closed::Closed;
-use rangemap_core::store::Store;
+use rangemap_core::store::StoreMut;
 use rangemap_sorted::SortedVec;
 use std::alloc::Global;
 use std::ops::RangeInclusive;
@@ -14,7 +14,8 @@ use tests_support::check_text;
 /// Compares a map that a chain extends, and one that a chain makes.
 fn check_made<S>(alloc: Global) -> Result<(), Fail>
 where
-    S: Store<Kind = Closed<u32>, Range = RangeInclusive<u32>, Value = char, Alloc = Global> + Drop,
+    S: StoreMut<Kind = Closed<u32>, Range = RangeInclusive<u32>, Value = char, Alloc = Global>
+        + Drop,
 {
     let mut extended: Map<S> = Map::new(alloc);
     extended.extend((0..2u32).map(|i| (10 * i..=10 * i + 4, 'a')))?;

@@ -5,7 +5,7 @@ use crate::made::Made;
 use crate::maps::{made_in_chunks, made_in_tree, made_in_vector};
 use rangemap::map::Map;
 use rangemap_core::half_open::HalfOpen;
-use rangemap_core::store::Store;
+use rangemap_core::store::StoreMut;
 use std::alloc::{AllocError, Global};
 use std::ops::Range;
 use std::test::Fail;
@@ -14,7 +14,7 @@ use tests_support::{check_same, check_text};
 /// Extends a map by the pairs of a chain, which start at 10, 20 and so on.
 fn extend_by_chain<S>(map: &mut Map<S>, end: u8) -> Result<(), AllocError>
 where
-    S: Store<Kind = HalfOpen, Range = Range<u32>, Value = char> + Drop,
+    S: StoreMut<Kind = HalfOpen, Range = Range<u32>, Value = char> + Drop,
 {
     map.extend((1..end).map(|i| (10 * u32::from(i)..10 * u32::from(i) + 5, 'c')))
 }
@@ -22,7 +22,7 @@ where
 /// Compares a map of two pairs, a clone of it, one that a chain extends, and one that a chain makes.
 pub fn check_pairs<S>(alloc: Global) -> Result<(), Fail>
 where
-    S: Store<Kind = HalfOpen, Range = Range<u32>, Value = char, Alloc = Global> + Drop,
+    S: StoreMut<Kind = HalfOpen, Range = Range<u32>, Value = char, Alloc = Global> + Drop,
 {
     let mut map: Map<S> = Map::from(alloc, [(0..10, 'a'), (3..6, 'b')])?;
     let copy = map.clone()?;
@@ -43,7 +43,7 @@ where
 /// Compares two maps that are equal, and two that are not.
 pub fn check_equality<S>(alloc: Global) -> Result<(), Fail>
 where
-    S: Store<Kind = HalfOpen, Range = Range<u32>, Value = char, Alloc = Global> + Drop,
+    S: StoreMut<Kind = HalfOpen, Range = Range<u32>, Value = char, Alloc = Global> + Drop,
 {
     let changed: Map<S> = Map::from(alloc, [(0..10, 'a'), (3..6, 'b'), (3..6, 'a')])?;
     let plain = Map::from(alloc, [(0..10, 'a')])?;
@@ -56,7 +56,7 @@ where
 /// Compares a map that an array extends, and its length when a chain has extended it too.
 pub fn check_array_and_chain<S>(alloc: Global) -> Result<(), Fail>
 where
-    S: Store<Kind = HalfOpen, Range = Range<u32>, Value = char, Alloc = Global> + Drop,
+    S: StoreMut<Kind = HalfOpen, Range = Range<u32>, Value = char, Alloc = Global> + Drop,
 {
     let mut map: Map<S> = Map::new(alloc);
     map.extend([(0u32..5, 'a'), (5..9, 'b')])?;

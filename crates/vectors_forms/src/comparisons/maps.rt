@@ -9,7 +9,7 @@ use rangemap_core::closed::Closed;
 use rangemap_core::half_open::HalfOpen;
 use rangemap_core::key_range::KeyRange;
 use rangemap_core::kind::Kind;
-use rangemap_core::store::Store;
+use rangemap_core::store::StoreMut;
 use rangemap_sorted::SortedVec;
 use rangemap_tree::Tree;
 use std::alloc::Global;
@@ -21,7 +21,7 @@ use tests_support::{SignedSteps, Word};
 /// Compares a table for maps over a store.
 fn check_maps<S>(alloc: Global, table: &str) -> Result<(), Fail>
 where
-    S: Store<
+    S: StoreMut<
         Range: KeyRange<Key: Word<Global> + Hash>,
         Value: Word<Global> + Ord + Hash,
         Alloc = Global,

@@ -8,7 +8,7 @@ use rangemap_core::closed::Closed;
 use rangemap_core::half_open::HalfOpen;
 use rangemap_core::key_range::KeyRange;
 use rangemap_core::kind::Kind;
-use rangemap_core::store::Store;
+use rangemap_core::store::StoreMut;
 use rangemap_sorted::SortedVec;
 use rangemap_tree::Tree;
 use std::alloc::Global;
@@ -20,7 +20,7 @@ use tests_support::Word;
 /// Compares a table for sets over a store.
 fn check_sets<S>(alloc: Global, table: &str) -> Result<(), Fail>
 where
-    S: Store<Range: KeyRange<Key: Word<Global> + Hash>, Value = (), Alloc = Global> + Drop,
+    S: StoreMut<Range: KeyRange<Key: Word<Global> + Hash>, Value = (), Alloc = Global> + Drop,
     requires { KeysCloneFaithfully S.Range.Key.is_clone S.Range.Key.cmp }
 {
     check_rows::<Set<S>>(alloc, table)

@@ -11,7 +11,7 @@ use rangemap_core::closed::Closed;
 use rangemap_core::half_open::HalfOpen;
 use rangemap_core::key_range::KeyRange;
 use rangemap_core::kind::Kind;
-use rangemap_core::store::{HandsOver, Store};
+use rangemap_core::store::{HandsOver, StoreMut};
 use rangemap_sorted::SortedVec;
 use std::alloc::Global;
 use std::fmt::Debug;
@@ -22,7 +22,7 @@ use tests_support::{check_text, check_that};
 /// Reads a map again in either form, makes one again of its pairs, and compares the texts of these.
 fn check_map<S>(alloc: Global, pairs: &str, text: &str) -> Result<(), Fail>
 where
-    S: HandsOver<Range: KeyRange<Key = u32> + Debug, Value = u32, Alloc = Global> + Drop,
+    S: HandsOver<Range: KeyRange<Key = u32> + Debug, Value = u32, Alloc = Global> + StoreMut + Drop,
     S::Kind: Kind<S::Range, Steps = <S::Range as KeyRange>::Key>,
 {
     let map: Map<S> = Made::made_of(alloc, pairs)?;
@@ -48,7 +48,7 @@ where
 /// Compares the text of how many pairs a map has, of the first and the last of them, and of all.
 fn check_map_again<S>(alloc: Global, map: &Map<S>, text: &str) -> Result<(), Fail>
 where
-    S: Store<Range: KeyRange<Key = u32> + Debug, Value = u32>,
+    S: StoreMut<Range: KeyRange<Key = u32> + Debug, Value = u32>,
     S::Kind: Kind<S::Range, Steps = <S::Range as KeyRange>::Key>,
 {
     let ends = (map.first_range_value(), map.last_range_value());
@@ -58,7 +58,7 @@ where
 /// The same of a set.
 fn check_set<S>(alloc: Global, ranges: &str, text: &str) -> Result<(), Fail>
 where
-    S: HandsOver<Range: KeyRange<Key = u32> + Debug, Value = (), Alloc = Global> + Drop,
+    S: HandsOver<Range: KeyRange<Key = u32> + Debug, Value = (), Alloc = Global> + StoreMut + Drop,
     S::Kind: Kind<S::Range, Steps = <S::Range as KeyRange>::Key>,
 {
     let set: Set<S> = Made::made_of(alloc, ranges)?;
@@ -84,7 +84,7 @@ where
 /// Compares the text of how many ranges a set has, of the first and the last of them, and of all.
 fn check_set_again<S>(alloc: Global, set: &Set<S>, text: &str) -> Result<(), Fail>
 where
-    S: Store<Range: KeyRange<Key = u32> + Debug, Value = ()>,
+    S: StoreMut<Range: KeyRange<Key = u32> + Debug, Value = ()>,
     S::Kind: Kind<S::Range, Steps = <S::Range as KeyRange>::Key>,
 {
     let ends = (set.first(), set.last());

@@ -8,7 +8,7 @@ use rangemap_core::closed::Closed;
 use rangemap_core::half_open::HalfOpen;
 use rangemap_core::key_range::KeyRange;
 use rangemap_core::kind::Kind;
-use rangemap_core::store::Store;
+use rangemap_core::store::StoreMut;
 use rangemap_sorted::SortedVec;
 use rangemap_tree::Tree;
 use serde_json::Value;
@@ -17,7 +17,7 @@ use std::fmt::Debug;
 use std::ops::{Range, RangeInclusive};
 use std::test::Fail;
 
-impl<S: Store<Value = (), Alloc = Global, Range: KeyRange<Key = u32> + Debug> + Drop> InJson
+impl<S: StoreMut<Value = (), Alloc = Global, Range: KeyRange<Key = u32> + Debug> + Drop> InJson
     for Set<S>
 where
     S::Kind: Kind<S::Range, Steps = <S::Range as KeyRange>::Key>,
@@ -34,7 +34,7 @@ where
 /// Compares a table for sets of numbers over a store.
 fn check_sets<S>(alloc: Global, table: &str) -> Result<(), Fail>
 where
-    S: Store<Value = (), Alloc = Global, Range: KeyRange<Key = u32> + Debug> + Drop,
+    S: StoreMut<Value = (), Alloc = Global, Range: KeyRange<Key = u32> + Debug> + Drop,
     S::Kind: Kind<S::Range, Steps = <S::Range as KeyRange>::Key>,
 {
     check_rows::<Set<S>>(alloc, table)

@@ -5,7 +5,7 @@ use rangemap::range_set::Set as SetOver;
 use rangemap::{RangeInclusiveSet, range_inclusive_set};
 use rangemap_chunked::Chunks;
 use rangemap_core::closed::Closed;
-use rangemap_core::store::Store;
+use rangemap_core::store::StoreMut;
 use rangemap_sorted::SortedVec;
 use std::alloc::Global;
 use std::ops::RangeInclusive;
@@ -18,7 +18,7 @@ type Set = RangeInclusiveSet<u32>;
 /// Compares a set of two ranges that a chain extends, a clone made before, and one that a chain makes.
 fn check_made<S>(alloc: Global) -> Result<(), Fail>
 where
-    S: Store<Kind = Closed<u32>, Range = RangeInclusive<u32>, Value = (), Alloc = Global> + Drop,
+    S: StoreMut<Kind = Closed<u32>, Range = RangeInclusive<u32>, Value = (), Alloc = Global> + Drop,
 {
     let mut set: SetOver<S> = SetOver::from(alloc, [0..=4, 5..=8])?;
     let copy = set.clone()?;

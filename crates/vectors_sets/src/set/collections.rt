@@ -5,7 +5,7 @@ use rangemap::range_set::Set as SetOver;
 use rangemap::{RangeSet, range_set};
 use rangemap_chunked::Chunks;
 use rangemap_core::half_open::HalfOpen;
-use rangemap_core::store::Store;
+use rangemap_core::store::StoreMut;
 use rangemap_sorted::SortedVec;
 use std::alloc::Global;
 use std::ops::Range;
@@ -18,7 +18,7 @@ type Set = RangeSet<u32>;
 /// Compares a set of two ranges that a chain extends, a clone made before, and one that a chain makes.
 fn check_made<S>(alloc: Global) -> Result<(), Fail>
 where
-    S: Store<Kind = HalfOpen, Range = Range<u32>, Value = (), Alloc = Global> + Drop,
+    S: StoreMut<Kind = HalfOpen, Range = Range<u32>, Value = (), Alloc = Global> + Drop,
 {
     let mut set: SetOver<S> = SetOver::from(alloc, [0..5, 5..9])?;
     let copy = set.clone()?;

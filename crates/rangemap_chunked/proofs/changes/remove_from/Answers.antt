@@ -1,7 +1,7 @@
 use Rattle.std.proofs.Common.{arith, rules, ◌≡◌, ◌∙◌, ◌<◌, inl, inr, [], List, ap, get_or, length, refl, subst, sym, true, true≢false}
 use Rattle.std.proofs.lemmas.List.{get_or_default}
 use Rattle.std.specs.List.{AllWithin}
-use Rattle.rangemap_core.specs.Ranges.{overlapped}
+use Rattle.rangemap_core.specs.Ranges.{IsCanonOf, erase, overlapped, value_at}
 use Rattle.rangemap_core.proofs.PlaceLemmas.{S, places}
 use Rattle.rangemap_chunked.specs.Chunks.{chunk_by, whole}
 use Rattle.rangemap_chunked.proofs.StoreLemmas.{none_in_chunk}
@@ -56,3 +56,8 @@ returns-clause-fits g c =
           let same = ap (λ (ps : List (List (g.row.R.Denot × g.row.V.Denot))). length (whole ps)) (c.in_ok-change.ensures.stays refl t.0 here).1 in
           omega (arith, after, same, c.requires.len, c.ranges.len.fits)
     ]
+
+pub returns-clause-ok : goal.returns-clause-ok
+returns-clause-ok g c =
+    let k = g.Q.Kind.kind in
+    subst (λ (xs : List (g.row.R.Denot × g.row.V.Denot)). IsCanonOf k g.V.PartialEq.eq (erase k (value_at k (whole c.args.chunks.now.items)) c.args.range) xs) (sym c.settle.ensures.whole) c.in_ok-change.ensures.ok.canon

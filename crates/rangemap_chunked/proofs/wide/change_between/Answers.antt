@@ -2,8 +2,8 @@ use Rattle.std.proofs.Common.{arith, ◌∙◌, ◌+◌, ◌<◌, ◌++◌, [], 
 use Rattle.std.proofs.Math.ListN.{set}
 use Rattle.std.proofs.lemmas.List.{length-take-le}
 use Rattle.std.proofs.lemmas.Result.{on_err_weaker, on_ok_weaker}
-use Rattle.rangemap_core.specs.Ranges.{IsCanonical, IsCanonOf, value_at}
-use Rattle.rangemap_sorted.specs.Changes.{changed}
+use Rattle.rangemap_core.specs.Ranges.{IsCanonical, value_at}
+use Rattle.rangemap_sorted.specs.Changes.{IsChanged}
 use Rattle.rangemap_chunked.proofs.HalvesLemmas.{first_of_halves, first_at, halves_changed, halves_same, last_at}
 use Rattle.rangemap_chunked.proofs.OverLemmas.{set_length}
 use Rattle.rangemap_chunked.proofs.wide.change_between.Goals as goal
@@ -62,9 +62,9 @@ returns-clause-ok g c =
     let k = g.Q.Kind.kind in
     let eq = g.V.PartialEq.eq in
     on_ok_weaker c.change_in.result (λ made.
-    subst (λ (ys : List (g.row.R.Denot × g.row.V.Denot)). IsCanonOf k eq (changed k (value_at k (get_or xs c.args.at [] ++ take 1 (drop c.args.place (get_or xs c.args.last [])))) c.args.range c.args.value) ys) (sym there)
-    (subst (λ (ys : List (g.row.R.Denot × g.row.V.Denot)). IsCanonOf k eq (changed k (value_at k (get_or xs c.args.at [] ++ take 1 (drop c.args.place ys))) c.args.range c.args.value) first) behind
-    (subst (λ (ys : List (g.row.R.Denot × g.row.V.Denot)). IsCanonOf k eq (changed k (value_at k (ys ++ take 1 (drop c.args.place (get_or back 0 [])))) c.args.range c.args.value) first) here made)))
+    subst (λ (ys : List (g.row.R.Denot × g.row.V.Denot)). IsChanged k eq (value_at k (get_or xs c.args.at [] ++ take 1 (drop c.args.place (get_or xs c.args.last [])))) c.args.range c.args.value ys) (sym there)
+    (subst (λ (ys : List (g.row.R.Denot × g.row.V.Denot)). IsChanged k eq (value_at k (get_or xs c.args.at [] ++ take 1 (drop c.args.place ys))) c.args.range c.args.value first) behind
+    (subst (λ (ys : List (g.row.R.Denot × g.row.V.Denot)). IsChanged k eq (value_at k (ys ++ take 1 (drop c.args.place (get_or back 0 [])))) c.args.range c.args.value first) here made)))
     c.change_in.ensures.ok
 
 pub returns-clause-items : goal.returns-clause-items

@@ -2,8 +2,8 @@ use Rattle.std.proofs.Common.{◌∙◌, ◌++◌, [], List, ap, drop, get_or, s
 use Rattle.std.proofs.Math.ListN.{set}
 use Rattle.std.proofs.lemmas.List.{get_or-set_same, get_or_default}
 use Rattle.std.proofs.lemmas.Result.{on_err_weaker, on_ok_weaker}
-use Rattle.rangemap_core.specs.Ranges.{IsCanonOf, value_at}
-use Rattle.rangemap_sorted.specs.Changes.{changed}
+use Rattle.rangemap_core.specs.Ranges.{value_at}
+use Rattle.rangemap_sorted.specs.Changes.{IsChanged}
 use Rattle.rangemap_chunked.proofs.StoreLemmas.{set_same}
 use Rattle.rangemap_chunked.proofs.wide.change_in.Goals as goal
 
@@ -23,7 +23,7 @@ returns-clause-ok g c =
     let first_is = get_or_default front c.args.at c.index-front-at.result [] c.requires.at in
     let last_is = get_or_default back 0 c.index-back-0.result [] c.requires.some in
     on_ok_weaker c.change_with.result (λ made.
-    subst (λ (xs : List (g.row.R.Denot × g.row.V.Denot)). IsCanonOf k eq (changed k (value_at k (get_or front c.args.at [] ++ take 1 (drop c.args.place (get_or back 0 [])))) c.args.range c.args.value) xs) (sym (get_or-set_same front c.args.at new [] c.requires.at))
-    (subst (λ (xs : List (g.row.R.Denot × g.row.V.Denot)). IsCanonOf k eq (changed k (value_at k (get_or front c.args.at [] ++ take 1 (drop c.args.place xs))) c.args.range c.args.value) new) last_is
-    (subst (λ (xs : List (g.row.R.Denot × g.row.V.Denot)). IsCanonOf k eq (changed k (value_at k (xs ++ take 1 (drop c.args.place (get_or back 0 c.index-back-0.result)))) c.args.range c.args.value) new) first_is made)))
+    subst (λ (xs : List (g.row.R.Denot × g.row.V.Denot)). IsChanged k eq (value_at k (get_or front c.args.at [] ++ take 1 (drop c.args.place (get_or back 0 [])))) c.args.range c.args.value xs) (sym (get_or-set_same front c.args.at new [] c.requires.at))
+    (subst (λ (xs : List (g.row.R.Denot × g.row.V.Denot)). IsChanged k eq (value_at k (get_or front c.args.at [] ++ take 1 (drop c.args.place xs))) c.args.range c.args.value new) last_is
+    (subst (λ (xs : List (g.row.R.Denot × g.row.V.Denot)). IsChanged k eq (value_at k (xs ++ take 1 (drop c.args.place (get_or back 0 c.index-back-0.result)))) c.args.range c.args.value new) first_is made)))
     c.change_with.ensures.ok

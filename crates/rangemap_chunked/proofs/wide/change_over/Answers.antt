@@ -2,10 +2,10 @@ use Rattle.std.proofs.Common.{arith, ◌≡◌, ◌∙◌, ◌+◌, ◌-◌, ◌
 use Rattle.std.specs.Option.{IfSome}
 use Rattle.std.proofs.Math.ListN.{set}
 use Rattle.std.proofs.lemmas.List.{get_or_default}
-use Rattle.rangemap_core.specs.Ranges.{IsCanonical, IsCanonOf, IsStorable, value_at}
+use Rattle.rangemap_core.specs.Ranges.{IsCanonical, IsStorable, value_at}
 use Rattle.rangemap_core.proofs.PlaceLemmas.{S}
 use Rattle.rangemap_core.proofs.SearchLemmas.{Every-at}
-use Rattle.rangemap_sorted.specs.Changes.{changed}
+use Rattle.rangemap_sorted.specs.Changes.{IsChanged}
 use Rattle.rangemap_chunked.specs.Chunks.{AreFilled, IsClearBehind, IsLastTouched, IsPastBehind, whole}
 use Rattle.rangemap_chunked.proofs.CutLemmas.{canonical_chunk}
 use Rattle.rangemap_chunked.proofs.OverLemmas.{all_filled, changed_behind, changed_whole, count_less, count_more, kept_front, over_canonical, over_changed, set_length, sums}
@@ -120,7 +120,7 @@ returns-clause-ok g c =
     let whole_is = c.drop_between.ensures.whole ∙ (λ i. whole (take (at + 1) (items_is i)) ++ whole (drop last (items_is i))) ∙ changed_whole xs at last order l new rest in
     let k = g.Q.Kind.kind in
     let eq = g.V.PartialEq.eq in
-    subst (λ (ys : List (g.row.R.Denot × g.row.V.Denot)). IsCanonOf k eq (changed k (value_at k (whole xs)) c.args.range c.args.value) ys) (sym whole_is)
+    subst (λ (ys : List (g.row.R.Denot × g.row.V.Denot)). IsChanged k eq (value_at k (whole xs)) c.args.range c.args.value ys) (sym whole_is)
     (over_changed g.met.Q.Kind.placed g.met.V.Eq.laws xs c.requires.chunked c.args.range stored at last order l place found c.requires.past c.requires.before new c.args.value c.in_ok-change_between.ensures.ok
     (subst (λ n. IsPastBehind (S g.met.Q.Kind.placed eq) xs c.args.range n) next c.requires.behind)
     (subst (λ n. IfSome c.args.value (λ _. IsClearBehind (S g.met.Q.Kind.placed eq) xs c.args.range n)) next c.requires.clear))

@@ -1,9 +1,9 @@
 use Rattle.std.proofs.Common.{◌≡◌, ◌≤◌, ◌+◌, List, ◌∷◌, ◌++◌, ap, arith, length, true}
 use Rattle.std.specs.declared.ops.Range.{Range}
-use Rattle.rangemap_core.specs.Ranges.{half_open, IsCanonOf, override, value_at}
+use Rattle.rangemap_core.specs.Ranges.{half_open, IsCanonOf, IsNewest, override, value_at}
 use Rattle.rangemap_core.proofs.InsertSideLemmas.{on_ok}
 use Rattle.rangemap_tree.specs.Starts.{before, from, recut, piece_list}
-use Rattle.rangemap_tree.proofs.ChangeLemmas.{cut_at, inserted, inserted_length, middle_full, new_at, past_at, piece_length}
+use Rattle.rangemap_tree.proofs.ChangeLemmas.{cut_at, inserted, inserted_is_newest, inserted_length, middle_full, new_at, past_at, piece_length}
 use Rattle.rangemap_tree.proofs.StartLemmas.{turned}
 use Rattle.rangemap_tree.proofs.insert.insert.Goals as goal
 
@@ -69,6 +69,17 @@ returns-clause-ok g c =
     let m = c.joined-middle.result in
     let new : List (Range g.row.K.Denot × g.row.V.Denot) = recut c.in_ok-left.left.cut (before cmp m.start ps) ++ (m, c.args.value) ∷ (piece_list c.in_ok-right.right.piece ++ from cmp m.end ps) in
     on_ok (λ (qs : List (Range g.row.K.Denot × g.row.V.Denot)). IsCanonOf (half_open cmp) eq (override (half_open cmp) (value_at (half_open cmp) ps) c.args.range c.args.value) qs) c.replace.result c.replace.new.self new c.replace.ensures.ok (inserted o eq e ps c.requires.canonical c.args.range c.requires.non_empty c.args.value c.in_ok-left.left.start c.in_ok-right.right.end c.in_ok-left.left.cut c.in_ok-right.right.piece c.in_ok-left.ensures c.in_ok-right.ensures m c.joined-middle.ensures.start c.joined-middle.ensures.end)
+
+pub returns-clause-newest : goal.returns-clause-newest
+returns-clause-newest g c =
+    let o = g.met.K.Ord.total in
+    let cmp = g.K.Ord.cmp in
+    let eq = g.V.PartialEq.eq in
+    let e = g.met.V.Eq.laws in
+    let ps = c.args.pairs.now in
+    let m = c.joined-middle.result in
+    let new : List (Range g.row.K.Denot × g.row.V.Denot) = recut c.in_ok-left.left.cut (before cmp m.start ps) ++ (m, c.args.value) ∷ (piece_list c.in_ok-right.right.piece ++ from cmp m.end ps) in
+    on_ok (λ (qs : List (Range g.row.K.Denot × g.row.V.Denot)). IsNewest (half_open cmp) c.args.range c.args.value qs) c.replace.result c.replace.new.self new c.replace.ensures.ok (inserted_is_newest o eq e ps c.requires.canonical c.args.range c.requires.non_empty c.args.value c.in_ok-left.left.start c.in_ok-right.right.end c.in_ok-left.left.cut c.in_ok-right.right.piece c.in_ok-left.ensures c.in_ok-right.ensures m c.joined-middle.ensures.start c.joined-middle.ensures.end)
 
 pub returns-clause-growth : goal.returns-clause-growth
 returns-clause-growth g c =

@@ -7,7 +7,7 @@ use Rattle.rangemap_unions.proofs.union.join.Given as goal
 abbrev pub invariant-joined : goal.invariant-joined
 invariant-joined g l =
     let places = g.I.Range.KeyRange.places in
-    let target = g.I.Lent.Reference.target in
+    let target = g.I.LentPairs.range in
     let left = g.I.LentPairs.left in
     hulls_from places (target l.fn.first) (target (unwrap_or l.fn.last l.fn.first)) (merged places (ranges (left l.fn.left)) (ranges (left l.fn.right)))
     ≡ hulls_from places (target l.fn.first) (target (unwrap_or l.last l.fn.first)) (merged places (ranges (left l.left)) (ranges (left l.right)))

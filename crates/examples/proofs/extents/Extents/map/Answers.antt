@@ -1,4 +1,7 @@
-use Rattle.std.proofs.Common.{arith, ◌+◌, ◌-◌, ◌%◌, ◌^◌}
+use Rattle.std.proofs.Common.{ap, arith, ◌+◌, ◌-◌, ◌%◌, ◌^◌}
+use Rattle.std.specs.Prelude.{option_map}
+use Rattle.rangemap.proofs.NumberKinds.{closed_unsigned}
+use Rattle.rangemap.proofs.NumberLemmas.{inserted, same_number}
 use Rattle.examples.proofs.ExtentLemmas.{after_either, one_to_one_mapped}
 use Rattle.examples.proofs.RingLemmas.{lies_within}
 use Rattle.examples.specs.Places.{IsOneToOne}
@@ -13,3 +16,8 @@ invariant_of-self c =
           (λ block from to. lies_within c.args.logical c.args.physical more block c.ranges.logical.fits (omega (arith, c.requires.physical_fits, c.requires.some)) (omega (arith, c.new.ensures.start)) (omega (arith, c.new.ensures.end))))
           c.args.self.now.one_to_one c.insert.ensures.ok c.insert.ensures.err;
     }
+
+pub returns-clause-before : goal.returns-clause-before
+returns-clause-before c = λ block ahead.
+    let stored = inserted (closed_unsigned (2 ^ 32)) same_number c.new.result c.in_ok-insert.ensures.ok in
+    ap (option_map (λ shift. (block + shift) % 2 ^ 32)) (stored.before block (omega (arith, ahead, c.ranges.logical.fits)) (omega (arith, ahead, c.new.ensures.start)))

@@ -19,3 +19,7 @@ returns-clause-granted c =
 pub returns-clause-held : goal.returns-clause-held
 returns-clause-held c = λ e at from to.
     (inserted (closed_unsigned (2 ^ 32)) same_number c.new-block.result c.in_ok-insert.ensures.ok).within at (omega (arith, c.ranges.last.fits)) (omega (arith, c.new-block.ensures.start)) (omega (arith, c.new-block.ensures.end))
+
+pub returns-clause-before : goal.returns-clause-before
+returns-clause-before c = λ at ahead.
+    (inserted (closed_unsigned (2 ^ 32)) same_number c.new-block.result c.in_ok-insert.ensures.ok).before at (omega (arith, ahead, c.ranges.first.fits)) (omega (arith, ahead, c.new-block.ensures.start))

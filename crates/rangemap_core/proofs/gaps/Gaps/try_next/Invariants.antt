@@ -4,7 +4,7 @@ use Rattle.rangemap_core.proofs.gaps.Gaps.try_next.Given as goal
 
 abbrev pub invariant-loop-self : goal.invariant-loop-self
 invariant-loop-self g l = record {
-  left : gaps_behind g.Q.Kind.kind g.Q.Kind.end_place g.Q.Kind.part_of (start_behind l.self-inside.outer_range.now (option_map g.I.Lent.Reference.target l.self-inside.last)) l.self-inside.outer_range.now (option_map g.I.Lent.Reference.target l.self-inside.next) (g.I.LentPairs.left l.self-inside.pairs) ≡ l.fn.self;
+  left : gaps_behind g.Q.Kind.kind g.Q.Kind.end_place g.Q.Kind.part_of (start_behind l.self-inside.outer_range.now (option_map g.I.LentPairs.range l.self-inside.last)) l.self-inside.outer_range.now (option_map g.I.LentPairs.range l.self-inside.next) (g.I.LentPairs.left l.self-inside.pairs) ≡ l.fn.self;
   goes_on : l.self-inside.is_done ≡ false;
 }
 

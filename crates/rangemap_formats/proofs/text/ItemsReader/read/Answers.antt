@@ -9,11 +9,11 @@ pub returns : goal.returns
 returns g c =
     let took = g.W.Write.write_str_gives in
     let text = g.T.PairText.text in
-    let pair = (shown g.I.Lent.Reference.target g.I.LentValue.Reference.target) c.in-Some.first in
+    let pair = (shown g.I.LentPairs.range g.I.PairIter.value) c.in-Some.first in
     let others = g.I.LentPairs.left c.next.new.self in
     let taken : g.I.LentPairs.left c.args.pairs ≡ pair ∷ others = rw c.in-Some.is at (g.met.I.PairIter.ends.takes _ _ _ c.next.ensures.steps) in
-    let read : text (c.get-range.result.now, c.get-value.result.now) ≡ text pair = λ i. text (c.get-range.ensures i, c.get-value.ensures i) in
+    let read : text (c.range_of-range.result.now, c.value_of-value.result.now) ≡ text pair = λ i. text (c.range_of-range.ensures i, c.value_of-value.ensures i) in
     rw taken (displays_from took c.args.f.now c.write_others.new.f c.write_others.result (text pair ++? others_text text others) (λ plain ok.
     shows_then took c.args.f.now c.write_pair.new.f c.write_others.new.f (text pair) (others_text text others)
-    (shows_twin took c.args.f.now c.write_pair.new.f (Ok tt) (text (c.get-range.result.now, c.get-value.result.now)) (text pair) read c.in_ok-write_pair.ensures plain refl)
+    (shows_twin took c.args.f.now c.write_pair.new.f (Ok tt) (text (c.range_of-range.result.now, c.value_of-value.result.now)) (text pair) read c.in_ok-write_pair.ensures plain refl)
     (λ p. shows_from took c.write_pair.new.f c.write_others.new.f c.write_others.result (others_text text others) c.write_others.ensures p ok)))

@@ -9,13 +9,13 @@ pairs-init g c = so_far-none g.Q.Kind.kind g.V.PartialEq.eq (g.I.LentPairs.left 
 
 pub append_clone-requires-clause-stored : goal.append_clone-requires-clause-stored
 append_clone-requires-clause-stored g c =
-    let taken : g.I.LentPairs.left c.pairs.rest ≡ (shown g.I.Lent.Reference.target g.I.LentValue.Reference.target) c.in-Some.pair ∷ g.I.LentPairs.left c.next.new.self = rw c.in-Some.is at (g.met.I.PairIter.ends.takes _ _ _ c.next.ensures.steps) in
-    rw c.get-range.ensures
-    (next_stored g.Q.Kind.kind g.V.PartialEq.eq (g.I.LentPairs.left c.args.pairs) (g.I.LentPairs.left c.pairs.rest) c.args.out.now.items c.pairs.out.items ((shown g.I.Lent.Reference.target g.I.LentValue.Reference.target) c.in-Some.pair) (g.I.LentPairs.left c.next.new.self) c.pairs.invariant taken)
+    let taken : g.I.LentPairs.left c.pairs.rest ≡ (shown g.I.LentPairs.range g.I.PairIter.value) c.in-Some.pair ∷ g.I.LentPairs.left c.next.new.self = rw c.in-Some.is at (g.met.I.PairIter.ends.takes _ _ _ c.next.ensures.steps) in
+    rw c.range_of-range.ensures
+    (next_stored g.Q.Kind.kind g.V.PartialEq.eq (g.I.LentPairs.left c.args.pairs) (g.I.LentPairs.left c.pairs.rest) c.args.out.now.items c.pairs.out.items ((shown g.I.LentPairs.range g.I.PairIter.value) c.in-Some.pair) (g.I.LentPairs.left c.next.new.self) c.pairs.invariant taken)
 
 pub pairs-smaller : goal.pairs-smaller
 pairs-smaller g c =
-    let taken : g.I.LentPairs.left c.pairs.rest ≡ (shown g.I.Lent.Reference.target g.I.LentValue.Reference.target) c.in-Some.pair ∷ g.I.LentPairs.left c.next.new.self = rw c.in-Some.is at (g.met.I.PairIter.ends.takes _ _ _ c.next.ensures.steps) in
+    let taken : g.I.LentPairs.left c.pairs.rest ≡ (shown g.I.LentPairs.range g.I.PairIter.value) c.in-Some.pair ∷ g.I.LentPairs.left c.next.new.self = rw c.in-Some.is at (g.met.I.PairIter.ends.takes _ _ _ c.next.ensures.steps) in
     let fewer : length (g.I.LentPairs.left c.next.new.self) < length (g.I.LentPairs.left c.pairs.rest) = omega (arith, ap length taken) in
     fewer
 
@@ -23,11 +23,11 @@ pub pairs-preserved : goal.pairs-preserved
 pairs-preserved g c =
     let k = g.Q.Kind.kind in
     let eq = g.V.PartialEq.eq in
-    let pair = (shown g.I.Lent.Reference.target g.I.LentValue.Reference.target) c.in-Some.pair in
+    let pair = (shown g.I.LentPairs.range g.I.PairIter.value) c.in-Some.pair in
     let taken : g.I.LentPairs.left c.pairs.rest ≡ pair ∷ g.I.LentPairs.left c.next.new.self = rw c.in-Some.is at (g.met.I.PairIter.ends.takes _ _ _ c.next.ensures.steps) in
-    let one : AppendsOne k eq (c.get-range.result.now, c.get-value.result.now) c.pairs.out.items c.append_clone.new.out.items = search rules in
+    let one : AppendsOne k eq (c.range_of-range.result.now, c.value_of-value.result.now) c.pairs.out.items c.append_clone.new.out.items = search rules in
     let same : AppendsOne k eq pair c.pairs.out.items c.append_clone.new.out.items =
-    subst (λ (p : g.row.R.Denot × g.row.V.Denot). AppendsOne k eq p c.pairs.out.items c.append_clone.new.out.items) (λ i. (c.get-range.ensures i, c.get-value.ensures i)) one in
+    subst (λ (p : g.row.R.Denot × g.row.V.Denot). AppendsOne k eq p c.pairs.out.items c.append_clone.new.out.items) (λ i. (c.range_of-range.ensures i, c.value_of-value.ensures i)) one in
     so_far-next k eq (g.I.LentPairs.left c.args.pairs) (g.I.LentPairs.left c.pairs.rest) c.args.out.now.items c.pairs.out.items c.append_clone.new.out.items pair (g.I.LentPairs.left c.next.new.self) c.pairs.invariant taken same
 
 pub returns : goal.returns

@@ -10,20 +10,20 @@ pairs-init g c = rw c.new-entries.ensures.items (so_far-none g.S.Kind.Kind.kind 
 
 pub returns-in_err-entry : goal.returns-in_err-entry
 returns-in_err-entry g c =
-    let taken : g.I.LentPairs.left c.pairs.rest ≡ (shown g.I.Lent.Reference.target g.I.LentValue.Reference.target) c.in-Some.pair ∷ g.I.LentPairs.left c.next.new.self = rw c.in-Some.is at (g.met.I.PairIter.ends.takes _ _ _ c.next.ensures.steps) in
+    let taken : g.I.LentPairs.left c.pairs.rest ≡ (shown g.I.LentPairs.range g.I.PairIter.value) c.in-Some.pair ∷ g.I.LentPairs.left c.next.new.self = rw c.in-Some.is at (g.met.I.PairIter.ends.takes _ _ _ c.next.ensures.steps) in
     let left = err_from_is_err_and c.from_residual.result c.from_residual.ensures.1 in
     rw (left.1, left.2) (
       tt,
       so_far-refused g.S.Kind.Kind.kind (g.W.WritesParts.writer c.args.state.now.1) (g.I.LentPairs.left c.args.pairs) (g.I.LentPairs.left c.pairs.rest) c.pairs.entries.items c.pairs.invariant
-          ((shown g.I.Lent.Reference.target g.I.LentValue.Reference.target) c.in-Some.pair) (g.I.LentPairs.left c.next.new.self) taken c.in_err-entry.field-0.0 c.in_err-entry.ensures.err,
+          ((shown g.I.LentPairs.range g.I.PairIter.value) c.in-Some.pair) (g.I.LentPairs.left c.next.new.self) taken c.in_err-entry.field-0.0 c.in_err-entry.ensures.err,
     )
 
 pub pairs-preserved : goal.pairs-preserved
 pairs-preserved g c =
-    let taken : g.I.LentPairs.left c.pairs.rest ≡ (shown g.I.Lent.Reference.target g.I.LentValue.Reference.target) c.in-Some.pair ∷ g.I.LentPairs.left c.next.new.self = rw c.in-Some.is at (g.met.I.PairIter.ends.takes _ _ _ c.next.ensures.steps) in
+    let taken : g.I.LentPairs.left c.pairs.rest ≡ (shown g.I.LentPairs.range g.I.PairIter.value) c.in-Some.pair ∷ g.I.LentPairs.left c.next.new.self = rw c.in-Some.is at (g.met.I.PairIter.ends.takes _ _ _ c.next.ensures.steps) in
     rw c.in_ok-push.ensures.items
     (so_far-next g.S.Kind.Kind.kind (g.W.WritesParts.writer c.args.state.now.1) (g.I.LentPairs.left c.args.pairs) (g.I.LentPairs.left c.pairs.rest) c.pairs.entries.items c.pairs.invariant
-    ((shown g.I.Lent.Reference.target g.I.LentValue.Reference.target) c.in-Some.pair) (g.I.LentPairs.left c.next.new.self) taken c.in_ok-entry.entry c.in_ok-entry.ensures.ok)
+    ((shown g.I.LentPairs.range g.I.PairIter.value) c.in-Some.pair) (g.I.LentPairs.left c.next.new.self) taken c.in_ok-entry.entry c.in_ok-entry.ensures.ok)
 
 pub returns : goal.returns
 returns g c =

@@ -9,7 +9,7 @@ use Rattle.rangemap_core.proofs.StoredLemmas.{all_storable}
 use Rattle.rangemap_chunked.specs.Chunks.{whole}
 use Rattle.rangemap_chunked.proofs.CutLemmas.{canonical_chunk}
 use Rattle.rangemap_chunked.proofs.CloneLemmas.{copied_more, every_more, same_filled, same_length}
-use Rattle.rangemap_chunked.proofs.chunks.ChunksStore.copy.Goals as goal
+use Rattle.rangemap_chunked.proofs.chunks.ChunksStoreMut.copy.Goals as goal
 
 pub copy-requires-clause-canonical : goal.copy-requires-clause-canonical
 copy-requires-clause-canonical g c =

@@ -3,7 +3,7 @@ use Rattle.rangemap_core.specs.engine.EndpointKinds.{half_open_placed}
 use Rattle.rangemap_core.specs.Ranges.{half_open, IsCanonOf, same_pairs, value_at}
 use Rattle.rangemap_core.proofs.EqualListLemmas.{copy_is_canon}
 use Rattle.rangemap_tree.proofs.CloneLemmas.{cloned_same, cloned_storable}
-use Rattle.rangemap_tree.proofs.tree.TreeStore.copy.Goals as goal
+use Rattle.rangemap_tree.proofs.tree.TreeStoreMut.copy.Goals as goal
 
 same : (g : _) (c : goal.In_ok-pairs g) → same_pairs (half_open g.K.Ord.cmp) g.V.PartialEq.eq c.self.inside.pairs c.in_ok-pairs.pairs ≡ true
 same g c = cloned_same g.K.Clone.is_clone g.V.Clone.is_clone g.met.K.Ord.total c.requires.faithful_keys g.V.PartialEq.eq c.requires.faithful_values c.self.inside.pairs c.in_ok-pairs.pairs c.in_ok-pairs.ensures

@@ -5,7 +5,7 @@ use Rattle.rangemap_core.specs.Ranges.{IsCanonOf, value_at}
 use Rattle.rangemap_core.proofs.PlaceLemmas.{storable_here}
 use Rattle.rangemap_core.proofs.EqualListLemmas.{copy_is_canon, same_pairs-last}
 use Rattle.rangemap_core.proofs.ListLemmas.{Every-append}
-use Rattle.rangemap_sorted.proofs.sorted_vec.SortedVecStore.copy.Goals as goal
+use Rattle.rangemap_sorted.proofs.sorted_vec.SortedVecStoreMut.copy.Goals as goal
 
 pub clone_pair-requires-clause-stored : goal.clone_pair-requires-clause-stored
 clone_pair-requires-clause-stored g c =

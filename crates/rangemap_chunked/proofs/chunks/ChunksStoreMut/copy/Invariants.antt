@@ -2,7 +2,7 @@ use Rattle.std.proofs.Common.{◌≡◌, ◌≤◌, true, length, take, vec_len,
 use Rattle.rangemap_core.specs.Ranges.{IsStorable, same_pairs}
 use Rattle.rangemap_core.specs.engine.Stretch.{Every}
 use Rattle.rangemap_chunked.specs.Chunks.{AreFilled, AreChunks, whole}
-use Rattle.rangemap_chunked.proofs.chunks.ChunksStore.copy.Given as goal
+use Rattle.rangemap_chunked.proofs.chunks.ChunksStoreMut.copy.Given as goal
 
 abbrev pub invariant-loop-chunk : goal.invariant-loop-chunk
 invariant-loop-chunk g l = record {

@@ -1,7 +1,7 @@
 use Rattle.std.proofs.Common.{◌≡◌, ◌≤◌, true, length, take, vec_len, vec_capacity}
 use Rattle.rangemap_core.specs.Ranges.{IsCanonical, IsStorable, same_pairs}
 use Rattle.rangemap_core.specs.engine.Stretch.{Every}
-use Rattle.rangemap_sorted.proofs.sorted_vec.SortedVecStore.copy.Given as goal
+use Rattle.rangemap_sorted.proofs.sorted_vec.SortedVecStoreMut.copy.Given as goal
 
 abbrev pub invariant-loop-pair : goal.invariant-loop-pair
 invariant-loop-pair g l = record {

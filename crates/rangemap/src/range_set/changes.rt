@@ -1,0 +1,78 @@
+//! Adding keys to a set, and taking them out.
+ghost use Rattle.std.specs.Prelude.{◌≡◌, ◌≤◌, ◌+◌, [], ◌∷◌, length, IsOk, OnOk, OnErr};
+ghost use Rattle.rangemap.specs.Clones.{KeysCloneFaithfully};
+ghost use Rattle.rangemap.specs.Sets.{Adds, TakesOut, met};
+
+use super::Set;
+use rangemap_core::key_range::KeyRange;
+use rangemap_core::kind::Kind;
+use rangemap_core::store::StoreMut;
+use std::alloc::AllocError;
+
+impl<S: StoreMut<Value = ()>> Set<S> {
+    /// Adds every key of `range`. Stored ranges that it overlaps or touches become one with it.
+    ///
+    /// # Requires
+    ///
+    /// The range is not empty; a closed one was not iterated to its end either. A clone of a key
+    /// ties with its original.
+    ///
+    /// # Errors
+    ///
+    /// `Err` says that memory or a clone was refused. The set is then as it was, and the range is
+    /// dropped.
+    ///
+    /// # Examples
+    ///
+    /// ```text
+    /// {0..3, 6..9}, insert 3..7: {0..9}
+    /// {0..=2, 6..=8}, insert 3..=6: {0..=8}
+    /// ```
+    pub fn insert(&mut self, range: S::Range) -> Result<(), AllocError>
+        requires non_empty { S.Range.has_key range }
+        requires not_exhausted { S.Range.is_fresh range }
+        requires faithful_keys { KeysCloneFaithfully S.Range.Key.is_clone S.Range.Key.cmp }
+        ensures ok { OnOk result (Adds S.Kind.kind self.old (range ∷ []) self.new) }
+        ensures err { OnErr result (self.new ≡ self.old) }
+        ensures growth { OnOk result (length self.new ≤ length self.old + 1) }
+    {
+        self.stored.insert(range, ())
+    }
+
+    /// Takes every key of `range` out. A stored range that it covers in part is cut, and one that
+    /// reaches past both its ends becomes two.
+    ///
+    /// # Requires
+    ///
+    /// As `insert`.
+    ///
+    /// # Errors
+    ///
+    /// As `insert`. Where no stored range overlaps the given one, nothing is refused and nothing
+    /// changes.
+    ///
+    /// # Examples
+    ///
+    /// ```text
+    /// {0..10}, remove 3..6: {0..3, 6..10}
+    /// {0..=9}, remove 3..=5: {0..=2, 6..=9}
+    /// ```
+    pub fn remove(&mut self, range: S::Range) -> Result<(), AllocError>
+        requires non_empty { S.Range.has_key range }
+        requires not_exhausted { S.Range.is_fresh range }
+        requires faithful_keys { KeysCloneFaithfully S.Range.Key.is_clone S.Range.Key.cmp }
+        ensures ok { OnOk result (TakesOut S.Kind.kind self.old range self.new) }
+        ensures err { OnErr result (self.new ≡ self.old) }
+        ensures growth { OnOk result (length self.new ≤ length self.old + 1) }
+        ensures meets_nothing { met S.Kind.kind self.old range ≡ [] → IsOk result × (self.new ≡ self.old) }
+    {
+        self.stored.remove(range)
+    }
+
+    /// Takes every key out, and keeps the memory for later inserts.
+    pub fn clear(&mut self)
+        ensures { self.new ≡ [] }
+    {
+        self.stored.clear();
+    }
+}
