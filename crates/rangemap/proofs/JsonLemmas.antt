@@ -1,8 +1,8 @@
 -- For callers whose functions for keys and values are closures: what is said of these is said of the JSON form too.
-use Rattle.std.proofs.Common.{◌≡◌, ◌∷◌, [], Bool, List, Result}
+use Rattle.std.proofs.Common.{◌∷◌, [], Bool, List, Result}
 use Rattle.std.specs.List.{AllZip}
 use Rattle.serde_json.specs.declared.value.Value.{Value}
-use Rattle.rangemap_formats.specs.Json.{IsForm, IsInserted, IsRead, IsReading, IsWritten, map_reader, map_writer, set_reader, set_writer}
+use Rattle.rangemap_formats.specs.Json.{IsForm, IsRead, IsReading, IsWritten, map_reader, map_writer}
 use Rattle.rangemap_core.specs.Ranges.{RangeKind}
 use Rattle.rangemap_formats.specs.declared.json.Form.{Form}
 

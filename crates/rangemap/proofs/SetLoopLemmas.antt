@@ -1,9 +1,8 @@
 -- For callers that loop over the ranges of a set: what each of them is.
-use Rattle.std.proofs.Common.{◌≡◌, ◌∙◌, ◌++◌, ◌∷◌, ap, cond, map, subst, sym, refl, true, false, Bool, List, [], Option, Some}
+use Rattle.std.proofs.Common.{◌≡◌, ◌∙◌, ◌++◌, ◌∷◌, ap, map, subst, sym, true, List, Option, Some}
 use Rattle.std.specs.Borrow.{Bor}
-use Rattle.std.specs.List.{AllByRecursion, find}
+use Rattle.std.specs.List.{AllByRecursion}
 use Rattle.std.specs.Map.Iter.{deref}
-use Rattle.std.specs.Option.{is_some}
 use Rattle.std.proofs.lemmas.Map.Iter.{rest_more, rest_so_far}
 use Rattle.rangemap_core.specs.Ranges.{RangeKind, covers}
 use Rattle.rangemap_core.specs.Sets.{IsCanonicalSet}

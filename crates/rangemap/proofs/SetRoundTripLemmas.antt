@@ -34,13 +34,13 @@ module _ {K X : Type 0} (k : RangeKind K X) where
   pub made_again : (it list ranges again : List X) → it ≡ list → Drains (TakesFirst (λ r. r)) it ranges → IsCanonOfPoints k (covers k ranges) again → IsCanonOfPoints k (covers k list) again
   made_again it list ranges again is ran made = subst (λ rs. IsCanonOfPoints k (covers k rs) again) (sym (drained it ranges ran) ∙ is) made
 
-  -- an iterator that owns the ranges of a set
-  pub owned : (it list : List X) → it ≡ list → AreNonEmptyRanges k list → GivesNonEmptyRanges k (TakesFirst (λ r. r)) it
-  owned it list is a p seen from = each p k.IsNonEmpty (everywhere p.items (front p.items p.from (took p).0 (took p).1 (subst (AreNonEmptyRanges k) (sym (from ∙ is)) a)))
+  -- an iterator that owns the ranges of a set, and gives what it shows
+  pub owned : (shows : X → X) → ((r : X) → shows r ≡ r) → (it list : List X) → it ≡ list → AreNonEmptyRanges k list → GivesNonEmptyRanges k (TakesFirst shows) it
+  owned shows same it list is a p seen from = each p k.IsNonEmpty (everywhere p.items (front p.items p.from (took p).0 (took p).1 (subst (AreNonEmptyRanges k) (sym (from ∙ is)) a)))
     where
-      front : (rs s t : List X) → Yields (TakesFirst (λ r. r)) s rs t → AreNonEmptyRanges k s → AreNonEmptyRanges k rs
+      front : (rs s t : List X) → Yields (TakesFirst shows) s rs t → AreNonEmptyRanges k s → AreNonEmptyRanges k rs
       front [] s t y b = tt
-      front (r ∷ rs) s t ran b = let c = subst (AreNonEmptyRanges k) ran.1 b in (c.0, front rs ran.0 t ran.2 c.1)
+      front (r ∷ rs) s t ran b = let c = subst (AreNonEmptyRanges k) (ran.1 ∙ ap (λ x. x ∷ ran.0) (same r)) b in (c.0, front rs ran.0 t ran.2 c.1)
 
       everywhere : (rs : List X) → AreNonEmptyRanges k rs → (i : ℕ) → MatchOption (slice_get rs i) (Unit {0}) k.IsNonEmpty
       everywhere [] b i = tt

@@ -7,15 +7,16 @@
 
 use crate::range_set::{Set, calls as set_calls};
 use rangemap_chunked::chunks::{Chunks, SIZE};
-use rangemap_chunked::{into_iter, iter, overlapping};
+use rangemap_chunked::{into_iter, iter};
 use rangemap_core::closed::Closed;
 use rangemap_core::gaps;
 use rangemap_core::half_open::HalfOpen;
+use rangemap_core::pair_iter::{OverlappingPairs, PairIter};
 pub use rangemap_maps::range_map::Map;
 use rangemap_maps::range_map::calls as map_calls;
 use rangemap_replay::calls;
 pub use rangemap_replay::replay::{replay, replay as replay_with_step_fns};
-use rangemap_unions::{self as unions, IntoRanges, Ranges};
+use rangemap_unions::{self as unions, OverlappingRanges, Ranges};
 use std::alloc::Global;
 use std::ops::{Range, RangeInclusive};
 
@@ -48,29 +49,33 @@ pub type RangeInclusiveSet<T, StepFnsT = T, A = Global> = Set<
 >;
 
 /// The pairs of a map over half-open ranges, in order and from both ends.
-pub type Iter<'a, K, V, A = Global> = iter::Iter<'a, Range<K>, V, A>;
+pub type Iter<'a, K, V, A = Global> = PairIter<iter::Iter<'a, Range<K>, V, A>>;
 
 /// The pairs that such a map hands over, in order and from both ends.
-pub type IntoIter<K, V, A = Global> = into_iter::IntoIter<Range<K>, V, A>;
+pub type IntoIter<K, V, A = Global> = PairIter<into_iter::IntoIter<Range<K>, V, A>>;
 
 /// The pairs of such a map that overlap a range, in order and from both ends.
-pub type Overlapping<'a, K, V, A = Global> = overlapping::Overlapping<'a, Range<K>, V, A>;
+pub type Overlapping<'a, K, V, A = Global> = OverlappingPairs<iter::Iter<'a, Range<K>, V, A>>;
 
 /// The parts of a range that such a map does not cover, in order.
-pub type Gaps<'a, K, V, A = Global> = gaps::Gaps<'a, HalfOpen, Range<K>, Overlapping<'a, K, V, A>>;
+pub type Gaps<'a, K, V, A = Global> = gaps::Gaps<
+    'a,
+    HalfOpen,
+    Range<K>,
+    iter::Iter<'a, Range<K>, V, A>,
+>;
 
 /// The pairs of a map over closed ranges, in order and from both ends.
-pub type InclusiveIter<'a, K, V, A = Global> = iter::Iter<'a, RangeInclusive<K>, V, A>;
+pub type InclusiveIter<'a, K, V, A = Global> = PairIter<iter::Iter<'a, RangeInclusive<K>, V, A>>;
 
 /// The pairs that such a map hands over, in order and from both ends.
-pub type InclusiveIntoIter<K, V, A = Global> = into_iter::IntoIter<RangeInclusive<K>, V, A>;
+pub type InclusiveIntoIter<K, V, A = Global> = PairIter<
+    into_iter::IntoIter<RangeInclusive<K>, V, A>,
+>;
 
 /// The pairs of such a map that overlap a range, in order and from both ends.
-pub type InclusiveOverlapping<'a, K, V, A = Global> = overlapping::Overlapping<
-    'a,
-    RangeInclusive<K>,
-    V,
-    A,
+pub type InclusiveOverlapping<'a, K, V, A = Global> = OverlappingPairs<
+    iter::Iter<'a, RangeInclusive<K>, V, A>,
 >;
 
 /// The parts of a range that such a map does not cover, in order.
@@ -78,45 +83,51 @@ pub type InclusiveGaps<'a, K, V, StepFnsT = K, A = Global> = gaps::Gaps<
     'a,
     Closed<StepFnsT>,
     RangeInclusive<K>,
-    InclusiveOverlapping<'a, K, V, A>,
+    iter::Iter<'a, RangeInclusive<K>, V, A>,
 >;
 
 /// The ranges of a set over half-open ranges, in order and from both ends.
-pub type SetIter<'a, T, A = Global> = Ranges<Iter<'a, T, (), A>>;
+pub type SetIter<'a, T, A = Global> = Ranges<iter::Iter<'a, Range<T>, (), A>>;
 
 /// The ranges that such a set hands over, in order and from both ends.
-pub type SetIntoIter<T, A = Global> = IntoRanges<IntoIter<T, (), A>>;
+pub type SetIntoIter<T, A = Global> = Ranges<into_iter::IntoIter<Range<T>, (), A>>;
 
 /// The ranges of such a set that overlap a range, in order and from both ends.
-pub type SetOverlapping<'a, T, A = Global> = Ranges<Overlapping<'a, T, (), A>>;
+pub type SetOverlapping<'a, T, A = Global> = OverlappingRanges<iter::Iter<'a, Range<T>, (), A>>;
 
 /// The parts of a range that such a set does not cover, in order.
 pub type SetGaps<'a, T, A = Global> = Gaps<'a, T, (), A>;
 
 /// The ranges of two such sets, joined where they overlap, in order.
-pub type Union<'a, T, A = Global> = unions::Union<Iter<'a, T, (), A>>;
+pub type Union<'a, T, A = Global> = unions::Union<iter::Iter<'a, Range<T>, (), A>>;
 
 /// The parts that two such sets have in common, in order.
-pub type Intersection<'a, T, A = Global> = unions::Intersection<Iter<'a, T, (), A>>;
+pub type Intersection<'a, T, A = Global> = unions::Intersection<iter::Iter<'a, Range<T>, (), A>>;
 
 /// The ranges of a set over closed ranges, in order and from both ends.
-pub type InclusiveSetIter<'a, T, A = Global> = Ranges<InclusiveIter<'a, T, (), A>>;
+pub type InclusiveSetIter<'a, T, A = Global> = Ranges<iter::Iter<'a, RangeInclusive<T>, (), A>>;
 
 /// The ranges that such a set hands over, in order and from both ends.
-pub type InclusiveSetIntoIter<T, A = Global> = IntoRanges<InclusiveIntoIter<T, (), A>>;
+pub type InclusiveSetIntoIter<T, A = Global> = Ranges<
+    into_iter::IntoIter<RangeInclusive<T>, (), A>,
+>;
 
 /// The ranges of such a set that overlap a range, in order and from both ends.
-pub type InclusiveSetOverlapping<'a, T, A = Global> = Ranges<InclusiveOverlapping<'a, T, (), A>>;
+pub type InclusiveSetOverlapping<'a, T, A = Global> = OverlappingRanges<
+    iter::Iter<'a, RangeInclusive<T>, (), A>,
+>;
 
 /// The parts of a range that such a set does not cover, in order.
 pub type InclusiveSetGaps<'a, T, StepFnsT = T, A = Global> = InclusiveGaps<'a, T, (), StepFnsT, A>;
 
 /// The ranges of two such sets, joined where they overlap, in order.
-pub type InclusiveUnion<'a, T, A = Global> = unions::Union<InclusiveIter<'a, T, (), A>>;
+pub type InclusiveUnion<'a, T, A = Global> = unions::Union<
+    iter::Iter<'a, RangeInclusive<T>, (), A>,
+>;
 
 /// The parts that two such sets have in common, in order.
 pub type InclusiveIntersection<'a, T, A = Global> = unions::Intersection<
-    InclusiveIter<'a, T, (), A>,
+    iter::Iter<'a, RangeInclusive<T>, (), A>,
 >;
 
 /// A call that makes a map over half-open ranges, or changes the one at a place of a list.

@@ -2,13 +2,15 @@
 
 use rangemap_core::closed::Closed;
 use rangemap_core::gaps;
+use rangemap_core::pair_iter::{OverlappingPairs, PairIter};
 pub use rangemap_maps::range_map::Map;
 use rangemap_maps::range_map::calls as map_calls;
 use rangemap_replay::calls;
 pub use rangemap_replay::replay::{replay, replay as replay_with_step_fns};
-use rangemap_sorted::{SortedVec, into_iter, iter, overlapping};
+use rangemap_sorted::{SortedVec, overlapping};
 use std::alloc::Global;
 use std::ops::RangeInclusive;
+use std::{slice, vec};
 
 /// A map of disjoint closed ranges, `a..=b`, to values, which joins ranges that touch and have equal
 /// values: those that touch have no key between. `StepFnsT` is the type whose steps tell that,
@@ -66,21 +68,23 @@ pub type RangeInclusiveMap<K, V, StepFnsT = K, A = Global> = Map<
 >;
 
 /// The pairs of a map, in order and from both ends.
-pub type Iter<'a, K, V> = iter::Iter<'a, RangeInclusive<K>, V>;
+pub type Iter<'a, K, V> = PairIter<slice::Iter<'a, (RangeInclusive<K>, V)>>;
 
 /// The pairs that a map hands over, in order and from both ends.
-pub type IntoIter<K, V, A = Global> = into_iter::IntoIter<RangeInclusive<K>, V, A>;
+pub type IntoIter<K, V, A = Global> = PairIter<vec::IntoIter<(RangeInclusive<K>, V), A>>;
 
 /// The pairs of a map that overlap a range, in order and from both ends. The first `next_back`
 /// searches for the end, in *O*(log *n*).
-pub type Overlapping<'a, K, V> = overlapping::Overlapping<'a, RangeInclusive<K>, V>;
+pub type Overlapping<'a, K, V> = OverlappingPairs<
+    overlapping::Overlapping<'a, RangeInclusive<K>, V>,
+>;
 
 /// The parts of a range that a map does not cover, in order.
 pub type Gaps<'a, K, V, StepFnsT = K> = gaps::Gaps<
     'a,
     Closed<StepFnsT>,
     RangeInclusive<K>,
-    Overlapping<'a, K, V>,
+    overlapping::Overlapping<'a, RangeInclusive<K>, V>,
 >;
 
 /// A call that makes a map or changes the one at a place of a list.

@@ -6,10 +6,11 @@ use rangemap_core::closed::Closed;
 use rangemap_core::gaps;
 use rangemap_replay::calls;
 pub use rangemap_replay::replay::{replay, replay as replay_with_step_fns};
-use rangemap_sorted::{SortedVec, into_iter, iter, overlapping};
-use rangemap_unions::{self as unions, IntoRanges, Ranges};
+use rangemap_sorted::{SortedVec, overlapping};
+use rangemap_unions::{self as unions, OverlappingRanges, Ranges};
 use std::alloc::Global;
 use std::ops::RangeInclusive;
+use std::{slice, vec};
 
 /// A set of keys in disjoint closed ranges, `a..=b`, which joins ranges that overlap or touch: those
 /// that touch have no key between. `StepFnsT` is the type whose steps tell that, mostly `T` itself.
@@ -65,14 +66,16 @@ pub type RangeInclusiveSet<T, StepFnsT = T, A = Global> = Set<
 >;
 
 /// The ranges of a set, in order and from both ends.
-pub type Iter<'a, T> = Ranges<iter::Iter<'a, RangeInclusive<T>, ()>>;
+pub type Iter<'a, T> = Ranges<slice::Iter<'a, (RangeInclusive<T>, ())>>;
 
 /// The ranges that a set hands over, in order and from both ends.
-pub type IntoIter<T, A = Global> = IntoRanges<into_iter::IntoIter<RangeInclusive<T>, (), A>>;
+pub type IntoIter<T, A = Global> = Ranges<vec::IntoIter<(RangeInclusive<T>, ()), A>>;
 
 /// The ranges of a set that overlap a range, in order and from both ends. The first `next_back`
 /// searches for the end, in *O*(log *n*).
-pub type Overlapping<'a, T> = Ranges<overlapping::Overlapping<'a, RangeInclusive<T>, ()>>;
+pub type Overlapping<'a, T> = OverlappingRanges<
+    overlapping::Overlapping<'a, RangeInclusive<T>, ()>,
+>;
 
 /// The parts of a range that a set does not cover, in order.
 pub type Gaps<'a, T, StepFnsT = T> = gaps::Gaps<
@@ -86,14 +89,14 @@ pub type Gaps<'a, T, StepFnsT = T> = gaps::Gaps<
 ///
 /// `Union::new` knows no steps, and takes every value of the type for a key: by the steps of a set
 /// its items are told by the set's `union`, and by `laws::sets::closed_operations`.
-pub type Union<'a, T> = unions::Union<iter::Iter<'a, RangeInclusive<T>, ()>>;
+pub type Union<'a, T> = unions::Union<slice::Iter<'a, (RangeInclusive<T>, ())>>;
 
 /// The parts that two sets have in common, in order.
 ///
 /// `Intersection::new` knows no steps, and takes every value of the type for a key: by the steps of
 /// a set its items are told by the set's `intersection`, by `&`, and by
 /// `laws::sets::closed_operations`.
-pub type Intersection<'a, T> = unions::Intersection<iter::Iter<'a, RangeInclusive<T>, ()>>;
+pub type Intersection<'a, T> = unions::Intersection<slice::Iter<'a, (RangeInclusive<T>, ())>>;
 
 /// A call that makes a set or changes the one at a place of a list.
 pub type Call<T, A = Global> = SetCall<RangeInclusive<T>, A>;

@@ -2,13 +2,15 @@
 
 use rangemap_core::gaps;
 use rangemap_core::half_open::HalfOpen;
+use rangemap_core::pair_iter::{OverlappingPairs, PairIter};
 pub use rangemap_maps::range_map::Map;
 use rangemap_maps::range_map::calls as map_calls;
 use rangemap_replay::calls;
 pub use rangemap_replay::replay::replay;
-use rangemap_sorted::{SortedVec, into_iter, iter, overlapping};
+use rangemap_sorted::{SortedVec, overlapping};
 use std::alloc::Global;
 use std::ops::Range;
+use std::{slice, vec};
 
 /// A map of disjoint half-open ranges, `a..b`, to values, which joins ranges that touch and have
 /// equal values. It keeps them in one sorted vector.
@@ -55,17 +57,22 @@ use std::ops::Range;
 pub type RangeMap<K, V, A = Global> = Map<SortedVec<HalfOpen, Range<K>, V, A>>;
 
 /// The pairs of a map, in order and from both ends.
-pub type Iter<'a, K, V> = iter::Iter<'a, Range<K>, V>;
+pub type Iter<'a, K, V> = PairIter<slice::Iter<'a, (Range<K>, V)>>;
 
 /// The pairs that a map hands over, in order and from both ends.
-pub type IntoIter<K, V, A = Global> = into_iter::IntoIter<Range<K>, V, A>;
+pub type IntoIter<K, V, A = Global> = PairIter<vec::IntoIter<(Range<K>, V), A>>;
 
 /// The pairs of a map that overlap a range, in order and from both ends. The first `next_back`
 /// searches for the end, in *O*(log *n*).
-pub type Overlapping<'a, K, V> = overlapping::Overlapping<'a, Range<K>, V>;
+pub type Overlapping<'a, K, V> = OverlappingPairs<overlapping::Overlapping<'a, Range<K>, V>>;
 
 /// The parts of a range that a map does not cover, in order.
-pub type Gaps<'a, K, V> = gaps::Gaps<'a, HalfOpen, Range<K>, Overlapping<'a, K, V>>;
+pub type Gaps<'a, K, V> = gaps::Gaps<
+    'a,
+    HalfOpen,
+    Range<K>,
+    overlapping::Overlapping<'a, Range<K>, V>,
+>;
 
 /// A call that makes a map or changes the one at a place of a list.
 pub type Call<K, V, A = Global> = map_calls::Call<Range<K>, V, A>;

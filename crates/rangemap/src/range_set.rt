@@ -1,16 +1,15 @@
 //! The set, over any store.
 ghost use Rattle.std.specs.Prelude.{◌≡◌, ◌-◌, [], length, slice_get, nat_eq, nat_lt, IfSome};
-ghost use Rattle.std.specs.Option.{option_copied};
+ghost use Rattle.std.specs.Option.{option_copied, option_map};
 ghost use Rattle.rangemap.specs.Ranges.{AreGaps, covers};
 ghost use Rattle.rangemap.specs.Sets.{IsCanonicalSet, met, range_at};
 
 use rangemap_core::gaps::{Gaps, gaps_of};
 use rangemap_core::key_range::KeyRange;
 use rangemap_core::kind::Kind;
-use rangemap_core::pair_iter::PairIter;
 use rangemap_core::store::{Lends, Store, StoreMut};
 use rangemap_maps::readers::IsAny;
-use rangemap_unions::Ranges;
+use rangemap_unions::{OverlappingRanges, Ranges};
 use std::marker::{Model, PhantomData};
 
 pub mod calls;
@@ -115,10 +114,7 @@ impl<S: Store<Value = ()>> Set<S> {
         ensures canonical { IsCanonicalSet S.Kind.kind self.now }
     {
         self.stored.known();
-        match self.stored.covering(value) {
-            Some((range, _)) => Some(range),
-            None => None,
-        }
+        range_of(self.stored.covering(value))
     }
 
     /// Returns whether a stored range has the key.
@@ -135,10 +131,7 @@ impl<S: Store<Value = ()>> Set<S> {
         ensures non_empty { IfSome result (λ range. S.Kind.kind.IsNonEmpty range.now) }
     {
         self.stored.known();
-        match self.stored.first() {
-            Some((range, _)) => Some(range),
-            None => None,
-        }
+        range_of(self.stored.first())
     }
 
     /// Returns the last stored range, if there is one.
@@ -148,10 +141,7 @@ impl<S: Store<Value = ()>> Set<S> {
         ensures non_empty { IfSome result (λ range. S.Kind.kind.IsNonEmpty range.now) }
     {
         self.stored.known();
-        match self.stored.last() {
-            Some((range, _)) => Some(range),
-            None => None,
-        }
+        range_of(self.stored.last())
     }
 
     /// Returns whether `overlapping` has an item for the range.
@@ -175,7 +165,7 @@ where
         ensures canonical { IsCanonicalSet S.Kind.kind self.now }
     {
         self.stored.known();
-        Ranges::over(self.stored.iter())
+        Ranges::over(self.stored.iter(), self.stored.len())
     }
 
     /// Returns the stored ranges that end after the start of `range` and start before its end, and
@@ -183,20 +173,14 @@ where
     ///
     /// Nothing is asked of `range`: an empty or reversed one whose ends lie inside a stored range
     /// gives that one.
-    pub fn overlapping(&'a self, range: &'a S::Range) -> Ranges<S::Overlapping>
+    pub fn overlapping(&'a self, range: &'a S::Range) -> OverlappingRanges<S::Overlapping>
         ensures met { result ≡ met S.Kind.kind self.now range.now }
         ensures canonical { IsCanonicalSet S.Kind.kind result }
     {
         self.stored.known();
-        Ranges::over(self.stored.overlapping(range))
+        OverlappingRanges::over(self.stored.overlapping(range))
     }
-}
 
-impl<'a, S: Lends<'a, Overlapping: PairIter> + Store<Value = ()>> Set<S>
-where
-    S::Range: 'a,
-    S::Value: 'a,
-{
     /// Returns the parts of `outer_range` that no stored range covers, in order. Nothing is asked
     /// of `outer_range`; an empty or reversed one gives nothing.
     ///
@@ -212,5 +196,15 @@ where
         ensures { AreGaps S.Kind.kind self.now outer_range.now result }
     {
         gaps_of(&self.stored, outer_range)
+    }
+}
+
+// The range of a stored pair, if there is one.
+fn range_of<'a, R>(pair: Option<(&'a R, &'a ())>) -> Option<&'a R>
+    ensures { option_copied result ≡ option_map (λ parts. parts.0.now) pair.entry }
+{
+    match pair {
+        Some((range, _)) => Some(range),
+        None => None,
     }
 }

@@ -5,10 +5,11 @@ use crate::range_set::calls::SetCall;
 use rangemap_core::gaps;
 use rangemap_core::half_open::HalfOpen;
 pub use rangemap_replay::replay::replay;
-use rangemap_sorted::{SortedVec, into_iter, iter, overlapping};
-use rangemap_unions::{self as unions, IntoRanges, Ranges};
+use rangemap_sorted::{SortedVec, overlapping};
+use rangemap_unions::{self as unions, OverlappingRanges, Ranges};
 use std::alloc::Global;
 use std::ops::Range;
+use std::{slice, vec};
 
 /// A set of keys in disjoint half-open ranges, `a..b`, which joins ranges that overlap or touch.
 ///
@@ -59,14 +60,14 @@ use std::ops::Range;
 pub type RangeSet<T, A = Global> = Set<SortedVec<HalfOpen, Range<T>, (), A>>;
 
 /// The ranges of a set, in order and from both ends.
-pub type Iter<'a, T> = Ranges<iter::Iter<'a, Range<T>, ()>>;
+pub type Iter<'a, T> = Ranges<slice::Iter<'a, (Range<T>, ())>>;
 
 /// The ranges that a set hands over, in order and from both ends.
-pub type IntoIter<T, A = Global> = IntoRanges<into_iter::IntoIter<Range<T>, (), A>>;
+pub type IntoIter<T, A = Global> = Ranges<vec::IntoIter<(Range<T>, ()), A>>;
 
 /// The ranges of a set that overlap a range, in order and from both ends. The first `next_back`
 /// searches for the end, in *O*(log *n*).
-pub type Overlapping<'a, T> = Ranges<overlapping::Overlapping<'a, Range<T>, ()>>;
+pub type Overlapping<'a, T> = OverlappingRanges<overlapping::Overlapping<'a, Range<T>, ()>>;
 
 /// The parts of a range that a set does not cover, in order.
 pub type Gaps<'a, T> = gaps::Gaps<
@@ -77,10 +78,10 @@ pub type Gaps<'a, T> = gaps::Gaps<
 >;
 
 /// The ranges of two sets, joined where they overlap, in order.
-pub type Union<'a, T> = unions::Union<iter::Iter<'a, Range<T>, ()>>;
+pub type Union<'a, T> = unions::Union<slice::Iter<'a, (Range<T>, ())>>;
 
 /// The parts that two sets have in common, in order.
-pub type Intersection<'a, T> = unions::Intersection<iter::Iter<'a, Range<T>, ()>>;
+pub type Intersection<'a, T> = unions::Intersection<slice::Iter<'a, (Range<T>, ())>>;
 
 /// A call that makes a set or changes the one at a place of a list.
 pub type Call<T, A = Global> = SetCall<Range<T>, A>;

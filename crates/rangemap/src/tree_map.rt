@@ -4,6 +4,7 @@
 pub use crate::container::Container;
 use rangemap_core::gaps;
 use rangemap_core::half_open::HalfOpen;
+use rangemap_core::pair_iter::{OverlappingPairs, PairIter};
 pub use rangemap_laws::commands::{Answer, Command, Outcome, run};
 pub use rangemap_maps::range_map::Map;
 use rangemap_maps::range_map::calls as map_calls;
@@ -60,16 +61,16 @@ use std::ops::Range;
 pub type RangeMap<K, V, A = Global> = Map<Tree<K, V, A>>;
 
 /// The pairs of a map, in order and from both ends.
-pub type Iter<'a, K, V> = iter::Iter<'a, K, V>;
+pub type Iter<'a, K, V> = PairIter<iter::Iter<'a, K, V>>;
 
 /// The pairs that a map hands over, in order and from both ends.
-pub type IntoIter<K, V, A = Global> = into_iter::IntoIter<K, V, A>;
+pub type IntoIter<K, V, A = Global> = PairIter<into_iter::IntoIter<K, V, A>>;
 
 /// The pairs of a map that overlap a range, in order and from both ends.
-pub type Overlapping<'a, K, V> = overlapping::Overlapping<'a, K, V>;
+pub type Overlapping<'a, K, V> = OverlappingPairs<overlapping::Overlapping<'a, K, V>>;
 
 /// The parts of a range that a map does not cover, in order.
-pub type Gaps<'a, K, V> = gaps::Gaps<'a, HalfOpen, Range<K>, Overlapping<'a, K, V>>;
+pub type Gaps<'a, K, V> = gaps::Gaps<'a, HalfOpen, Range<K>, overlapping::Overlapping<'a, K, V>>;
 
 /// A call that makes a map or changes the one at a place of a list.
 pub type Call<K, V, A = Global> = map_calls::Call<Range<K>, V, A>;

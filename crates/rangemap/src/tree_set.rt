@@ -7,7 +7,7 @@ use rangemap_core::gaps;
 use rangemap_core::half_open::HalfOpen;
 pub use rangemap_replay::replay::replay;
 use rangemap_tree::{Tree, into_iter, iter, overlapping};
-use rangemap_unions::{self as unions, IntoRanges, Ranges};
+use rangemap_unions::{self as unions, OverlappingRanges, Ranges};
 use std::alloc::Global;
 use std::ops::Range;
 
@@ -58,10 +58,10 @@ pub type RangeSet<T, A = Global> = Set<Tree<T, (), A>>;
 pub type Iter<'a, T> = Ranges<iter::Iter<'a, T, ()>>;
 
 /// The ranges that a set hands over, in order and from both ends.
-pub type IntoIter<T, A = Global> = IntoRanges<into_iter::IntoIter<T, (), A>>;
+pub type IntoIter<T, A = Global> = Ranges<into_iter::IntoIter<T, (), A>>;
 
 /// The ranges of a set that overlap a range, in order and from both ends.
-pub type Overlapping<'a, T> = Ranges<overlapping::Overlapping<'a, T, ()>>;
+pub type Overlapping<'a, T> = OverlappingRanges<overlapping::Overlapping<'a, T, ()>>;
 
 /// The parts of a range that a set does not cover, in order.
 pub type Gaps<'a, T> = gaps::Gaps<'a, HalfOpen, Range<T>, overlapping::Overlapping<'a, T, ()>>;

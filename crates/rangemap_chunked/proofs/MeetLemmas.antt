@@ -20,7 +20,7 @@ use Rattle.rangemap_chunked.proofs.StoreLemmas.{none_in_chunk}
 
 module _ {K X : Type 0} {k : RangeKind K X} {end_place : X → Option K} {chunk : EndpointOf X → EndpointOf X → X} (p : IsPlaced k end_place chunk) {V : Type 0} {eq : V → V → Bool} (e : IsEquivalence eq)
     (chunks : List (List (X × V))) (h : AreChunks k eq chunks) (r : X) (stored : IsStorable k r) (at end : ℕ) (bound : end ≤ length chunks) (past : IsPastStart (S p eq) chunks r (at + 1))
-    (begun : AllWithin (λ chunk. chunk_below (S p eq) (end_place r) chunk ≡ true) chunks 0 end) where
+    (begun : at + 1 < end → AllWithin (λ chunk. chunk_below (S p eq) (end_place r) chunk ≡ true) chunks 0 end) where
   met_between : at + 1 < end → overlapped k (whole chunks) r ≡ [] → ⊥
   met_between more none =
       let l : at + 1 < length chunks = omega (arith, more, bound) in
@@ -29,7 +29,7 @@ module _ {K X : Type 0} {k : RangeKind K X} {end_place : X → Option K} {chunk 
       let all : Every (λ a. is_gt (place_cmp k.cmp (Some (k.start r)) (Some (k.start a.0))) ≡ false) (whole (get_or chunks (at + 1) [] ∷ drop (suc (at + 1)) chunks)) = subst (λ ps. Every (λ a. is_gt (place_cmp k.cmp (Some (k.start r)) (Some (k.start a.0))) ≡ false) (whole ps)) (drop-cons chunks (at + 1) [] l) past in
       let firsts : Every (λ a. is_gt (place_cmp k.cmp (Some (k.start r)) (Some (k.start a.0))) ≡ false) (b.0 ∷ b.1) = subst (Every (λ a. is_gt (place_cmp k.cmp (Some (k.start r)) (Some (k.start a.0))) ≡ false)) b.2 (Every-left _ xs (whole (drop (suc (at + 1)) chunks)) all) in
       let kept : Every (λ a. IsStorable k a.0) (b.0 ∷ b.1) = subst (Every (λ a. IsStorable k a.0)) b.2 (Every-chunk (λ a. IsStorable k a.0) chunks (all_storable k eq (whole chunks) h.canonical) (at + 1) [] l) in
-      let below : place_cmp k.cmp (Some (k.start b.0.0)) (end_place r) ≡ Less = less_from _ (passed_first (starts_below (S p eq) (end_place r)) xs b.0 b.1 true b.2 (begun (at + 1) [] (omega arith) more)) in
+      let below : place_cmp k.cmp (Some (k.start b.0.0)) (end_place r) ≡ Less = less_from _ (passed_first (starts_below (S p eq) (end_place r)) xs b.0 b.1 true b.2 (begun more (at + 1) [] (omega arith) more)) in
       let above : place_cmp k.cmp (Some (k.start r)) (end_place b.0.0) ≡ Less = le_lt_trans (places p eq) (Some (k.start r)) (Some (k.start b.0.0)) (end_place b.0.0) firsts.0 (p.non_empty b.0.0 kept.0) in
       let meets : k.meets r b.0.0 ≡ true = p.meets r b.0.0 (asked k r stored) kept.0 ∙ (λ i. is_lt (above i) && is_lt (below i)) in
       let empty : filter (λ (a : X × V). k.meets r a.0) (b.0 ∷ b.1) ≡ [] = subst (λ ys. filter (λ (a : X × V). k.meets r a.0) ys ≡ []) b.2 (none_in_chunk (λ (a : X × V). k.meets r a.0) chunks (at + 1) xs l (get_or_default chunks (at + 1) [] xs l) none) in

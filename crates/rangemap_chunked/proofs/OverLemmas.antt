@@ -14,11 +14,18 @@ use Rattle.rangemap_core.proofs.PlaceOrderLemmas.{lt_le}
 use Rattle.rangemap_core.proofs.ListLemmas.{Every-append, Every-map}
 use Rattle.rangemap_sorted.specs.Changes.{IsChanged}
 use Rattle.rangemap_chunked.proofs.MoveLemmas.{one_at, put_back}
-use Rattle.rangemap_chunked.specs.Chunks.{AreChunks, AreFilled, IsClearBefore, IsClearBehind, IsLastTouched, IsPastBehind, IsPastStart, whole}
+use Rattle.rangemap_chunked.specs.Chunks.{AreChunks, AreFilled, AreFilledBut, IsClearBefore, IsClearBehind, IsLastTouched, IsPastBehind, IsPastStart, whole}
 use Rattle.rangemap_chunked.proofs.BorderLemmas.{Every-left}
 use Rattle.rangemap_chunked.proofs.ChunkLemmas.{whole_append, whole_around}
-use Rattle.rangemap_chunked.proofs.StoreLemmas.{Every-take_n}
+use Rattle.rangemap_chunked.proofs.StoreLemmas.{Every-drop_n, Every-take_n}
 use Rattle.rangemap_chunked.proofs.WideLemmas.{first_canonical, wide_changed}
+
+if_some_always : {T P : Type 0} (m : Option T) → P → IfSome m (λ _. P)
+if_some_always None h = tt
+if_some_always (Some v) h = h
+
+pub still_filled : {X V : Type 0} (value : Option V) (at : ℕ) (chunks : List (List X)) → AreFilled chunks → AreFilledBut value at chunks
+still_filled value at chunks filled = record { all = if_some_always value filled; before = Every-take_n _ at chunks filled; behind = Every-drop_n _ (at + 1) chunks filled }
 
 module _ {X : Type 0} where
   take_before_set : (xs : List X) (n m : ℕ) (y : X) → n ≤ m → take n (set xs m y) ≡ take n xs

@@ -1,5 +1,5 @@
 -- A list of pairs that is kept in chunks.
-use Rattle.std.specs.Prelude.{◌≡◌, ℕ, ◌+◌, ◌<◌, Bool, true, false, List, [], ◌∷◌, ◌++◌, length, take, drop, slice_get, Option, Some, None}
+use Rattle.std.specs.Prelude.{◌≡◌, ℕ, ◌+◌, ◌<◌, ◌≤◌, Bool, true, false, List, [], ◌∷◌, ◌++◌, length, take, drop, slice_get, Option, Some, None, IfSome}
 use Rattle.std.specs.declared.cmp.Ordering.TheVariants.{Less}
 use Rattle.std.specs.Ordering.{is_lt, is_gt}
 use Rattle.rangemap_core.specs.Ranges.{RangeKind, IsCanonical}
@@ -14,6 +14,19 @@ whole (chunk ∷ rest) = chunk ++ whole rest
 -- no chunk is empty
 abbrev pub AreFilled : {X : Type 0} → List (List X) → Type 0
 AreFilled chunks = Every (λ chunk. 0 < length chunk) chunks
+
+-- no chunk is empty; where there is no value, the one at the place may be
+pub record AreFilledBut {X V : Type 0} (value : Option V) (at : ℕ) (chunks : List (List X)) : Type 0 where
+  pub all : IfSome value (λ _. AreFilled chunks)
+  pub before : AreFilled (take at chunks)
+  pub behind : AreFilled (drop (at + 1) chunks)
+
+-- The new list has `after` items in place of `before` of the old one, at most so many more: where all values are equal, at most one.
+pub record IsCounted {X V : Type 0} (eq : V → V → Bool) (most : ℕ) (old new : List X) (before after : ℕ) : Type 0 where
+  pub sum : length new + before ≡ length old + after
+  pub some : before ≤ length old
+  pub growth : after ≤ before + most
+  pub growth_where_all_are_equal : ((v w : V) → eq v w ≡ true) → after ≤ before + 1
 
 -- chunks of a canonical list, none of them empty
 pub record AreChunks {K X V : Type 0} (k : RangeKind K X) (eq : V → V → Bool) (chunks : List (List (X × V))) : Type 0 where

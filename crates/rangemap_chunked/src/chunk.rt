@@ -4,6 +4,7 @@
 //! to name the kind of their ranges then, and a function could take few of such iterators.
 ghost use Rattle.std.specs.Prelude.{◌≡◌, ◌≤◌, ◌<◌, ◌+◌, ◌-◌, true, [], ◌++◌, length, slice_get, take, drop, IfOk, IsOk, OnErr, OnOk, None as NoneWord};
 ghost use Rattle.std.specs.Option.{option_map};
+ghost use Rattle.std.specs.Vec.Iter.{into_iter_items};
 ghost use Rattle.rangemap_core.specs.Clones.{KeysCloneFaithfully, ValuesCloneFaithfully};
 ghost use Rattle.rangemap_core.specs.Ranges.{IsCanonical, IsCanonOf, overlapped, same_pairs, value_at};
 ghost use Rattle.rangemap_sorted.specs.Changes.{IsChanged, grown};
@@ -13,9 +14,9 @@ use rangemap_core::key_range::KeyRange;
 use rangemap_core::kind::Kind;
 use rangemap_core::pairs::clone_pair;
 use rangemap_sorted::entries::changes;
-use rangemap_sorted::into_iter::IntoIter;
 use std::alloc::{AllocError, Allocator};
 use std::marker::Model;
+use std::vec;
 
 /// Pairs of a range and a value in one vector.
 #[derive(Drop)]
@@ -77,11 +78,11 @@ impl<R, V, A: Allocator> Chunk<R, V, A> {
     }
 
     /// Hands the pairs over.
-    pub fn into_pairs(self) -> IntoIter<R, V, A>
-        ensures { result ≡ self }
+    pub fn into_pairs(self) -> vec::IntoIter<(R, V), A>
+        ensures { into_iter_items result ≡ self }
     {
         let Chunk { pairs } = self;
-        IntoIter::over(pairs)
+        pairs.into_iter()
     }
 
     /// Takes the pairs from the place `at` on out, as a chunk of their own. None is cloned.

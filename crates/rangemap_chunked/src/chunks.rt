@@ -5,7 +5,7 @@ use crate::changes::{insert_into, remove_from};
 use crate::chunk::Chunk;
 use crate::into_iter::IntoIter;
 use crate::iter::Iter;
-use crate::overlapping::Overlapping;
+use crate::overlapping::overlapping;
 use crate::search::chunk_with;
 use rangemap_core::container::append_gaps;
 use rangemap_core::key_range::KeyRange;
@@ -104,22 +104,15 @@ impl<Q: Kind<R>, R: KeyRange, V: Eq + Clone, A: Allocator + Clone, const N: usiz
     }
 
     fn read<U: Reader<R, V>>(&self, state: &mut U::State) -> U::Answer {
-        let len = self.len;
-        U::read(Iter::over(&self.chunks, len), state)
+        U::read(Iter::over(&self.chunks), state)
     }
 
     fn read_both<U: ReaderOfBoth<R, V>>(&self, other: &Self, state: &mut U::State) -> U::Answer {
-        let len = self.len;
-        let other_len = other.len;
-        U::read(
-            Iter::over(&self.chunks, len),
-            Iter::over(&other.chunks, other_len),
-            state,
-        )
+        U::read(Iter::over(&self.chunks), Iter::over(&other.chunks), state)
     }
 
     fn read_overlapping<U: Reader<R, V>>(&self, range: &R, state: &mut U::State) -> U::Answer {
-        U::read(Overlapping::over::<Q>(&self.chunks, range), state)
+        U::read(overlapping::<Q, R, V, A>(&self.chunks, range), state)
     }
 
     fn append_gaps<B: Allocator>(
@@ -128,8 +121,8 @@ impl<Q: Kind<R>, R: KeyRange, V: Eq + Clone, A: Allocator + Clone, const N: usiz
         out: &mut Vec<R, B>,
     ) -> Result<(), AllocError> {
         known_ends::<Q, R>(outer_range);
-        let pairs = Overlapping::over::<Q>(&self.chunks, outer_range);
-        append_gaps::<Q, R, Overlapping<'_, R, V, A>, B>(pairs, outer_range, out)
+        let pairs = overlapping::<Q, R, V, A>(&self.chunks, outer_range);
+        append_gaps::<Q, R, Iter<'_, R, V, A>, B>(pairs, outer_range, out)
     }
 }
 
@@ -180,16 +173,20 @@ impl<Q: Kind<R>, R: KeyRange, V: Eq + Clone, A: Allocator + Clone, const N: usiz
 
 impl<Q: Kind<R>, R: KeyRange, V: Eq + Clone, A: Allocator + Clone, const N: usize> HandsOver
     for Chunks<Q, R, V, A, N> {
+    ghost use Rattle.std.specs.Prelude.{refl};
+
     type IntoIter = IntoIter<R, V, A>;
 
     fn into_pairs(self) -> IntoIter<R, V, A> {
         let Chunks {
             chunks,
-            len,
+            len: _,
             kind: _,
         } = self;
-        IntoIter::over(chunks, len)
+        IntoIter::over(chunks)
     }
+
+    ghost gives = { λ pair. refl };
 }
 
 impl<'a, Q: Kind<R>, R: KeyRange, V: Eq + Clone, A: Allocator + Clone, const N: usize> Lends<'a>
@@ -201,16 +198,21 @@ where
     Self::Range: 'a,
     Self::Value: 'a,
 {
+    ghost use Rattle.std.specs.Prelude.{refl};
+
     type Iter = Iter<'a, R, V, A>;
 
-    type Overlapping = Overlapping<'a, R, V, A>;
+    type Overlapping = Iter<'a, R, V, A>;
 
     fn iter(&'a self) -> Iter<'a, R, V, A> {
-        let len = self.len;
-        Iter::over(&self.chunks, len)
+        Iter::over(&self.chunks)
     }
 
-    fn overlapping(&'a self, range: &'a R) -> Overlapping<'a, R, V, A> {
-        Overlapping::over::<Q>(&self.chunks, range)
+    fn overlapping(&'a self, range: &'a R) -> Iter<'a, R, V, A> {
+        overlapping::<Q, R, V, A>(&self.chunks, range)
     }
+
+    ghost lends = { λ pair. refl };
+
+    ghost lends_overlapping = { λ pair. refl };
 }

@@ -1,16 +1,13 @@
-//! The pairs of a map in chunks, handed over one after another.
-ghost use Rattle.std.specs.Prelude.{◌≡◌, [], length, unwrap_or, IfSome, Some as SomeWord};
-ghost use Rattle.std.specs.Iterator.{UpTo, at_most};
-ghost use Rattle.std.specs.Iterator.SizeHint.{IsWithinCount};
+//! The pairs of chunks, handed over one after another.
+ghost use Rattle.std.specs.Prelude.{◌≡◌, [], option_map, unwrap_or};
 ghost use Rattle.std.specs.Map.Iter.{TakesFirst, TakesLast};
+ghost use Rattle.std.specs.Vec.Iter.{into_iter_items};
 ghost use Rattle.rangemap_chunked.specs.Chunks.{AreFilled, whole};
 
 use crate::chunk::Chunk;
-use rangemap_core::key_range::KeyRange;
-use rangemap_core::pair_iter::OwnedPairs;
-use rangemap_sorted::into_iter;
+use rangemap_core::cursor::Cursor;
 use std::alloc::Allocator;
-use std::iter::{DoubleEndedIterator, ExactSizeIterator, IntoIterator, Iterator};
+use std::iter::{DoubleEndedIterator, IntoIterator, Iterator};
 use std::marker::Model;
 use std::vec;
 
@@ -19,128 +16,97 @@ use std::vec;
 #[derive(Drop)]
 pub struct IntoIter<R, V, A: Allocator> {
     // What is left of the chunk that was begun from the front.
-    front: Option<into_iter::IntoIter<R, V, A>>,
+    front: Option<vec::IntoIter<(R, V), A>>,
     // The chunks that were not begun.
     chunks: vec::IntoIter<Chunk<R, V, A>, A>,
     // What is left of the chunk that was begun from the back.
-    back: Option<into_iter::IntoIter<R, V, A>>,
-    // How many pairs that are.
-    len: usize,
+    back: Option<vec::IntoIter<(R, V), A>>,
 }
 
 impl<R, V, A: Allocator> Model for IntoIter<R, V, A> {
-    ghost use Rattle.std.specs.Prelude.{◌≡◌, List, [], ◌++◌, length, unwrap_or};
+    ghost use Rattle.std.specs.Prelude.{List, [], ◌++◌, option_map, unwrap_or};
     ghost use Rattle.std.specs.Vec.Iter.{into_iter_items};
     ghost use Rattle.rangemap_chunked.specs.Chunks.{AreFilled, whole};
 
     ghost Value = { List (R × V) };
 
-    ghost view = { λ s. unwrap_or s.front [] ++ (whole (into_iter_items s.chunks) ++ unwrap_or s.back []) };
+    ghost view = { λ s. unwrap_or (option_map into_iter_items s.front) [] ++ (whole (into_iter_items s.chunks) ++ unwrap_or (option_map into_iter_items s.back) []) };
 
-    ghost invariant = { λ s. AreFilled (into_iter_items s.chunks) × (s.len ≡ length (unwrap_or s.front [] ++ (whole (into_iter_items s.chunks) ++ unwrap_or s.back []))) };
+    ghost invariant = { λ s. AreFilled (into_iter_items s.chunks) };
 }
 
 impl<R, V, A: Allocator> IntoIter<R, V, A> {
     /// Returns the pairs of the chunks, none of which was taken yet.
-    pub(crate) fn over(chunks: Vec<Chunk<R, V, A>, A>, len: usize) -> Self
-        requires filled { AreFilled chunks.items }
-        requires len { len ≡ length (whole chunks.items) }
+    pub(crate) fn over(chunks: Vec<Chunk<R, V, A>, A>) -> Self
+        requires { AreFilled chunks.items }
         ensures { result ≡ whole chunks.items }
     {
         IntoIter {
             front: None,
             chunks: chunks.into_iter(),
             back: None,
-            len,
         }
     }
 }
 
-// The first pair that is left of a chunk, if one was begun.
-fn next_of<R: Drop, V: Drop, A: Allocator>(
-    pairs: &mut Option<into_iter::IntoIter<R, V, A>>,
-) -> Option<(R, V)>
-    ensures { TakesFirst (λ pair. pair) (unwrap_or pairs.old []) result (unwrap_or pairs.new []) }
-{
-    pairs.as_mut()?.next()
-}
-
-// The last one.
-fn next_back_of<R: Drop, V: Drop, A: Allocator>(
-    pairs: &mut Option<into_iter::IntoIter<R, V, A>>,
-) -> Option<(R, V)>
-    ensures { TakesLast (λ pair. pair) (unwrap_or pairs.old []) result (unwrap_or pairs.new []) }
-{
-    pairs.as_mut()?.next_back()
-}
-
-impl<R: Drop, V: Drop, A: Allocator> Iterator for IntoIter<R, V, A> {
-    type Item = (R, V);
-
-    ghost next_gives = { TakesFirst (λ pair. pair) };
-
-    ghost remaining = { λ s. at_most (length s) };
-
-    fn next(&mut self) -> Option<(R, V)> {
-        if let Some(pair) = next_of(&mut self.front) {
-            self.len -= 1;
-            return Some(pair);
-        }
-        if let Some(chunk) = self.chunks.next() {
-            self.front = Some(chunk.into_pairs());
-            let pair = next_of(&mut self.front)?;
-            self.len -= 1;
-            return Some(pair);
-        }
-        let pair = next_of(&mut self.back)?;
-        self.len -= 1;
-        Some(pair)
-    }
-
-    fn size_hint(&self) -> (usize, Option<usize>)
-        ensures lower { IsWithinCount result.0 (at_most (length self.now)) }
-        ensures upper { IfSome result.1 (UpTo (at_most (length self.now))) }
-        ensures exact { result ≡ (length self.now, SomeWord (length self.now)) }
-    {
-        (self.len, Some(self.len))
-    }
-}
-
-impl<R: Drop, V: Drop, A: Allocator> DoubleEndedIterator for IntoIter<R, V, A> {
-    ghost next_back_gives = { TakesLast (λ pair. pair) };
-
-    fn next_back(&mut self) -> Option<(R, V)> {
-        if let Some(pair) = next_back_of(&mut self.back) {
-            self.len -= 1;
-            return Some(pair);
-        }
-        if let Some(chunk) = self.chunks.next_back() {
-            self.back = Some(chunk.into_pairs());
-            let pair = next_back_of(&mut self.back)?;
-            self.len -= 1;
-            return Some(pair);
-        }
-        let pair = next_back_of(&mut self.front)?;
-        self.len -= 1;
-        Some(pair)
-    }
-}
-
-impl<R: Drop, V: Drop, A: Allocator> ExactSizeIterator for IntoIter<R, V, A> {
-    /// Returns how many pairs are still to come.
-    fn len(&self) -> usize {
-        self.len
-    }
-}
-
-impl<R: KeyRange, V: Drop, A: Allocator> OwnedPairs for IntoIter<R, V, A> {
-    ghost use Rattle.rangemap_core.specs.Ends.{by_definition};
-
+impl<R: Drop, V: Drop, A: Allocator> Cursor for IntoIter<R, V, A> {
     type Range = R;
 
     type Value = V;
 
+    type Given = R;
+
+    type GivenValue = V;
+
     ghost left = { λ it. it };
 
-    ghost ends = { by_definition _ _ };
+    ghost given = { λ range. range };
+
+    ghost given_value = { λ value. value };
+
+    fn take_first(&mut self) -> Option<(R, V)> {
+        if let Some(pair) = first_of(&mut self.front) {
+            return Some(pair);
+        }
+        if let Some(chunk) = self.chunks.next() {
+            self.front = Some(chunk.into_pairs());
+            let pair = first_of(&mut self.front)?;
+            return Some(pair);
+        }
+        first_of(&mut self.back)
+    }
+
+    fn take_last(&mut self) -> Option<(R, V)> {
+        if let Some(pair) = last_of(&mut self.back) {
+            return Some(pair);
+        }
+        if let Some(chunk) = self.chunks.next_back() {
+            self.back = Some(chunk.into_pairs());
+            let pair = last_of(&mut self.back)?;
+            return Some(pair);
+        }
+        last_of(&mut self.front)
+    }
+
+    fn parts<'b>(pair: &'b (R, V)) -> (&'b R, &'b V) {
+        (&pair.0, &pair.1)
+    }
+}
+
+// Takes the first pair that is left of a chunk, if one was begun.
+fn first_of<R: Drop, V: Drop, A: Allocator>(
+    pairs: &mut Option<vec::IntoIter<(R, V), A>>,
+) -> Option<(R, V)>
+    ensures { TakesFirst (λ pair. pair) (unwrap_or (option_map into_iter_items pairs.old) []) result (unwrap_or (option_map into_iter_items pairs.new) []) }
+{
+    pairs.as_mut()?.next()
+}
+
+// Takes the last one.
+fn last_of<R: Drop, V: Drop, A: Allocator>(
+    pairs: &mut Option<vec::IntoIter<(R, V), A>>,
+) -> Option<(R, V)>
+    ensures { TakesLast (λ pair. pair) (unwrap_or (option_map into_iter_items pairs.old) []) result (unwrap_or (option_map into_iter_items pairs.new) []) }
+{
+    pairs.as_mut()?.next_back()
 }

@@ -1,7 +1,6 @@
 //! How chunks become fewer or more.
 ghost use Rattle.std.specs.Prelude.{◌≡◌, ◌+◌, ◌<◌, ◌≤◌, ◌++◌, ◌∷◌, [], length, take, drop, slice_index_or, slice_set, IsOk, OnOk, OnErr, vec_len, vec_capacity};
-ghost use Rattle.rangemap_core.specs.Ranges.{IsCanonical};
-ghost use Rattle.rangemap_chunked.specs.Chunks.{AreChunks, AreFilled, whole};
+ghost use Rattle.rangemap_chunked.specs.Chunks.{AreFilled, whole};
 
 use crate::chunk::Chunk;
 use std::alloc::{AllocError, Allocator};

@@ -9,7 +9,7 @@ pub mod into_iter;
 pub mod iter;
 mod joins;
 mod moves;
-pub mod overlapping;
+mod overlapping;
 mod search;
 mod wide;
 

@@ -4,15 +4,16 @@
 ghost use Rattle.std.specs.Prelude.{◌≡◌, ◌⊎◌, true, false, ◌+◌, ◌<◌, ◌≤◌, [], length, slice_index_or, nat_lt, IfSome, Some as SomeWord, None as NoneWord, MatchOption};
 ghost use Rattle.std.specs.List.{AllWithin};
 ghost use Rattle.rangemap_core.specs.Ranges.{IsCanonical, covering, overlapped};
+ghost use Rattle.rangemap_core.specs.engine.Endpoints.{endpoint_of, place_of};
 ghost use Rattle.rangemap_core.specs.engine.Shape.{shape_of, starts_by};
-ghost use Rattle.rangemap_chunked.specs.Chunks.{IsClearBefore, IsClearBehind, IsLastTouched, AreChunks, IsPastBehind, IsPastStart, chunk_below, chunk_by, whole};
+ghost use Rattle.rangemap_chunked.specs.Chunks.{IsClearBefore, IsLastTouched, AreChunks, IsPastBehind, IsPastStart, chunk_below, chunk_by, whole};
 
 use crate::chunk::Chunk;
+use rangemap_core::cursor::Cursor;
 use rangemap_core::key_range::KeyRange;
 use rangemap_core::kind::{Endpoint, Kind, known_ends};
 use rangemap_sorted::overlapping::Overlapping;
 use std::alloc::Allocator;
-use std::iter::Iterator;
 
 // A key that is searched for, as a closure may hold it: the checker refuses one that holds a bare
 // `R::Key` where the kind of the ranges is open.
@@ -34,21 +35,21 @@ fn starts_by<Q: Kind<R>, R: KeyRange, V: Eq, A: Allocator>(
     }
 }
 
-// Whether the first range of a chunk starts before the given one does.
-fn starts_below<Q: Kind<R>, R: KeyRange, V: Eq, A: Allocator>(
+// Whether the first range of a chunk starts before an endpoint of the given one.
+fn starts_before<Q: Kind<R>, R: KeyRange, V: Eq, A: Allocator>(
     chunk: &Chunk<R, V, A>,
-    range: &R,
+    endpoint: Endpoint<'_, R>,
 ) -> bool
-    ensures { result ≡ chunk_below (shape_of Q.kind Q.end_place V.eq) (SomeWord (Q.kind.start range.now)) chunk.now }
+    ensures { result ≡ chunk_below (shape_of Q.kind Q.end_place V.eq) (place_of Q.kind Q.end_place (endpoint_of endpoint.entry)) chunk.now }
 {
     match chunk.as_slice().first() {
-        Some(pair) => pair.0.start().cmp(range.start()).is_lt(),
+        Some(pair) => Q::is_before(Endpoint::Start(&pair.0), endpoint),
         None => true,
     }
 }
 
-// Whether the first range of a chunk starts before the given one ends, or there.
-fn begins_by_end<Q: Kind<R>, R: KeyRange, V: Eq, A: Allocator>(
+/// Returns whether the first range of a chunk starts before the given one ends, or there.
+pub fn begins_by_end<Q: Kind<R>, R: KeyRange, V: Eq, A: Allocator>(
     chunk: &Chunk<R, V, A>,
     range: &R,
 ) -> bool
@@ -56,19 +57,6 @@ fn begins_by_end<Q: Kind<R>, R: KeyRange, V: Eq, A: Allocator>(
 {
     match chunk.as_slice().first() {
         Some(pair) => !Q::is_before(Endpoint::End(range), Endpoint::Start(&pair.0)),
-        None => true,
-    }
-}
-
-// Whether the first range of a chunk starts before the given one ends.
-fn begins_below_end<Q: Kind<R>, R: KeyRange, V: Eq, A: Allocator>(
-    chunk: &Chunk<R, V, A>,
-    range: &R,
-) -> bool
-    ensures { result ≡ chunk_below (shape_of Q.kind Q.end_place V.eq) (Q.end_place range.now) chunk.now }
-{
-    match chunk.as_slice().first() {
-        Some(pair) => Q::is_before(Endpoint::Start(&pair.0), Endpoint::End(range)),
         None => true,
     }
 }
@@ -104,34 +92,11 @@ pub fn start_of<Q: Kind<R>, R: KeyRange, V: Eq, A: Allocator>(
     ensures clear { IsClearBefore (shape_of Q.kind Q.end_place V.eq) chunks.now range.now result }
     ensures past { IsPastStart (shape_of Q.kind Q.end_place V.eq) chunks.now range.now (result + 1) }
 {
-    let count = chunks.partition_point(|chunk| starts_below::<Q, R, V, A>(chunk, range));
+    let count = chunks.partition_point(|chunk| starts_before::<Q, R, V, A>(
+        chunk,
+        Endpoint::Start(range),
+    ));
     count.saturating_sub(1)
-}
-
-/// Returns the chunk from which on no pair overlaps the range or touches it.
-pub fn end_touched<Q: Kind<R>, R: KeyRange, V: Eq, A: Allocator>(
-    chunks: &[Chunk<R, V, A>],
-    range: &R,
-) -> usize
-    requires { AreChunks Q.kind V.eq chunks.now }
-    ensures bound { result ≤ length chunks.now }
-    ensures clear { IsClearBehind (shape_of Q.kind Q.end_place V.eq) chunks.now range.now result }
-    ensures begun { AllWithin (λ chunk. chunk_by (shape_of Q.kind Q.end_place V.eq) (Q.end_place range.now) chunk ≡ true) chunks.now 0 result }
-{
-    chunks.partition_point(|chunk| begins_by_end::<Q, R, V, A>(chunk, range))
-}
-
-/// Returns the chunk from which on no pair overlaps the range.
-pub fn end_overlapped<Q: Kind<R>, R: KeyRange, V: Eq, A: Allocator>(
-    chunks: &[Chunk<R, V, A>],
-    range: &R,
-) -> usize
-    requires { AreChunks Q.kind V.eq chunks.now }
-    ensures bound { result ≤ length chunks.now }
-    ensures clear { IsPastBehind (shape_of Q.kind Q.end_place V.eq) chunks.now range.now result }
-    ensures begun { AllWithin (λ chunk. chunk_below (shape_of Q.kind Q.end_place V.eq) (Q.end_place range.now) chunk ≡ true) chunks.now 0 result }
-{
-    chunks.partition_point(|chunk| begins_below_end::<Q, R, V, A>(chunk, range))
 }
 
 /// Returns a chunk from which on no pair overlaps the range, where none before the chunk `at` does: the
@@ -151,8 +116,11 @@ pub fn end_from<Q: Kind<R>, R: KeyRange, V: Eq, A: Allocator>(
     if next == chunks.len() {
         return next;
     }
-    if begins_below_end::<Q, R, V, A>(&chunks[next], range) {
-        return end_overlapped::<Q, R, V, A>(chunks, range);
+    if starts_before::<Q, R, V, A>(&chunks[next], Endpoint::End(range)) {
+        return chunks.partition_point(|chunk| starts_before::<Q, R, V, A>(
+            chunk,
+            Endpoint::End(range),
+        ));
     }
     next
 }
@@ -186,7 +154,7 @@ fn overlaps<Q: Kind<R>, R: KeyRange, V: Eq, A: Allocator>(chunk: &Chunk<R, V, A>
     ensures { result ≡ nat_lt 0 (length (overlapped Q.kind chunk.now range.now)) }
 {
     Overlapping::new::<Q>(chunk.as_slice(), range)
-        .next()
+        .take_first()
         .is_some()
 }
 
@@ -203,7 +171,7 @@ pub fn is_refused<Q: Kind<R>, R: KeyRange, V: Eq, A: Allocator>(
     requires in_bounds { at < length chunks.now }
     requires end { end ≤ length chunks.now }
     requires past { IsPastStart (shape_of Q.kind Q.end_place V.eq) chunks.now range.now (at + 1) }
-    requires begun { AllWithin (λ chunk. chunk_below (shape_of Q.kind Q.end_place V.eq) (Q.end_place range.now) chunk ≡ true) chunks.now 0 end }
+    requires begun { at + 1 < end → AllWithin (λ chunk. chunk_below (shape_of Q.kind Q.end_place V.eq) (Q.end_place range.now) chunk ≡ true) chunks.now 0 end }
     requires non_empty { Q.kind.IsNonEmpty range.now }
     ensures alone { overlapped Q.kind (whole chunks.now) range.now ≡ [] → end ≤ at + 1 }
     ensures refused { result ≡ true → overlapped Q.kind (whole chunks.now) range.now ≡ [] → ⊥ }

@@ -4,15 +4,15 @@
 //! reach past the range, or touch it: the last that starts before the range ends, or there. It is
 //! moved into the first chunk, which is changed as any other then. Where memory is refused it goes
 //! back, and nothing changed.
-ghost use Rattle.std.specs.Prelude.{◌≡◌, true, ◌<◌, ◌≤◌, ◌+◌, ◌++◌, [], length, take, drop, slice_index_or, slice_set, OnOk, OnErr, IfOk, IfSome};
+ghost use Rattle.std.specs.Prelude.{◌≡◌, true, ◌<◌, ◌≤◌, ◌+◌, ◌++◌, [], length, take, drop, slice_index_or, slice_set, IsOk, OnOk, OnErr, IfOk, IfSome, None as NoneWord};
 ghost use Rattle.std.specs.List.{AllWithin};
 ghost use Rattle.rangemap_core.specs.Clones.{KeysCloneFaithfully, ValuesCloneFaithfully};
-ghost use Rattle.rangemap_core.specs.Ranges.{IsCanonical, value_at};
+ghost use Rattle.rangemap_core.specs.Ranges.{IsCanonical, overlapped, value_at};
 ghost use Rattle.rangemap_core.specs.engine.Shape.{shape_of};
 ghost use Rattle.rangemap_sorted.specs.Changes.{IsChanged, grown};
-ghost use Rattle.rangemap_chunked.specs.Chunks.{AreChunks, AreFilled, IsClearBefore, IsClearBehind, IsPastBehind, IsPastStart, chunk_by, whole};
+ghost use Rattle.rangemap_chunked.specs.Chunks.{AreChunks, AreFilledBut, IsClearBefore, IsClearBehind, IsCounted, IsPastBehind, IsPastStart, chunk_by, whole};
 
-use crate::changes::Change;
+use crate::changes::{Change, change_at};
 use crate::chunk::Chunk;
 use crate::joins::{drop_between, give_back_at};
 use crate::search::last_touched;
@@ -21,8 +21,8 @@ use rangemap_core::kind::{Kind, known_ends};
 use std::alloc::{AllocError, Allocator};
 
 /// Gives every key of the range the value, or takes it out where there is none. The range overlaps
-/// or touches chunks from `at` up to `end`, which are two or more. Where there is no value, the
-/// chunk at `at` may be empty then.
+/// or touches only chunks from `at` up to `end`. Where there is no value, the chunk at `at` may be
+/// empty then.
 pub fn change_over<Q: Kind<R>, R: KeyRange, V: Eq + Clone, A: Allocator>(
     chunks: &mut Vec<Chunk<R, V, A>, A>,
     at: usize,
@@ -32,27 +32,26 @@ pub fn change_over<Q: Kind<R>, R: KeyRange, V: Eq + Clone, A: Allocator>(
 ) -> Result<Change, AllocError>
     requires chunked { AreChunks Q.kind V.eq chunks.old.items }
     requires fits { length (whole chunks.old.items) ≤ 18446744073709551615 }
-    requires several { at + 1 < end }
+    requires start { at < length chunks.old.items }
     requires end { end ≤ length chunks.old.items }
     requires before { IsClearBefore (shape_of Q.kind Q.end_place V.eq) chunks.old.items range at }
     requires past { IsPastStart (shape_of Q.kind Q.end_place V.eq) chunks.old.items range (at + 1) }
-    requires begun { AllWithin (λ chunk. chunk_by (shape_of Q.kind Q.end_place V.eq) (Q.end_place range) chunk ≡ true) chunks.old.items 0 end }
+    requires begun { at + 1 < end → AllWithin (λ chunk. chunk_by (shape_of Q.kind Q.end_place V.eq) (Q.end_place range) chunk ≡ true) chunks.old.items 0 end }
     requires behind { IsPastBehind (shape_of Q.kind Q.end_place V.eq) chunks.old.items range end }
     requires clear { IfSome value (λ _. IsClearBehind (shape_of Q.kind Q.end_place V.eq) chunks.old.items range end) }
     requires non_empty { Q.kind.IsNonEmpty range }
     requires faithful_keys { KeysCloneFaithfully R.Key.is_clone R.Key.cmp }
     requires faithful_values { ValuesCloneFaithfully V.is_clone V.eq }
     ensures ok { OnOk result (IsChanged Q.kind V.eq (value_at Q.kind (whole chunks.old.items)) range value (whole chunks.new.items)) }
-    ensures filled { IfSome value (λ _. AreFilled chunks.new.items) }
-    ensures filled_before { AreFilled (take at chunks.new.items) }
-    ensures filled_behind { AreFilled (drop (at + 1) chunks.new.items) }
+    ensures filled { AreFilledBut value at chunks.new.items }
     ensures in_bounds { at < length chunks.new.items }
     ensures err { OnErr result (chunks.new.items ≡ chunks.old.items) }
-    ensures change { IfOk result (λ change. length (whole chunks.new.items) + change.before ≡ length (whole chunks.old.items) + change.after) }
-    ensures some { IfOk result (λ change. change.before ≤ length (whole chunks.old.items)) }
-    ensures growth { IfOk result (λ change. change.after ≤ change.before + grown value) }
-    ensures growth_where_all_are_equal { IfOk result (λ change. ((v w : V) → V.eq v w ≡ true) → change.after ≤ change.before + 1) }
+    ensures counted { IfOk result (λ change. IsCounted V.eq (grown value) (whole chunks.old.items) (whole chunks.new.items) change.before change.after) }
+    ensures stays { value ≡ NoneWord → end ≤ at + 1 → overlapped Q.kind (slice_index_or chunks.old.items at []) range ≡ [] → IsOk result × (chunks.new.items ≡ chunks.old.items) }
 {
+    if end <= at + 1 {
+        return change_at::<Q, R, V, A>(chunks, at, range, value);
+    }
     known_ends::<Q, R>(&range);
     let last = end - 1;
     let place = last_touched::<Q, R, V, A>(&chunks[last], &range);

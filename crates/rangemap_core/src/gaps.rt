@@ -1,5 +1,5 @@
 //! The parts of a range that no stored range covers, whatever keeps the ranges.
-ghost use Rattle.std.specs.Prelude.{◌≡◌, ◌≢◌, ◌∷◌, [], false, true, IfOk, IfSome, MatchOption, None as NoneWord, OnErr, length, map};
+ghost use Rattle.std.specs.Prelude.{◌≡◌, ◌≢◌, [], false, true, IfOk, IfSome, MatchOption, None as NoneWord, OnErr, length, map};
 ghost use Rattle.std.specs.Iterator.{UpTo, at_most};
 ghost use Rattle.std.specs.Iterator.SizeHint.{IsWithinCount};
 ghost use Rattle.std.specs.Option.{option_map};
@@ -8,10 +8,11 @@ ghost use Rattle.rangemap_core.specs.engine.Endpoints.{AtStart, endpoint_of, gap
 ghost use Rattle.rangemap_core.specs.engine.GapsAhead.{start_behind};
 ghost use Rattle.rangemap_core.specs.MadeRanges.{GivesRange, IsSame, TakesRange};
 ghost use Rattle.rangemap_core.specs.Ranges.{AreGaps};
+ghost use Rattle.rangemap_core.specs.Shown.{shown_range};
 
+use crate::cursor::Cursor;
 use crate::key_range::KeyRange;
 use crate::kind::{Endpoint, Kind, known_ends};
-use crate::pair_iter::{LentPairs, PairIter, range_of};
 use crate::store::Lends;
 use std::alloc::AllocError;
 use std::iter::Iterator;
@@ -19,37 +20,43 @@ use std::marker::{Model, PhantomData};
 
 /// The gaps that stored ranges leave in a range, in order. It reads the pairs that overlap the range.
 #[derive(Drop)]
-pub struct Gaps<'a, Q: Kind<R>, R: KeyRange, I: LentPairs<Range = R>> {
+pub struct Gaps<'a, Q: Kind<R>, R: KeyRange, C: Cursor<Range = R>> {
     // The stored range at whose end the next gap may start. Where there is none it may start with
     // the outer range.
-    last: Option<I::Lent>,
+    last: Option<(C::Given, C::GivenValue)>,
     // The range up to which it may go, and the pairs behind that one.
-    next: Option<I::Lent>,
-    pairs: I,
+    next: Option<(C::Given, C::GivenValue)>,
+    pairs: C,
     outer_range: &'a R,
     is_done: bool,
     kind: PhantomData<Q>,
 }
 
-impl<'a, Q: Kind<R>, R: KeyRange, I: LentPairs<Range = R>> Model for Gaps<'a, Q, R, I> {
+impl<'a, Q: Kind<R>, R: KeyRange, C: Cursor<Range = R>> Model for Gaps<'a, Q, R, C> {
     ghost use Rattle.std.specs.Prelude.{List, [], if◌then◌else◌};
     ghost use Rattle.std.specs.Option.{option_map};
     ghost use Rattle.rangemap_core.specs.engine.GapsAhead.{gaps_behind, start_behind};
+    ghost use Rattle.rangemap_core.specs.Shown.{shown_range};
 
     ghost Value = { List R };
 
-    ghost view = { λ s. if s.is_done then [] else gaps_behind Q.kind Q.end_place Q.part_of (start_behind s.outer_range.now (option_map I.range s.last)) s.outer_range.now (option_map I.range s.next) (I.left s.pairs) };
+    ghost view = { λ s. if s.is_done then [] else gaps_behind Q.kind Q.end_place Q.part_of (start_behind s.outer_range.now (option_map (shown_range C.given) s.last)) s.outer_range.now (option_map (shown_range C.given) s.next) (C.left s.pairs) };
 }
 
-impl<'a, Q: Kind<R>, R: KeyRange, I: PairIter<Range = R>> Gaps<'a, Q, R, I> {
+impl<'a, Q: Kind<R>, R: KeyRange, C: Cursor<Range = R, Given: Drop, GivenValue: Drop>> Gaps<
+    'a,
+    Q,
+    R,
+    C,
+> {
     /// Returns the gaps that pairs leave in the range, where they are those that overlap it.
-    pub fn over(pairs: I, outer_range: &'a R) -> Self
-        ensures { result ≡ gaps_from Q.kind Q.end_place Q.part_of (AtStart outer_range.now) outer_range.now (I.left pairs) }
+    pub fn over(pairs: C, outer_range: &'a R) -> Self
+        ensures { result ≡ gaps_from Q.kind Q.end_place Q.part_of (AtStart outer_range.now) outer_range.now (C.left pairs) }
     {
         let mut rest = pairs;
         Gaps {
             last: None,
-            next: next_range(&mut rest),
+            next: rest.take_first(),
             pairs: rest,
             outer_range,
             is_done: false,
@@ -72,22 +79,23 @@ impl<'a, Q: Kind<R>, R: KeyRange, I: PairIter<Range = R>> Gaps<'a, Q, R, I> {
             return Ok(None);
         }
         while let Some(next) = &self.next {
-            let from = end_of::<I>(&self.last, self.outer_range);
-            let gap = part_between::<Q, R>(from, Endpoint::Start(range_of::<I>(next)))?;
+            let from = end_of::<C>(&self.last, self.outer_range);
+            let gap = part_between::<Q, R>(from, Endpoint::Start(C::parts(next).0))?;
             self.last = self.next.take();
-            self.next = next_range(&mut self.pairs);
+            self.next = self.pairs.take_first();
             if gap.is_some() {
                 return Ok(gap);
             }
         }
-        let from = end_of::<I>(&self.last, self.outer_range);
+        let from = end_of::<C>(&self.last, self.outer_range);
         let gap = part_between::<Q, R>(from, Endpoint::End(self.outer_range))?;
         self.is_done = true;
         Ok(gap)
     }
 }
 
-impl<'a, Q: Kind<R>, R: KeyRange, I: PairIter<Range = R>> Iterator for Gaps<'a, Q, R, I> {
+impl<'a, Q: Kind<R>, R: KeyRange, C: Cursor<Range = R, Given: Drop, GivenValue: Drop>> Iterator
+    for Gaps<'a, Q, R, C> {
     type Item = Result<R, AllocError>;
 
     ghost can_next = { λ _. KeysCloneFaithfully R.Key.is_clone R.Key.cmp };
@@ -118,7 +126,7 @@ impl<'a, Q: Kind<R>, R: KeyRange, I: PairIter<Range = R>> Iterator for Gaps<'a, 
 }
 
 /// Returns the gaps that what is stored leaves in the range, which may be empty or reversed.
-pub fn gaps_of<'a, S: Lends<'a, Overlapping: PairIter>>(
+pub fn gaps_of<'a, S: Lends<'a>>(
     stored: &'a S,
     outer_range: &'a S::Range,
 ) -> Gaps<'a, S::Kind, S::Range, S::Overlapping>
@@ -132,25 +140,17 @@ where
     Gaps::over(stored.overlapping(outer_range), outer_range)
 }
 
-// Takes the range of the next pair.
-fn next_range<I: PairIter>(pairs: &mut I) -> Option<I::Lent>
-    ensures { MatchOption result ((I.left pairs.old ≡ []) × (I.left pairs.new ≡ [])) (λ range. (value : I.Value) × (I.left pairs.old ≡ (I.range range, value) ∷ I.left pairs.new)) }
-{
-    match pairs.next() {
-        Some((range, _)) => Some(range),
-        None => None,
-    }
-}
-
 // Where the next gap may start.
-fn end_of<'b, I: PairIter>(
-    last: &'b Option<I::Lent>,
-    outer_range: &'b I::Range,
-) -> Endpoint<'b, I::Range>
-    ensures { endpoint_of result ≡ start_behind outer_range.now (option_map I.range last.now) }
+fn end_of<'b, C: Cursor>(
+    last: &'b Option<(C::Given, C::GivenValue)>,
+    outer_range: &'b C::Range,
+) -> Endpoint<'b, C::Range>
+where
+    C::Value: 'b,
+    ensures { endpoint_of result ≡ start_behind outer_range.now (option_map (shown_range C.given) last.now) }
 {
     match last {
-        Some(range) => Endpoint::End(range_of::<I>(range)),
+        Some(pair) => Endpoint::End(C::parts(pair).0),
         None => Endpoint::Start(outer_range),
     }
 }

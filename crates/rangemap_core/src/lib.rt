@@ -8,6 +8,7 @@
 pub mod closed;
 pub mod common;
 pub mod container;
+pub mod cursor;
 pub mod gaps;
 pub mod half_open;
 pub mod key_range;
@@ -17,3 +18,4 @@ pub mod pairs;
 pub mod reader;
 pub mod std_ext;
 pub mod store;
+pub mod vectors;

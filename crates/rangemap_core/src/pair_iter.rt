@@ -1,104 +1,138 @@
-//! Iterators over stored pairs, whatever keeps them.
-ghost use Rattle.std.specs.Prelude.{◌≡◌, ◌∷◌, ℕ, List, [], IfSome, MatchOption, Option as OptionOf, length};
+//! The pairs of a map, one after another, whatever keeps them.
+ghost use Rattle.std.specs.Prelude.{◌≡◌, length, IfSome, None as NoneWord, Some as SomeWord};
 ghost use Rattle.std.specs.Iterator.{UpTo, at_most};
 ghost use Rattle.std.specs.Iterator.SizeHint.{IsWithinCount};
-ghost use Rattle.rangemap_core.specs.Ends.{TakesFromEnds};
-ghost use Rattle.rangemap_core.specs.Lent.{LeadsTo, shown};
-ghost use Rattle.rangemap_core.specs.Sets.{ranges};
+ghost use Rattle.std.specs.Map.Iter.{TakesFirst, TakesLast};
+ghost use Rattle.rangemap_core.specs.Shown.{shown};
 
-use crate::key_range::KeyRange;
-use std::iter::{DoubleEndedIterator, ExactSizeIterator};
-use std::ops::Deref;
+use crate::cursor::Cursor;
+use std::iter::{DoubleEndedIterator, ExactSizeIterator, Iterator};
+use std::marker::Model;
 
-/// The pairs of a store that are still to come: what a struct that holds such an iterator asks of
-/// it.
-///
-/// It is a trait of its own, with little in it: the more a bound of a struct implies, the fewer
-/// values of it may a function take.
-pub trait LentPairs {
-    /// A stored range.
-    type Range: KeyRange;
-
-    /// What a range is mapped to.
-    type Value;
-
-    /// What is lent of a stored range: a reference to it.
-    type Lent;
-
-    /// The pairs that are still to come.
-    ghost left: { Self → List (Self.Range × Self.Value) };
-
-    /// The range to which what is lent leads.
-    ghost range: { Self.Lent → Self.Range };
+/// All pairs of a map that are still to come, in order and from both ends: references to them, or the
+/// pairs themselves.
+#[derive(Drop)]
+pub struct PairIter<C: Cursor> {
+    cursor: C,
+    // How many pairs that are.
+    len: usize,
 }
 
-/// The pairs of a store that are still to come, in order and from both ends.
-///
-/// The trait names no lifetime, so that a struct may hold any such iterator: what is lent of a pair
-/// are types of their own, which are references.
-pub trait PairIter: LentPairs<Lent: Deref<Target = Self::Range> + Drop>
-    + DoubleEndedIterator<Item = (Self::Lent, Self::LentValue)>
-    + Drop {
-    /// What is lent of a value: a reference to it.
-    type LentValue: Deref<Target = Self::Value> + Drop;
+impl<C: Cursor> Model for PairIter<C> {
+    ghost use Rattle.std.specs.Prelude.{◌≡◌, List, length};
 
-    /// The value to which it leads.
-    ghost value: { Self.LentValue → Self.Value };
+    ghost Value = { List (C.Range × C.Value) };
 
-    /// What `size_hint` answers where so many pairs are still to come.
-    ghost hinted: { ℕ → ℕ × OptionOf ℕ };
+    ghost view = { λ s. C.left s.cursor };
 
-    /// Returns the first range that is still to come, without taking it.
-    fn peek(&mut self) -> Option<Self::Lent>
-        ensures same { Self.left self.new ≡ Self.left self.old }
-        ensures first { MatchOption result (ranges (Self.left self.old) ≡ []) (λ reference. (rest : List Self.Range) × (ranges (Self.left self.old) ≡ Self.range reference ∷ rest)) };
-
-    /// Returns what `size_hint` does.
-    fn hint(&self) -> (usize, Option<usize>)
-        ensures { result ≡ hinted (length (Self.left self.now)) };
-
-    /// Following a reference to a range leads there.
-    ghost range_leads: { LeadsTo ⟦<Self::Lent as Deref>⟧.deref_gives Self.range };
-
-    /// Following a reference to a value does.
-    ghost value_leads: { LeadsTo Self.LentValue.deref_gives value };
-
-    /// What is hinted is true.
-    ghost hinted_within: { (count : ℕ) → IsWithinCount (hinted count).0 (at_most count) × IfSome (hinted count).1 (UpTo (at_most count)) };
-
-    /// It takes pairs from both ends.
-    ghost ends: { TakesFromEnds Self.left (shown Self.range value) Self.can_next Self.can_next_back Self.remaining Self.next_gives Self.next_back_gives };
+    ghost invariant = { λ s. s.len ≡ length (C.left s.cursor) };
 }
 
-/// The pairs that a store hands over, in order and from both ends.
-pub trait OwnedPairs: DoubleEndedIterator<Item = (Self::Range, Self::Value)>
-    + ExactSizeIterator
-    + Drop {
-    /// A range that was stored.
-    type Range: KeyRange;
+impl<C: Cursor> PairIter<C> {
+    /// Returns the pairs of a cursor, which are so many.
+    pub fn over(cursor: C, len: usize) -> Self
+        requires { len ≡ length (C.left cursor) }
+        ensures { result ≡ C.left cursor }
+    {
+        PairIter { cursor, len }
+    }
 
-    /// What it was mapped to.
-    type Value;
-
-    /// The pairs that are still to come.
-    ghost left: { Self → List (Self.Range × Self.Value) };
-
-    /// It takes pairs from both ends.
-    ghost ends: { TakesFromEnds left (λ pair. pair) Self.can_next Self.can_next_back Self.remaining Self.next_gives Self.next_back_gives };
+    /// Returns what takes the pairs. Of a map in a vector that is std's iterator over a slice, whose
+    /// `as_slice` shows the pairs where they stand.
+    pub fn cursor(&self) -> &C
+        ensures { C.left result.now ≡ self.now }
+    {
+        &self.cursor
+    }
 }
 
-/// Returns the range that was lent.
-#[inline(always)]
-pub fn range_of<I: PairIter>(lent: &I::Lent) -> &I::Range
-    ensures { result.now ≡ I.range lent.now }
-{
-    &**lent
+impl<C: Cursor> Iterator for PairIter<C> {
+    type Item = (C::Given, C::GivenValue);
+
+    ghost next_gives = { TakesFirst (shown C.given C.given_value) };
+
+    ghost remaining = { λ s. at_most (length s) };
+
+    fn next(&mut self) -> Option<(C::Given, C::GivenValue)> {
+        let pair = self.cursor.take_first()?;
+        self.len -= 1;
+        Some(pair)
+    }
+
+    fn size_hint(&self) -> (usize, Option<usize>)
+        ensures lower { IsWithinCount result.0 (at_most (length self.now)) }
+        ensures upper { IfSome result.1 (UpTo (at_most (length self.now))) }
+        ensures exact { result ≡ (length self.now, SomeWord (length self.now)) }
+    {
+        (self.len, Some(self.len))
+    }
 }
 
-/// Returns the value that was lent.
-#[inline(always)]
-pub fn value_of<I: PairIter>(lent: &I::LentValue) -> &I::Value
-    ensures { result.now ≡ I.value lent.now }
-{
-    &**lent
+impl<C: Cursor> DoubleEndedIterator for PairIter<C> {
+    ghost next_back_gives = { TakesLast (shown C.given C.given_value) };
+
+    fn next_back(&mut self) -> Option<(C::Given, C::GivenValue)> {
+        let pair = self.cursor.take_last()?;
+        self.len -= 1;
+        Some(pair)
+    }
+}
+
+impl<C: Cursor> ExactSizeIterator for PairIter<C> {
+    /// Returns how many pairs are still to come.
+    fn len(&self) -> usize {
+        self.len
+    }
+}
+
+/// The pairs of a map that overlap a range and are still to come, in order and from both ends. How
+/// many these are it does not know.
+#[derive(Drop)]
+pub struct OverlappingPairs<C: Cursor> {
+    cursor: C,
+}
+
+impl<C: Cursor> Model for OverlappingPairs<C> {
+    ghost use Rattle.std.specs.Prelude.{List};
+
+    ghost Value = { List (C.Range × C.Value) };
+
+    ghost view = { λ s. C.left s.cursor };
+}
+
+impl<C: Cursor> OverlappingPairs<C> {
+    /// Returns the pairs of a cursor.
+    pub fn over(cursor: C) -> Self
+        ensures { result ≡ C.left cursor }
+    {
+        OverlappingPairs { cursor }
+    }
+}
+
+impl<C: Cursor> Iterator for OverlappingPairs<C> {
+    type Item = (C::Given, C::GivenValue);
+
+    ghost next_gives = { TakesFirst (shown C.given C.given_value) };
+
+    ghost remaining = { λ s. at_most (length s) };
+
+    fn next(&mut self) -> Option<(C::Given, C::GivenValue)> {
+        self.cursor.take_first()
+    }
+
+    fn size_hint(&self) -> (usize, Option<usize>)
+        ensures lower { IsWithinCount result.0 (at_most (length self.now)) }
+        ensures upper { IfSome result.1 (UpTo (at_most (length self.now))) }
+        ensures exact { result ≡ (0, NoneWord) }
+    {
+        (0, None)
+    }
+}
+
+impl<C: Cursor> DoubleEndedIterator for OverlappingPairs<C> {
+    ghost next_back_gives = { TakesLast (shown C.given C.given_value) };
+
+    fn next_back(&mut self) -> Option<(C::Given, C::GivenValue)> {
+        self.cursor.take_last()
+    }
 }

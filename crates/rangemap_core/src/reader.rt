@@ -1,8 +1,8 @@
 //! What is done with all pairs of a store, or of two, written once for every store.
 ghost use Rattle.std.specs.Prelude.{List, ⊤};
 
+use crate::cursor::{Cursor, Peek};
 use crate::key_range::KeyRange;
-use crate::pair_iter::PairIter;
 
 /// What reads pairs, one after another: it changes a state and gives an answer.
 ///
@@ -22,9 +22,12 @@ pub trait Reader<R: KeyRange, V> {
     ghost reads: { List (R × V) → Self.State → Self.Answer → Self.State → Type 0 };
 
     /// Reads the pairs.
-    fn read<I: PairIter<Range = R, Value = V>>(pairs: I, state: &mut Self::State) -> Self::Answer
-        requires { may_read (I.left pairs) state.old }
-        ensures { reads (I.left pairs) state.old result state.new };
+    fn read<C: Cursor<Range = R, Value = V, Given: Drop, GivenValue: Drop>>(
+        pairs: C,
+        state: &mut Self::State,
+    ) -> Self::Answer
+        requires { may_read (C.left pairs) state.old }
+        ensures { reads (C.left pairs) state.old result state.new };
 }
 
 /// What reads the pairs of two stores side by side (`Store::read_both`): equality, order, unions and
@@ -43,11 +46,11 @@ pub trait ReaderOfBoth<R: KeyRange, V> {
     ghost reads: { List (R × V) → List (R × V) → Self.State → Self.Answer → Self.State → Type 0 };
 
     /// Reads the pairs of either.
-    fn read<I: PairIter<Range = R, Value = V>>(
-        left: I,
-        right: I,
+    fn read<C: Peek<Range = R, Value = V>>(
+        left: C,
+        right: C,
         state: &mut Self::State,
     ) -> Self::Answer
-        requires { may_read (I.left left) (I.left right) state.old }
-        ensures { reads (I.left left) (I.left right) state.old result state.new };
+        requires { may_read (C.left left) (C.left right) state.old }
+        ensures { reads (C.left left) (C.left right) state.old result state.new };
 }

@@ -3,14 +3,16 @@
 //! `Store` and `StoreMut` are all that a representation has to do. `Map` and `Set` make every public
 //! call of them, so a store has no `extend`, no comparison, no text and no JSON form of its own.
 ghost use Rattle.std.specs.Prelude.{◌≡◌, ◌-◌, ◌+◌, ◌≤◌, List, [], IfOk, IsOk, OnErr, OnOk, length, map, slice_get, true};
+ghost use Rattle.std.specs.Map.Iter.{deref_pair};
 ghost use Rattle.std.specs.Option.{option_map};
 ghost use Rattle.rangemap_core.specs.Appends.{AppendsGaps};
 ghost use Rattle.rangemap_core.specs.Clones.{KeysCloneFaithfully, ValuesCloneFaithfully};
-ghost use Rattle.rangemap_core.specs.Ranges.{AreGaps, IsCanonOf, IsCanonical, IsNewest, covering, erase, overlapped, override, same_pairs, value_at};
+ghost use Rattle.rangemap_core.specs.Ranges.{IsCanonOf, IsCanonical, IsNewest, covering, erase, overlapped, override, same_pairs, value_at};
+ghost use Rattle.rangemap_core.specs.Shown.{shown};
 
+use crate::cursor::Cursor;
 use crate::key_range::KeyRange;
 use crate::kind::Kind;
-use crate::pair_iter::{LentPairs, OwnedPairs};
 use crate::reader::{Reader, ReaderOfBoth};
 use std::alloc::{AllocError, Allocator};
 use std::iter::Iterator;
@@ -158,28 +160,45 @@ pub trait StoreMut: Store {
 /// have to prove how its pairs are dropped.
 pub trait HandsOver: Store {
     /// The pairs that are handed over, in order and from both ends.
-    type IntoIter: OwnedPairs<Range = Self::Range, Value = Self::Value>;
+    type IntoIter: Cursor<
+        Range = Self::Range,
+        Value = Self::Value,
+        Given = Self::Range,
+        GivenValue = Self::Value,
+    >;
 
     /// Hands all pairs over.
     fn into_pairs(self) -> Self::IntoIter
         ensures pairs { Self.IntoIter.left result ≡ Self.pairs self }
         ensures canonical { IsCanonical Self.Kind.kind Self.Value.eq (Self.pairs self) };
+
+    /// What is taken of them is the very pair.
+    ghost gives: { (pair : Self.Range × Self.Value) → shown Self.IntoIter.given Self.IntoIter.given_value pair ≡ pair };
 }
 
 /// A store that lends its pairs for `'a`.
 ///
-/// It asks of its iterators only what a struct does that holds one (`LentPairs`), so that who is handed
-/// one pays no more. Who goes over them asks for `PairIter` besides.
+/// The iterators that users see are made of what it lends.
 pub trait Lends<'a>: Store
 where
     Self::Range: 'a,
     Self::Value: 'a,
 {
     /// The pairs, in order and from both ends.
-    type Iter: LentPairs<Range = Self::Range, Value = Self::Value, Lent = &'a Self::Range>;
+    type Iter: Cursor<
+        Range = Self::Range,
+        Value = Self::Value,
+        Given = &'a Self::Range,
+        GivenValue = &'a Self::Value,
+    >;
 
     /// The pairs that overlap a range, in order and from both ends.
-    type Overlapping: LentPairs<Range = Self::Range, Value = Self::Value, Lent = &'a Self::Range>;
+    type Overlapping: Cursor<
+        Range = Self::Range,
+        Value = Self::Value,
+        Given = &'a Self::Range,
+        GivenValue = &'a Self::Value,
+    >;
 
     /// Returns all pairs.
     fn iter(&'a self) -> Self::Iter
@@ -188,4 +207,10 @@ where
     /// Returns the pairs that overlap `range`, of which nothing is asked.
     fn overlapping(&'a self, range: &'a Self::Range) -> Self::Overlapping
         ensures { Self.Overlapping.left result ≡ overlapped Self.Kind.kind (Self.pairs self.now) range.now };
+
+    /// What is taken of them leads to the pair.
+    ghost lends: { (pair : _) → shown Self.Iter.given Self.Iter.given_value pair ≡ deref_pair pair };
+
+    /// So does what is taken of those that overlap a range.
+    ghost lends_overlapping: { (pair : _) → shown Self.Overlapping.given Self.Overlapping.given_value pair ≡ deref_pair pair };
 }

@@ -4,9 +4,9 @@ ghost use Rattle.std.specs.Prelude.{◌≡◌};
 ghost use Rattle.rangemap_core.specs.ListOrder.{pair_cmp, pairs_cmp};
 ghost use Rattle.rangemap_core.specs.Ranges.{same_pairs};
 
+use rangemap_core::cursor::Peek;
 use rangemap_core::key_range::KeyRange;
 use rangemap_core::kind::Kind;
-use rangemap_core::pair_iter::{PairIter, range_of, value_of};
 use rangemap_core::pairs::is_same;
 use rangemap_core::reader::ReaderOfBoth;
 use rangemap_core::store::Store;
@@ -43,19 +43,19 @@ impl<Q: Kind<R>, R: KeyRange, V: Eq> ReaderOfBoth<R, V> for Same<Q> {
 
     ghost reads = { λ left right _ result _. result ≡ same_pairs Q.kind V.eq left right };
 
-    fn read<I: PairIter<Range = R, Value = V>>(left: I, right: I, _state: &mut ()) -> bool {
+    fn read<C: Peek<Range = R, Value = V>>(left: C, right: C, _state: &mut ()) -> bool {
         let (mut ours, mut theirs) = (left, right);
-        'pairs: while let Some(our) = ours.next() {
-            let Some(their) = theirs.next() else {
+        'pairs: while let Some(our) = ours.take_first() {
+            let Some(their) = theirs.take_first() else {
                 return false;
             };
-            let (range, value) = (range_of::<I>(&our.0), value_of::<I>(&our.1));
-            let (other, other_value) = (range_of::<I>(&their.0), value_of::<I>(&their.1));
+            let (range, value) = C::parts(&our);
+            let (other, other_value) = C::parts(&their);
             if !is_same::<Q, R, V>(range, value, other, other_value) {
                 return false;
             }
         }
-        theirs.next().is_none()
+        theirs.take_first().is_none()
     }
 }
 
@@ -72,20 +72,20 @@ impl<Q: Kind<R>, R: KeyRange, V: Ord> ReaderOfBoth<R, V> for Compared<Q> {
 
     ghost reads = { λ left right _ result _. result ≡ pairs_cmp Q.kind V.cmp left right };
 
-    fn read<I: PairIter<Range = R, Value = V>>(left: I, right: I, _state: &mut ()) -> Ordering {
+    fn read<C: Peek<Range = R, Value = V>>(left: C, right: C, _state: &mut ()) -> Ordering {
         let (mut ours, mut theirs) = (left, right);
-        'pairs: while let Some(our) = ours.next() {
-            let Some(their) = theirs.next() else {
+        'pairs: while let Some(our) = ours.take_first() {
+            let Some(their) = theirs.take_first() else {
                 return Ordering::Greater;
             };
-            let (range, value) = (range_of::<I>(&our.0), value_of::<I>(&our.1));
-            let (other, other_value) = (range_of::<I>(&their.0), value_of::<I>(&their.1));
+            let (range, value) = C::parts(&our);
+            let (other, other_value) = C::parts(&their);
             let found = compare_pairs::<Q, R, V>(range, value, other, other_value);
             if found.is_ne() {
                 return found;
             }
         }
-        if theirs.next().is_none() {
+        if theirs.take_first().is_none() {
             Ordering::Equal
         } else {
             Ordering::Less

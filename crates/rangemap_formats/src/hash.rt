@@ -2,9 +2,9 @@
 ghost use Rattle.std.specs.Prelude.{◌≡◌, fold};
 ghost use Rattle.rangemap_core.specs.Hashes.{pair_fed, pairs_fed};
 
+use rangemap_core::cursor::Cursor;
 use rangemap_core::key_range::KeyRange;
 use rangemap_core::kind::Kind;
-use rangemap_core::pair_iter::{PairIter, range_of, value_of};
 use rangemap_core::reader::Reader;
 use rangemap_core::store::Store;
 use std::hash::{Hash, Hasher};
@@ -40,13 +40,16 @@ where
 
     ghost reads = { λ pairs old _ new. new ≡ fold H.write old (flat_map (pair_fed Q.kind R.Key.hash_input V.hash_input) pairs) };
 
-    fn read<I: PairIter<Range = R, Value = V>>(pairs: I, state: &mut H) {
+    fn read<C: Cursor<Range = R, Value = V, Given: Drop, GivenValue: Drop>>(
+        pairs: C,
+        state: &mut H,
+    ) {
         let mut rest = pairs;
-        'pairs: while let Some(pair) = rest.next() {
-            let range = range_of::<I>(&pair.0);
+        'pairs: while let Some(pair) = rest.take_first() {
+            let (range, value) = C::parts(&pair);
             range.start().hash(state);
             range.end().hash(state);
-            value_of::<I>(&pair.1).hash(state);
+            value.hash(state);
         }
     }
 }

@@ -1,15 +1,15 @@
 //! The debug text of what a store holds.
 //!
 //! It is written by hand where no form is asked for, since std's `Debug` of ranges, and its
-//! builders `debug_map` and `debug_set`, have no contract. Under `{:#?}` these write it, and
-//! nothing is promised.
+//! builders, have no contract. Under `{:#?}` std's `debug_set` lays the pairs out, and nothing is
+//! promised.
 ghost use Rattle.std.specs.Prelude.{◌≡◌, ℕ, List, Option, Some, codes, map};
 ghost use Rattle.std.specs.Fmt.{DisplaysOnOk, WritesOnOk, ◌++?◌};
 ghost use Rattle.rangemap_formats.specs.Texts.{braced_text, items_text, map_text, others_text, pair_text, range_text, set_text};
 
+use rangemap_core::cursor::Cursor;
 use rangemap_core::key_range::KeyRange;
 use rangemap_core::kind::Kind;
-use rangemap_core::pair_iter::{PairIter, range_of, value_of};
 use rangemap_core::reader::Reader;
 use rangemap_core::store::Store;
 use std::fmt;
@@ -28,7 +28,7 @@ where
     ensures { DisplaysOnOk W.write_str_gives f.old result (map_text S.Kind.kind S.Range.dots S.Range.Key.debug_output S.Value.debug_output (S.pairs stored.now)) f.new }
 {
     if f.alternate() {
-        return stored.read::<MapOnLines<W>>(f);
+        return stored.read::<OnLines<RangeAndValue<S::Kind>, W>>(f);
     }
     write_all::<RangeAndValue<S::Kind>, S, W>(stored, f)
 }
@@ -43,53 +43,9 @@ where
     ensures { DisplaysOnOk W.write_str_gives f.old result (set_text S.Kind.kind S.Range.dots S.Range.Key.debug_output (map (λ pair. pair.0) (S.pairs stored.now))) f.new }
 {
     if f.alternate() {
-        return stored.read::<SetOnLines<W>>(f);
+        return stored.read::<OnLines<RangeAlone<S::Kind>, W>>(f);
     }
     write_all::<RangeAlone<S::Kind>, S, W>(stored, f)
-}
-
-// Writes the pairs with std's builder.
-struct MapOnLines<W>(PhantomData<W>);
-
-impl<R: KeyRange + Debug, V: Debug, W: fmt::Write> Reader<R, V> for MapOnLines<W> {
-    ghost use Rattle.std.specs.Prelude.{⊤};
-
-    type State = Formatter<W>;
-
-    type Answer = fmt::Result;
-
-    ghost reads = { λ _ _ _ _. ⊤ };
-
-    fn read<I: PairIter<Range = R, Value = V>>(pairs: I, f: &mut Formatter<W>) -> fmt::Result {
-        let mut rest = pairs;
-        let mut map = f.debug_map();
-        while let Some(pair) = rest.next() {
-            map.entry(range_of::<I>(&pair.0), value_of::<I>(&pair.1));
-        }
-        map.finish()
-    }
-}
-
-// Writes the ranges with std's builder.
-struct SetOnLines<W>(PhantomData<W>);
-
-impl<R: KeyRange + Debug, V, W: fmt::Write> Reader<R, V> for SetOnLines<W> {
-    ghost use Rattle.std.specs.Prelude.{⊤};
-
-    type State = Formatter<W>;
-
-    type Answer = fmt::Result;
-
-    ghost reads = { λ _ _ _ _. ⊤ };
-
-    fn read<I: PairIter<Range = R, Value = V>>(pairs: I, f: &mut Formatter<W>) -> fmt::Result {
-        let mut rest = pairs;
-        let mut set = f.debug_set();
-        while let Some(pair) = rest.next() {
-            set.entry(range_of::<I>(&pair.0));
-        }
-        set.finish()
-    }
 }
 
 // What is written of a pair.
@@ -136,6 +92,50 @@ where
     }
 }
 
+// Writes the pairs that it reads with std's builder.
+struct OnLines<T, W>(PhantomData<(T, W)>);
+
+impl<T: PairText<R, V>, R: KeyRange, V, W: fmt::Write> Reader<R, V> for OnLines<T, W> {
+    ghost use Rattle.std.specs.Prelude.{⊤};
+
+    type State = Formatter<W>;
+
+    type Answer = fmt::Result;
+
+    ghost reads = { λ _ _ _ _. ⊤ };
+
+    fn read<C: Cursor<Range = R, Value = V, Given: Drop, GivenValue: Drop>>(
+        pairs: C,
+        f: &mut Formatter<W>,
+    ) -> fmt::Result {
+        let mut rest = pairs;
+        let mut set = f.debug_set();
+        while let Some(pair) = rest.take_first() {
+            let (range, value) = C::parts(&pair);
+            let text = PhantomData;
+            let written: Written<'_, T, R, V> = Written { range, value, text };
+            set.entry(&written);
+        }
+        set.finish()
+    }
+}
+
+// A pair that is written as `T` says.
+#[derive(Drop)]
+struct Written<'a, T, R, V> {
+    range: &'a R,
+    value: &'a V,
+    text: PhantomData<T>,
+}
+
+impl<'a, T: PairText<R, V>, R, V> Debug for Written<'a, T, R, V> {
+    ghost debug_output = { λ it. T.text (it.range.now, it.value.now) };
+
+    fn fmt<W: fmt::Write>(&self, f: &mut Formatter<W>) -> fmt::Result {
+        T::write_pair(self.range, self.value, f)
+    }
+}
+
 fn write_all<T: PairText<S::Range, S::Value>, S: Store, W: fmt::Write>(
     stored: &S,
     f: &mut Formatter<W>,
@@ -160,28 +160,32 @@ impl<T: PairText<R, V>, R: KeyRange, V, W: fmt::Write> Reader<R, V> for Items<T,
 
     ghost reads = { λ pairs old result new. DisplaysOnOk W.write_str_gives old result (items_text T.text pairs) new };
 
-    fn read<I: PairIter<Range = R, Value = V>>(pairs: I, f: &mut Formatter<W>) -> fmt::Result {
+    fn read<C: Cursor<Range = R, Value = V, Given: Drop, GivenValue: Drop>>(
+        pairs: C,
+        f: &mut Formatter<W>,
+    ) -> fmt::Result {
         let mut rest = pairs;
-        let Some(first) = rest.next() else {
+        let Some(first) = rest.take_first() else {
             return Ok(());
         };
-        let (range, value) = (range_of::<I>(&first.0), value_of::<I>(&first.1));
+        let (range, value) = C::parts(&first);
         T::write_pair(range, value, f)?;
-        write_others::<T, I, W>(rest, f)
+        write_others::<T, C, W>(rest, f)
     }
 }
 
 // Each pair, after `, `.
-fn write_others<T: PairText<I::Range, I::Value>, I: PairIter, W: fmt::Write>(
-    pairs: I,
-    f: &mut Formatter<W>,
-) -> fmt::Result
-    ensures { DisplaysOnOk W.write_str_gives f.old result (others_text T.text (I.left pairs)) f.new }
+fn write_others<
+    T: PairText<C::Range, C::Value>,
+    C: Cursor<Given: Drop, GivenValue: Drop>,
+    W: fmt::Write,
+>(pairs: C, f: &mut Formatter<W>) -> fmt::Result
+    ensures { DisplaysOnOk W.write_str_gives f.old result (others_text T.text (C.left pairs)) f.new }
 {
     let mut rest = pairs;
-    'pairs: while let Some(pair) = rest.next() {
+    'pairs: while let Some(pair) = rest.take_first() {
         f.write_str(", ")?;
-        let (range, value) = (range_of::<I>(&pair.0), value_of::<I>(&pair.1));
+        let (range, value) = C::parts(&pair);
         T::write_pair(range, value, f)?;
     }
     Ok(())

@@ -7,7 +7,7 @@ use crate::readers::IsAny;
 use rangemap_core::gaps::{Gaps, gaps_of};
 use rangemap_core::key_range::KeyRange;
 use rangemap_core::kind::Kind;
-use rangemap_core::pair_iter::PairIter;
+use rangemap_core::pair_iter::{OverlappingPairs, PairIter};
 use rangemap_core::store::{Lends, Store, StoreMut};
 use std::marker::{Model, PhantomData};
 
@@ -163,12 +163,12 @@ where
     S::Value: 'a,
 {
     /// Returns the stored pairs, in order, from both ends.
-    pub fn iter(&'a self) -> S::Iter
-        ensures all { S.Iter.left result ≡ self.now }
+    pub fn iter(&'a self) -> PairIter<S::Iter>
+        ensures all { result ≡ self.now }
         ensures canonical { IsCanonical S.Kind.kind S.Value.eq self.now }
     {
         self.stored.known();
-        self.stored.iter()
+        PairIter::over(self.stored.iter(), self.stored.len())
     }
 
     /// Returns the pairs that end after the start of `range` and start before its end, in order.
@@ -184,18 +184,12 @@ where
     /// // found.next() is Some((&(0..2), &'a')), found.next_back() is Some((&(2..4), &'b')),
     /// // and then both are None
     /// ```
-    pub fn overlapping(&'a self, range: &'a S::Range) -> S::Overlapping
-        ensures { S.Overlapping.left result ≡ overlapped S.Kind.kind self.now range.now }
+    pub fn overlapping(&'a self, range: &'a S::Range) -> OverlappingPairs<S::Overlapping>
+        ensures { result ≡ overlapped S.Kind.kind self.now range.now }
     {
-        self.stored.overlapping(range)
+        OverlappingPairs::over(self.stored.overlapping(range))
     }
-}
 
-impl<'a, S: Lends<'a, Overlapping: PairIter>> Map<S>
-where
-    S::Range: 'a,
-    S::Value: 'a,
-{
     /// Returns the parts of `outer_range` that no stored range covers, in order.
     ///
     /// Between two stored ranges that touch there is none. Nothing is asked of `outer_range`: an

@@ -1,8 +1,8 @@
 //! What maps and sets ask of all pairs that a query overlaps.
 ghost use Rattle.std.specs.Prelude.{◌≡◌, length, nat_lt};
 
+use rangemap_core::cursor::Cursor;
 use rangemap_core::key_range::KeyRange;
-use rangemap_core::pair_iter::PairIter;
 use rangemap_core::reader::Reader;
 
 /// Tells whether there is a pair.
@@ -17,8 +17,11 @@ impl<R: KeyRange, V> Reader<R, V> for IsAny {
 
     ghost reads = { λ pairs _ result _. result ≡ nat_lt 0 (length pairs) };
 
-    fn read<I: PairIter<Range = R, Value = V>>(pairs: I, _state: &mut ()) -> bool {
+    fn read<C: Cursor<Range = R, Value = V, Given: Drop, GivenValue: Drop>>(
+        pairs: C,
+        _state: &mut (),
+    ) -> bool {
         let mut rest = pairs;
-        rest.peek().is_some()
+        rest.take_first().is_some()
     }
 }

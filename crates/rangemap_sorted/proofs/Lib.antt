@@ -5,4 +5,4 @@ pub mod InsertLemmas
 pub mod RemoveLemmas
 pub mod OverlapLemmas
 pub mod ReadLemmas
-pub mod PeekLemmas
+pub mod SideLemmas

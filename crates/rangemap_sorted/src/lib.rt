@@ -6,8 +6,6 @@
 #![tactic(auto)]
 
 pub mod entries;
-pub mod into_iter;
-pub mod iter;
 pub mod overlapping;
 mod probe;
 mod search;

@@ -4,28 +4,24 @@
 //! does. Where those of a query end, the next few pairs are looked at one by one, and where it meets
 //! more it is searched for over whole pairs, by std's `partition_point`: the iterator knows how its
 //! ranges are read, and no kind of range that the search among starts asks for.
-ghost use Rattle.std.specs.Prelude.{◌≡◌, ◌<◌, ◌≤◌, ◌∷◌, [], IfSome, MatchOption, None as NoneWord, true, false, length, take_while};
-ghost use Rattle.std.specs.List.{AllWithin};
+ghost use Rattle.std.specs.Prelude.{◌≡◌, ◌<◌, ◌≤◌, true, false, length, take_while};
 ghost use Rattle.std.specs.List.Sorted.{IsPartitionedBy};
-ghost use Rattle.std.specs.Iterator.{UpTo, at_most};
-ghost use Rattle.std.specs.Iterator.SizeHint.{IsWithinCount};
-ghost use Rattle.std.specs.Map.Iter.{TakesFirst, TakesLast, deref_pair};
 ghost use Rattle.rangemap_core.specs.engine.Intervals.{is_begun};
 ghost use Rattle.rangemap_core.specs.Ranges.{IsCanonical, overlapped};
 ghost use Rattle.rangemap_core.specs.engine.Shape.{PassesUpTo, shape_of};
-ghost use Rattle.rangemap_core.specs.engine.Stretch.{IsOverlap, ends_by, starts_within};
+ghost use Rattle.rangemap_core.specs.engine.Stretch.{IsOverlap, ends_by};
+ghost use Rattle.rangemap_sorted.specs.Overlaps.{IsOverlapEnd};
 
 use crate::search::starts_up_to;
+use rangemap_core::cursor::Cursor;
 use rangemap_core::key_range::KeyRange;
 use rangemap_core::kind::{Endpoint, Kind, known_ends};
-use rangemap_core::pair_iter::{LentPairs, PairIter};
-use std::iter::{DoubleEndedIterator, Iterator};
 use std::marker::Model;
 use std::ops::Range;
 
 /// The pairs that overlap a range, in order.
 ///
-/// One search finds the first of them, when this is made. `next` stops at the first pair that
+/// One search finds the first of them, when this is made. `take_first` stops at the first pair that
 /// starts behind the range. Their end is searched for when the back is first asked for, and only
 /// then.
 #[derive(Drop)]
@@ -75,14 +71,25 @@ impl<'a, R: KeyRange, V> Overlapping<'a, R, V> {
     }
 }
 
-impl<'a, R: KeyRange, V> Iterator for Overlapping<'a, R, V> {
-    type Item = (&'a R, &'a V);
+impl<'a, R: KeyRange, V> Cursor for Overlapping<'a, R, V> {
+    ghost use Rattle.std.specs.Map.Iter.{deref};
 
-    ghost next_gives = { TakesFirst deref_pair };
+    type Range = R;
 
-    ghost remaining = { λ s. at_most (length s) };
+    type Value = V;
 
-    fn next(&mut self) -> Option<(&'a R, &'a V)> {
+    type Given = &'a R;
+
+    type GivenValue = &'a V;
+
+    ghost left = { λ it. it };
+
+    ghost given = { deref };
+
+    ghost given_value = { deref };
+
+    #[inline(always)]
+    fn take_first(&mut self) -> Option<(&'a R, &'a V)> {
         let (pair, rest) = self.pairs.split_first()?;
         if self.is_bounded || self.query.reaches(pair.0.start()) {
             self.pairs = rest;
@@ -92,19 +99,8 @@ impl<'a, R: KeyRange, V> Iterator for Overlapping<'a, R, V> {
         }
     }
 
-    fn size_hint(&self) -> (usize, Option<usize>)
-        ensures lower { IsWithinCount result.0 (at_most (length self.now)) }
-        ensures upper { IfSome result.1 (UpTo (at_most (length self.now))) }
-        ensures exact { result ≡ (0, NoneWord) }
-    {
-        (0, None)
-    }
-}
-
-impl<'a, R: KeyRange, V> DoubleEndedIterator for Overlapping<'a, R, V> {
-    ghost next_back_gives = { TakesLast deref_pair };
-
-    fn next_back(&mut self) -> Option<(&'a R, &'a V)> {
+    #[inline(always)]
+    fn take_last(&mut self) -> Option<(&'a R, &'a V)> {
         if !self.is_bounded {
             self.pairs = take_begun::<R, V>(self.pairs, self.query);
             self.is_bounded = true;
@@ -113,54 +109,11 @@ impl<'a, R: KeyRange, V> DoubleEndedIterator for Overlapping<'a, R, V> {
         self.pairs = rest;
         Some((&pair.0, &pair.1))
     }
-}
 
-impl<'a, R: KeyRange, V> LentPairs for Overlapping<'a, R, V> {
-    ghost use Rattle.std.specs.Map.Iter.{deref};
-
-    type Range = R;
-
-    type Value = V;
-
-    type Lent = &'a R;
-
-    ghost left = { λ it. it };
-
-    ghost range = { deref };
-}
-
-impl<'a, R: KeyRange, V> PairIter for Overlapping<'a, R, V> {
-    ghost use Rattle.std.specs.Map.Iter.{deref};
-    ghost use Rattle.std.specs.Prelude.{None as NoneWord};
-    ghost use Rattle.rangemap_core.specs.Ends.{by_definition};
-    ghost use Rattle.rangemap_core.specs.laws.Hints.{none_within};
-
-    type LentValue = &'a V;
-
-    ghost value = { deref };
-
-    ghost range_leads = { λ lent found leads. leads };
-
-    ghost value_leads = { λ lent found leads. leads };
-
-    ghost hinted = { λ _. (0, NoneWord) };
-
-    ghost hinted_within = { none_within };
-
-    fn peek(&mut self) -> Option<&'a R> {
-        if self.is_bounded {
-            let (pair, _) = self.pairs.split_first()?;
-            return Some(&pair.0);
-        }
-        let (pair, _) = split_begun(self.pairs, self.query)?;
-        Some(&pair.0)
+    #[inline(always)]
+    fn parts<'b>(pair: &'b (&'a R, &'a V)) -> (&'b R, &'b V) {
+        (pair.0, pair.1)
     }
-
-    fn hint(&self) -> (usize, Option<usize>) {
-        self.size_hint()
-    }
-
-    ghost ends = { by_definition _ _ };
 }
 
 // The pairs of a canonical list from the first that overlaps the query on. Of these the ones that
@@ -186,22 +139,6 @@ pub fn overlapping_pairs<'a, Q: Kind<R>, R: KeyRange, V: Eq>(
     ensures { result.now ≡ overlapped Q.kind pairs.now query.now }
 {
     take_begun::<R, V>(overlapping_tail::<Q, R, V>(pairs, query), query)
-}
-
-// The first pair and those behind it, if it starts before the query ends.
-fn split_begun<'a, R: KeyRange, V>(
-    pairs: &'a [(R, V)],
-    query: &R,
-) -> Option<(&'a (R, V), &'a [(R, V)])>
-    ensures begun { MatchOption result (take_while (is_begun R.read R.has_end query.now) pairs.now ≡ []) (λ split. take_while (is_begun R.read R.has_end query.now) pairs.now ≡ split.0.now ∷ take_while (is_begun R.read R.has_end query.now) split.1.now) }
-    ensures shorter { IfSome result (λ split. length split.1.now < length pairs.now) }
-{
-    let (first, rest) = pairs.split_first()?;
-    if query.reaches(first.0.start()) {
-        Some((first, rest))
-    } else {
-        None
-    }
 }
 
 // Up to how many pairs are looked at one by one for the end of a query. They lie side by side, and most
@@ -237,6 +174,10 @@ fn count_begun<R: KeyRange, V>(pairs: &[(R, V)], query: &R) -> usize
 }
 
 /// Returns the places of the pairs that overlap a range which is to be changed.
+//
+// Inlined, so that the ends of a range that was handed over in memory are read one by one there, as
+// they were written.
+#[inline(always)]
 pub fn overlap<Q: Kind<R>, R: KeyRange, V: Eq>(pairs: &[(R, V)], range: &R) -> Range<usize>
     requires { IsCanonical Q.kind V.eq pairs.now }
     ensures { IsOverlap (shape_of Q.kind Q.end_place V.eq) pairs.now range.now result.start result.end }
@@ -271,10 +212,7 @@ const LOOKED_AT: usize = 4;
 fn overlap_end<Q: Kind<R>, R: KeyRange, V: Eq>(pairs: &[(R, V)], query: &R, start: usize) -> usize
     requires canonical { IsCanonical Q.kind V.eq pairs.now }
     requires in_bounds { start ≤ length pairs.now }
-    ensures start { start ≤ result }
-    ensures bound { result ≤ length pairs.now }
-    ensures begun { AllWithin (λ b. starts_within (shape_of Q.kind Q.end_place V.eq) query.now b ≡ true) pairs.now start result }
-    ensures later { AllWithin (λ b. starts_within (shape_of Q.kind Q.end_place V.eq) query.now b ≡ false) pairs.now result (length pairs.now) }
+    ensures { IsOverlapEnd (shape_of Q.kind Q.end_place V.eq) pairs.now query.now start result }
 {
     let end = Endpoint::End(query);
     if LOOKED_AT < pairs.len() - start
@@ -300,10 +238,7 @@ fn overlap_end<Q: Kind<R>, R: KeyRange, V: Eq>(pairs: &[(R, V)], query: &R, star
 fn searched_end<Q: Kind<R>, R: KeyRange, V: Eq>(pairs: &[(R, V)], query: &R, start: usize) -> usize
     requires canonical { IsCanonical Q.kind V.eq pairs.now }
     requires in_bounds { start ≤ length pairs.now }
-    ensures start { start ≤ result }
-    ensures bound { result ≤ length pairs.now }
-    ensures begun { AllWithin (λ b. starts_within (shape_of Q.kind Q.end_place V.eq) query.now b ≡ true) pairs.now start result }
-    ensures later { AllWithin (λ b. starts_within (shape_of Q.kind Q.end_place V.eq) query.now b ≡ false) pairs.now result (length pairs.now) }
+    ensures { IsOverlapEnd (shape_of Q.kind Q.end_place V.eq) pairs.now query.now start result }
 {
     known_ends::<Q, R>(query);
     let near = starts_up_to::<Q, R, V>(pairs, query.end());

@@ -1,9 +1,6 @@
 //! The store in one sorted vector.
-ghost use Rattle.std.specs.Prelude.{◌≡◌};
 
 use crate::entries::{changes, covering};
-use crate::into_iter::IntoIter;
-use crate::iter::Iter;
 use crate::overlapping::Overlapping;
 use rangemap_core::container::append_gaps;
 use rangemap_core::key_range::KeyRange;
@@ -13,6 +10,7 @@ use rangemap_core::reader::{Reader, ReaderOfBoth};
 use rangemap_core::store::{HandsOver, Lends, Store, StoreMut};
 use std::alloc::{AllocError, Allocator};
 use std::marker::{Model, PhantomData};
+use std::{slice, vec};
 
 /// Pairs of a range and a value in one sorted vector.
 ///
@@ -74,11 +72,11 @@ impl<Q: Kind<R>, R: KeyRange, V: Eq + Clone, A: Allocator> Store for SortedVec<Q
     }
 
     fn read<U: Reader<R, V>>(&self, state: &mut U::State) -> U::Answer {
-        U::read(Iter::over(&self.pairs), state)
+        U::read(self.pairs.iter(), state)
     }
 
     fn read_both<U: ReaderOfBoth<R, V>>(&self, other: &Self, state: &mut U::State) -> U::Answer {
-        U::read(Iter::over(&self.pairs), Iter::over(&other.pairs), state)
+        U::read(self.pairs.iter(), other.pairs.iter(), state)
     }
 
     fn read_overlapping<U: Reader<R, V>>(&self, range: &R, state: &mut U::State) -> U::Answer {
@@ -129,12 +127,16 @@ impl<Q: Kind<R>, R: KeyRange, V: Eq + Clone, A: Allocator> StoreMut for SortedVe
 }
 
 impl<Q: Kind<R>, R: KeyRange, V: Eq + Clone, A: Allocator> HandsOver for SortedVec<Q, R, V, A> {
-    type IntoIter = IntoIter<R, V, A>;
+    ghost use Rattle.std.specs.Prelude.{refl};
 
-    fn into_pairs(self) -> IntoIter<R, V, A> {
+    type IntoIter = vec::IntoIter<(R, V), A>;
+
+    fn into_pairs(self) -> vec::IntoIter<(R, V), A> {
         let SortedVec { pairs, kind: _ } = self;
-        IntoIter::over(pairs)
+        pairs.into_iter()
     }
+
+    ghost gives = { λ pair. refl };
 }
 
 impl<'a, Q: Kind<R>, R: KeyRange, V: Eq + Clone, A: Allocator> Lends<'a> for SortedVec<Q, R, V, A>
@@ -144,15 +146,21 @@ where
     Self::Range: 'a,
     Self::Value: 'a,
 {
-    type Iter = Iter<'a, R, V>;
+    ghost use Rattle.std.specs.Prelude.{refl};
+
+    type Iter = slice::Iter<'a, (R, V)>;
 
     type Overlapping = Overlapping<'a, R, V>;
 
-    fn iter(&'a self) -> Iter<'a, R, V> {
-        Iter::over(&self.pairs)
+    fn iter(&'a self) -> slice::Iter<'a, (R, V)> {
+        self.pairs.iter()
     }
 
     fn overlapping(&'a self, range: &'a R) -> Overlapping<'a, R, V> {
         Overlapping::new::<Q>(&self.pairs, range)
     }
+
+    ghost lends = { λ pair. refl };
+
+    ghost lends_overlapping = { λ pair. refl };
 }

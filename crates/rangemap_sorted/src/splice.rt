@@ -17,6 +17,10 @@ mod turn;
 ///
 /// The vector had to grow and could not. All memory is taken before the first change, so nothing
 /// changed then.
+//
+// Inlined where it is called: else the values are handed over in memory, which they are written to by
+// parts and read from whole, and an insert into a short list takes half as long again.
+#[inline(always)]
 pub fn splice<T: Drop, A: Allocator>(
     list: &mut Vec<T, A>,
     places: Range<usize>,

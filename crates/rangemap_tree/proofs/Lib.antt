@@ -4,7 +4,6 @@ pub mod StartLemmas
 pub mod EntryLemmas
 pub mod TakenLemmas
 pub mod CloneLemmas
-pub mod AheadLemmas
 pub mod SplitLemmas
 pub mod NearLemmas
 pub mod InsertSideLemmas

@@ -10,9 +10,9 @@ ghost use Rattle.rangemap_tree.specs.Starts.{AreClones, AreStarts, before, up_to
 use crate::into_iter::IntoIter;
 use crate::iter::Iter;
 use crate::overlapping::Overlapping;
+use rangemap_core::cursor::Cursor;
 use std::alloc::{AllocError, Allocator};
 use std::collections::BTreeMap;
-use std::iter::Iterator;
 use std::marker::Model;
 use std::ops::{Bound, Range};
 
@@ -153,7 +153,7 @@ impl<K: Ord + Clone, V, A: Allocator + Clone> ByStart<K, V, A> {
     {
         let mut starts = Vec::new(self.alloc.clone()?);
         let mut pairs = self.between(from, to);
-        'pairs: while let Some((range, _)) = pairs.next() {
+        'pairs: while let Some((range, _)) = pairs.take_first() {
             starts.push(range.start.clone()?)?;
         }
         Ok(starts)

@@ -87,9 +87,8 @@ fn left_side<K: Ord + Clone, V: Eq, A: Allocator + Clone>(
         return Ok(neither);
     }
     if *first_value == *value {
-        let start = first.start.clone()?;
         return Ok(Left {
-            start: Some(start),
+            start: Some(first.start.clone()?),
             cut: None,
         });
     }
@@ -149,9 +148,8 @@ fn right_side<K: Ord + Clone, V: Eq + Clone, A: Allocator + Clone>(
         return Ok(neither);
     }
     if *last_value == *value {
-        let end = last.end.clone()?;
         return Ok(Right {
-            end: Some(end),
+            end: Some(last.end.clone()?),
             piece: None,
         });
     }

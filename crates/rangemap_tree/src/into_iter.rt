@@ -1,13 +1,10 @@
-//! The pairs of a map in a tree, handed over one after another.
-ghost use Rattle.std.specs.Prelude.{◌≡◌, [], length, unwrap_or, IfSome, Some as SomeWord};
-ghost use Rattle.std.specs.Iterator.{UpTo, at_most};
-ghost use Rattle.std.specs.Iterator.SizeHint.{IsWithinCount};
-ghost use Rattle.std.specs.Map.Iter.{TakesFirst, TakesLast};
+//! The pairs of a tree, handed over one after another.
+ghost use Rattle.std.specs.Prelude.{◌≡◌, [], unwrap_or};
 
-use rangemap_core::pair_iter::OwnedPairs;
+use rangemap_core::cursor::Cursor;
 use std::alloc::Allocator;
 use std::collections::btree_map;
-use std::iter::{DoubleEndedIterator, ExactSizeIterator, Iterator};
+use std::iter::{DoubleEndedIterator, Iterator};
 use std::marker::Model;
 use std::ops::Range;
 
@@ -38,53 +35,30 @@ impl<K, V, A: Allocator> IntoIter<K, V, A> {
     }
 }
 
-impl<K: Drop, V: Drop, A: Allocator> Iterator for IntoIter<K, V, A> {
-    type Item = (Range<K>, V);
-
-    ghost next_gives = { TakesFirst (λ pair. pair) };
-
-    ghost remaining = { λ s. at_most (length s) };
-
-    fn next(&mut self) -> Option<(Range<K>, V)> {
-        self.pairs.as_mut()?.next()
-    }
-
-    fn size_hint(&self) -> (usize, Option<usize>)
-        ensures lower { IsWithinCount result.0 (at_most (length self.now)) }
-        ensures upper { IfSome result.1 (UpTo (at_most (length self.now))) }
-        ensures exact { result ≡ (length self.now, SomeWord (length self.now)) }
-    {
-        let len = self.len();
-        (len, Some(len))
-    }
-}
-
-impl<K: Drop, V: Drop, A: Allocator> DoubleEndedIterator for IntoIter<K, V, A> {
-    ghost next_back_gives = { TakesLast (λ pair. pair) };
-
-    fn next_back(&mut self) -> Option<(Range<K>, V)> {
-        self.pairs.as_mut()?.next_back()
-    }
-}
-
-impl<K: Drop, V: Drop, A: Allocator> ExactSizeIterator for IntoIter<K, V, A> {
-    /// Returns how many pairs are still to come.
-    fn len(&self) -> usize {
-        match &self.pairs {
-            Some(pairs) => pairs.len(),
-            None => 0,
-        }
-    }
-}
-
-impl<K: Ord + Clone, V: Drop, A: Allocator> OwnedPairs for IntoIter<K, V, A> {
-    ghost use Rattle.rangemap_core.specs.Ends.{by_definition};
-
+impl<K: Drop, V: Drop, A: Allocator> Cursor for IntoIter<K, V, A> {
     type Range = Range<K>;
 
     type Value = V;
 
+    type Given = Range<K>;
+
+    type GivenValue = V;
+
     ghost left = { λ it. it };
 
-    ghost ends = { by_definition _ _ };
+    ghost given = { λ range. range };
+
+    ghost given_value = { λ value. value };
+
+    fn take_first(&mut self) -> Option<(Range<K>, V)> {
+        self.pairs.as_mut()?.next()
+    }
+
+    fn take_last(&mut self) -> Option<(Range<K>, V)> {
+        self.pairs.as_mut()?.next_back()
+    }
+
+    fn parts<'b>(pair: &'b (Range<K>, V)) -> (&'b Range<K>, &'b V) {
+        (&pair.0, &pair.1)
+    }
 }

@@ -1,5 +1,4 @@
 //! The store in a B-tree.
-ghost use Rattle.std.specs.Prelude.{◌≡◌};
 
 use crate::by_start::ByStart;
 use crate::insert::insert;
@@ -8,11 +7,11 @@ use crate::iter::Iter;
 use crate::overlapping::{Overlapping, covering, overlapping_pairs};
 use crate::remove::remove;
 use rangemap_core::container::append_gaps;
+use rangemap_core::cursor::Cursor;
 use rangemap_core::half_open::HalfOpen;
 use rangemap_core::reader::{Reader, ReaderOfBoth};
 use rangemap_core::store::{HandsOver, Lends, Store, StoreMut};
 use std::alloc::{AllocError, Allocator};
-use std::iter::{DoubleEndedIterator, Iterator};
 use std::marker::Model;
 use std::ops::Range;
 
@@ -79,11 +78,11 @@ impl<K: Ord + Clone, V: Eq + Clone, A: Allocator + Clone> Store for Tree<K, V, A
     }
 
     fn first(&self) -> Option<(&Range<K>, &V)> {
-        self.pairs.iter().next()
+        self.pairs.iter().take_first()
     }
 
     fn last(&self) -> Option<(&Range<K>, &V)> {
-        self.pairs.iter().next_back()
+        self.pairs.iter().take_last()
     }
 
     fn read<U: Reader<Range<K>, V>>(&self, state: &mut U::State) -> U::Answer {
@@ -142,12 +141,16 @@ impl<K: Ord + Clone, V: Eq + Clone, A: Allocator + Clone> StoreMut for Tree<K, V
 }
 
 impl<K: Ord + Clone, V: Eq + Clone, A: Allocator + Clone> HandsOver for Tree<K, V, A> {
+    ghost use Rattle.std.specs.Prelude.{refl};
+
     type IntoIter = IntoIter<K, V, A>;
 
     fn into_pairs(self) -> IntoIter<K, V, A> {
         let Tree { pairs } = self;
         pairs.into_iter()
     }
+
+    ghost gives = { λ pair. refl };
 }
 
 impl<'a, K: Ord + Clone, V: Eq + Clone, A: Allocator + Clone> Lends<'a> for Tree<K, V, A>
@@ -157,6 +160,8 @@ where
     Self::Range: 'a,
     Self::Value: 'a,
 {
+    ghost use Rattle.std.specs.Prelude.{refl};
+
     type Iter = Iter<'a, K, V>;
 
     type Overlapping = Overlapping<'a, K, V>;
@@ -168,4 +173,8 @@ where
     fn overlapping(&'a self, range: &'a Range<K>) -> Overlapping<'a, K, V> {
         overlapping_pairs(&self.pairs, range)
     }
+
+    ghost lends = { λ pair. refl };
+
+    ghost lends_overlapping = { λ pair. refl };
 }

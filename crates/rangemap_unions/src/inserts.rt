@@ -1,8 +1,7 @@
 //! The items of a union or an intersection, put into a set.
 use crate::intersection::Intersection;
-use crate::ranges::Ranges;
 use crate::union::Union;
-use rangemap_core::pair_iter::PairIter;
+use rangemap_core::cursor::Peek;
 use rangemap_core::reader::ReaderOfBoth;
 use rangemap_core::store::StoreMut;
 use std::alloc::AllocError;
@@ -26,12 +25,12 @@ impl<S: StoreMut<Value = ()>> ReaderOfBoth<S::Range, ()> for Uniting<S> {
 
     ghost reads = { λ left right _ result all. OnOk result (AreEither S.Kind.kind (ranges left) (ranges right) (ranges (S.pairs all))) };
 
-    fn read<I: PairIter<Range = S::Range, Value = ()>>(
-        left: I,
-        right: I,
+    fn read<C: Peek<Range = S::Range, Value = ()>>(
+        left: C,
+        right: C,
         all: &mut S,
     ) -> Result<(), AllocError> {
-        let mut items = Union::new(Ranges::over(left), Ranges::over(right));
+        let mut items = Union::over(left, right);
         while let Some(item) = items.try_next()? {
             all.insert(item, ())?;
         }
@@ -57,12 +56,12 @@ impl<S: StoreMut<Value = ()>> ReaderOfBoth<S::Range, ()> for Intersecting<S> {
 
     ghost reads = { λ left right _ result common. OnOk result (AreCommon S.Kind.kind (ranges left) (ranges right) (ranges (S.pairs common))) };
 
-    fn read<I: PairIter<Range = S::Range, Value = ()>>(
-        left: I,
-        right: I,
+    fn read<C: Peek<Range = S::Range, Value = ()>>(
+        left: C,
+        right: C,
         common: &mut S,
     ) -> Result<(), AllocError> {
-        let mut items = Intersection::new(Ranges::over(left), Ranges::over(right));
+        let mut items = Intersection::over(left, right);
         while let Some(item) = items.try_next()? {
             common.insert(item, ())?;
         }

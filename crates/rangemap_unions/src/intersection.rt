@@ -6,14 +6,14 @@ ghost use Rattle.std.specs.Ordering.{is_lt};
 ghost use Rattle.std.specs.declared.cmp.Ordering.TheVariants.{Less};
 ghost use Rattle.rangemap_core.specs.Clones.{KeysCloneFaithfully};
 ghost use Rattle.rangemap_core.specs.MadeRanges.{GivesRange, TakesRange};
-ghost use Rattle.rangemap_core.specs.Sets.{AreCommon, AreNonEmptyRanges, ranges};
+ghost use Rattle.rangemap_core.specs.Sets.{AreCommon, AreNonEmptyRanges, IsCanonicalSet, ranges};
 ghost use Rattle.rangemap_unions.specs.Items.{earlier_end, intersection_items, later_start, reaches, with_common};
 
 use crate::item::{between, compare_ends, compare_starts, overlap};
 use crate::ranges::Ranges;
 use crate::side::take;
+use rangemap_core::cursor::{Cursor, Peek};
 use rangemap_core::key_range::KeyRange;
-use rangemap_core::pair_iter::{LentPairs, PairIter, range_of};
 use std::alloc::AllocError;
 use std::iter::Iterator;
 use std::marker::Model;
@@ -24,35 +24,41 @@ use std::marker::Model;
 /// since it knows no steps. `laws::sets::closed_operations` tells the same items by the steps' keys,
 /// and so does a set's own `intersection`.
 #[derive(Drop)]
-pub struct Intersection<I: LentPairs> {
-    sides: Sides<I>,
+pub struct Intersection<C: Cursor<Range: KeyRange>> {
+    sides: Sides<C>,
     // Whether a clone was refused to `next`, after which nothing comes.
     is_done: bool,
 }
 
-impl<I: LentPairs> Model for Intersection<I> {
+impl<C: Cursor<Range: KeyRange>> Model for Intersection<C> {
     ghost use Rattle.std.specs.Prelude.{List, [], if◌then◌else◌};
     ghost use Rattle.rangemap_core.specs.Sets.{AreNonEmptyRanges, ranges};
     ghost use Rattle.rangemap_unions.specs.Items.{intersection_items};
 
-    ghost Value = { List I.Range };
+    ghost Value = { List C.Range };
 
-    ghost view = { λ s. if s.is_done then [] else intersection_items I.Range.places (ranges (I.left s.sides.left)) (ranges (I.left s.sides.right)) };
+    ghost view = { λ s. if s.is_done then [] else intersection_items C.Range.places (ranges (C.left s.sides.left)) (ranges (C.left s.sides.right)) };
 
-    ghost invariant = { λ s. AreNonEmptyRanges I.Range.read (intersection_items I.Range.places (ranges (I.left s.sides.left)) (ranges (I.left s.sides.right))) };
+    ghost invariant = { λ s. AreNonEmptyRanges C.Range.read (intersection_items C.Range.places (ranges (C.left s.sides.left)) (ranges (C.left s.sides.right))) };
 }
 
-impl<I: PairIter> Intersection<I> {
+impl<C: Peek> Intersection<C> {
     /// Returns the intersection of what is left in two iterators.
-    pub fn new(left: Ranges<I>, right: Ranges<I>) -> Self
-        ensures items { result ≡ intersection_items I.Range.places left right }
-        ensures common { AreCommon I.Range.read left right result }
+    pub fn new(left: Ranges<C>, right: Ranges<C>) -> Self
+        ensures items { result ≡ intersection_items C.Range.places left right }
+        ensures common { AreCommon C.Range.read left right result }
+    {
+        Intersection::over(left.into_cursor(), right.into_cursor())
+    }
+
+    /// Returns the intersection of the ranges of two cursors.
+    pub fn over(left: C, right: C) -> Self
+        requires left { IsCanonicalSet C.Range.read (ranges (C.left left)) }
+        requires right { IsCanonicalSet C.Range.read (ranges (C.left right)) }
+        ensures { result ≡ intersection_items C.Range.places (ranges (C.left left)) (ranges (C.left right)) }
     {
         Intersection {
-            sides: Sides {
-                left: left.into_pairs(),
-                right: right.into_pairs(),
-            },
+            sides: Sides { left, right },
             is_done: false,
         }
     }
@@ -66,9 +72,9 @@ impl<I: PairIter> Intersection<I> {
     /// # Errors
     ///
     /// A clone was refused. Nothing has changed then.
-    pub fn try_next(&mut self) -> Result<Option<I::Range>, AllocError>
-        requires { KeysCloneFaithfully I.Range.Key.is_clone I.Range.Key.cmp }
-        ensures ok { IfOk result (λ item. TakesRange I.Range.read self.old item self.new) }
+    pub fn try_next(&mut self) -> Result<Option<C::Range>, AllocError>
+        requires { KeysCloneFaithfully C.Range.Key.is_clone C.Range.Key.cmp }
+        ensures ok { IfOk result (λ item. TakesRange C.Range.read self.old item self.new) }
         ensures err { OnErr result (self.new ≡ self.old) }
         ensures refused { OnErr result (self.old ≢ []) }
     {
@@ -79,16 +85,16 @@ impl<I: PairIter> Intersection<I> {
     }
 }
 
-impl<I: PairIter> Iterator for Intersection<I> {
-    type Item = Result<I::Range, AllocError>;
+impl<C: Peek> Iterator for Intersection<C> {
+    type Item = Result<C::Range, AllocError>;
 
-    ghost can_next = { λ _. KeysCloneFaithfully I.Range.Key.is_clone I.Range.Key.cmp };
+    ghost can_next = { λ _. KeysCloneFaithfully C.Range.Key.is_clone C.Range.Key.cmp };
 
-    ghost next_gives = { GivesRange I.Range.read };
+    ghost next_gives = { GivesRange C.Range.read };
 
     ghost remaining = { λ s. at_most (length s) };
 
-    fn next(&mut self) -> Option<Result<I::Range, AllocError>> {
+    fn next(&mut self) -> Option<Result<C::Range, AllocError>> {
         match self.try_next() {
             Ok(None) => None,
             Ok(Some(item)) => Some(Ok(item)),
@@ -133,23 +139,23 @@ fn common<R: KeyRange>(left: &R, right: &R, left_ends_first: bool) -> Result<Opt
 
 // What is left of both lists.
 #[derive(Drop)]
-struct Sides<I: LentPairs> {
-    left: I,
-    right: I,
+struct Sides<C: Cursor<Range: KeyRange>> {
+    left: C,
+    right: C,
 }
 
-impl<I: PairIter> Sides<I> {
+impl<C: Peek> Sides<C> {
     // Takes the next item, made of clones, and passes what has nothing in common. `Err` says that a
     // clone was refused: no item is lost then.
-    fn try_next(&mut self) -> Result<Option<I::Range>, AllocError>
-        requires non_empty { AreNonEmptyRanges I.Range.read (intersection_items I.Range.places (ranges (I.left self.now.left)) (ranges (I.left self.now.right))) }
-        requires faithful_keys { KeysCloneFaithfully I.Range.Key.is_clone I.Range.Key.cmp }
-        ensures ok { IfOk result (λ item. TakesRange I.Range.read (intersection_items I.Range.places (ranges (I.left self.old.left)) (ranges (I.left self.old.right))) item (intersection_items I.Range.places (ranges (I.left self.new.left)) (ranges (I.left self.new.right)))) }
-        ensures err { OnErr result (intersection_items I.Range.places (ranges (I.left self.new.left)) (ranges (I.left self.new.right)) ≡ intersection_items I.Range.places (ranges (I.left self.old.left)) (ranges (I.left self.old.right))) }
-        ensures refused { OnErr result (intersection_items I.Range.places (ranges (I.left self.old.left)) (ranges (I.left self.old.right)) ≢ []) }
+    fn try_next(&mut self) -> Result<Option<C::Range>, AllocError>
+        requires non_empty { AreNonEmptyRanges C.Range.read (intersection_items C.Range.places (ranges (C.left self.now.left)) (ranges (C.left self.now.right))) }
+        requires faithful_keys { KeysCloneFaithfully C.Range.Key.is_clone C.Range.Key.cmp }
+        ensures ok { IfOk result (λ item. TakesRange C.Range.read (intersection_items C.Range.places (ranges (C.left self.old.left)) (ranges (C.left self.old.right))) item (intersection_items C.Range.places (ranges (C.left self.new.left)) (ranges (C.left self.new.right)))) }
+        ensures err { OnErr result (intersection_items C.Range.places (ranges (C.left self.new.left)) (ranges (C.left self.new.right)) ≡ intersection_items C.Range.places (ranges (C.left self.old.left)) (ranges (C.left self.old.right))) }
+        ensures refused { OnErr result (intersection_items C.Range.places (ranges (C.left self.old.left)) (ranges (C.left self.old.right)) ≢ []) }
     {
         'both: while let (Some(p), Some(q)) = (self.left.peek(), self.right.peek()) {
-            let (left, right) = (range_of::<I>(&p), range_of::<I>(&q));
+            let (left, right) = (C::parts(&p).0, C::parts(&q).0);
             let ends_first = compare_ends(left, right).is_lt();
             let part = common(left, right, ends_first)?;
             if ends_first {

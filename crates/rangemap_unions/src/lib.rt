@@ -9,12 +9,10 @@ pub mod inserts;
 pub mod intersection;
 mod item;
 pub mod laws;
-pub mod owned;
 pub mod ranges;
 mod side;
 pub mod union;
 
 pub use intersection::Intersection;
-pub use owned::IntoRanges;
-pub use ranges::Ranges;
+pub use ranges::{OverlappingRanges, Ranges};
 pub use union::Union;

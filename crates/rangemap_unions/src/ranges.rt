@@ -1,88 +1,144 @@
-//! The ranges of a set, one after another: what an iterator over pairs gives, without the values.
-ghost use Rattle.std.specs.Prelude.{◌≡◌, IfSome, length, map};
+//! The ranges of a set, one after another: what goes over pairs gives them, without the values.
+ghost use Rattle.std.specs.Prelude.{◌≡◌, length, map, IfSome, None as NoneWord, Some as SomeWord};
 ghost use Rattle.std.specs.Iterator.{UpTo, at_most};
 ghost use Rattle.std.specs.Iterator.SizeHint.{IsWithinCount};
 ghost use Rattle.std.specs.Map.Iter.{TakesFirst, TakesLast};
-ghost use Rattle.rangemap_core.specs.Sets.{IsCanonicalSet};
+ghost use Rattle.rangemap_core.specs.Sets.{IsCanonicalSet, ranges};
 
-use rangemap_core::pair_iter::{LentPairs, PairIter};
+use rangemap_core::cursor::Cursor;
+use rangemap_core::key_range::KeyRange;
 use std::iter::{DoubleEndedIterator, ExactSizeIterator, Iterator};
 use std::marker::Model;
 
-/// The ranges that are still to come, in order and from both ends. What is left of a set is a
-/// canonical list too.
+/// All ranges of a set that are still to come, in order and from both ends: references to them, or the
+/// ranges themselves. What is left of a set is a canonical list too.
 #[derive(Drop)]
-pub struct Ranges<I: LentPairs> {
-    pairs: I,
+pub struct Ranges<C: Cursor<Range: KeyRange>> {
+    cursor: C,
+    // How many ranges that are.
+    len: usize,
 }
 
-impl<I: LentPairs> Model for Ranges<I> {
-    ghost use Rattle.std.specs.Prelude.{List, map};
+impl<C: Cursor<Range: KeyRange>> Model for Ranges<C> {
+    ghost use Rattle.std.specs.Prelude.{◌≡◌, List, length, map};
     ghost use Rattle.rangemap_core.specs.Sets.{IsCanonicalSet};
 
-    ghost Value = { List I.Range };
+    ghost Value = { List C.Range };
 
-    ghost view = { λ s. map (λ p. p.0) (I.left s.pairs) };
+    ghost view = { λ s. map (λ p. p.0) (C.left s.cursor) };
 
-    ghost invariant = { λ s. IsCanonicalSet I.Range.read (map (λ p. p.0) (I.left s.pairs)) };
+    ghost invariant = { λ s. IsCanonicalSet C.Range.read (map (λ p. p.0) (C.left s.cursor)) × (s.len ≡ length (C.left s.cursor)) };
 }
 
-impl<I: LentPairs> Ranges<I> {
-    /// Returns the ranges of what is left of pairs.
-    pub fn over(pairs: I) -> Ranges<I>
-        requires { IsCanonicalSet I.Range.read (map (λ p. p.0) (I.left pairs)) }
-        ensures { result ≡ map (λ p. p.0) (I.left pairs) }
+impl<C: Cursor<Range: KeyRange>> Ranges<C> {
+    /// Returns the ranges of the pairs of a cursor, which are so many.
+    pub fn over(cursor: C, len: usize) -> Self
+        requires canonical { IsCanonicalSet C.Range.read (ranges (C.left cursor)) }
+        requires len { len ≡ length (C.left cursor) }
+        ensures { result ≡ map (λ p. p.0) (C.left cursor) }
     {
-        Ranges { pairs }
+        Ranges { cursor, len }
     }
 
-    /// Returns the pairs.
-    pub fn into_pairs(self) -> I
-        ensures rest { map (λ p. p.0) (I.left result) ≡ self }
-        ensures canonical { IsCanonicalSet I.Range.read self }
+    /// Returns the cursor.
+    pub fn into_cursor(self) -> C
+        ensures rest { map (λ p. p.0) (C.left result) ≡ self }
+        ensures canonical { IsCanonicalSet C.Range.read self }
     {
-        let Ranges { pairs } = self;
-        pairs
+        let Ranges { cursor, len: _ } = self;
+        cursor
     }
 }
 
-impl<I: PairIter> Iterator for Ranges<I> {
-    type Item = I::Lent;
+impl<C: Cursor<Range: KeyRange, GivenValue: Drop>> Iterator for Ranges<C> {
+    type Item = C::Given;
 
-    ghost next_gives = { TakesFirst I.range };
+    ghost next_gives = { TakesFirst C.given };
 
     ghost remaining = { λ s. at_most (length s) };
 
-    fn next(&mut self) -> Option<I::Lent> {
-        match self.pairs.next() {
-            Some((range, _)) => Some(range),
-            None => None,
-        }
+    fn next(&mut self) -> Option<C::Given> {
+        let (range, _) = self.cursor.take_first()?;
+        self.len -= 1;
+        Some(range)
     }
 
     fn size_hint(&self) -> (usize, Option<usize>)
         ensures lower { IsWithinCount result.0 (at_most (length self.now)) }
         ensures upper { IfSome result.1 (UpTo (at_most (length self.now))) }
-        ensures exact { result ≡ I.hinted (length self.now) }
+        ensures exact { result ≡ (length self.now, SomeWord (length self.now)) }
     {
-        self.pairs.hint()
+        (self.len, Some(self.len))
     }
 }
 
-impl<I: PairIter> DoubleEndedIterator for Ranges<I> {
-    ghost next_back_gives = { TakesLast I.range };
+impl<C: Cursor<Range: KeyRange, GivenValue: Drop>> DoubleEndedIterator for Ranges<C> {
+    ghost next_back_gives = { TakesLast C.given };
 
-    fn next_back(&mut self) -> Option<I::Lent> {
-        match self.pairs.next_back() {
-            Some((range, _)) => Some(range),
-            None => None,
-        }
+    fn next_back(&mut self) -> Option<C::Given> {
+        let (range, _) = self.cursor.take_last()?;
+        self.len -= 1;
+        Some(range)
     }
 }
 
-impl<I: PairIter + ExactSizeIterator> ExactSizeIterator for Ranges<I> {
+impl<C: Cursor<Range: KeyRange, GivenValue: Drop>> ExactSizeIterator for Ranges<C> {
     /// Returns how many ranges are still to come.
     fn len(&self) -> usize {
-        self.pairs.len()
+        self.len
+    }
+}
+
+/// The ranges of a set that overlap a range and are still to come, in order and from both ends. How
+/// many these are it does not know.
+#[derive(Drop)]
+pub struct OverlappingRanges<C: Cursor> {
+    cursor: C,
+}
+
+impl<C: Cursor> Model for OverlappingRanges<C> {
+    ghost use Rattle.std.specs.Prelude.{List, map};
+
+    ghost Value = { List C.Range };
+
+    ghost view = { λ s. map (λ p. p.0) (C.left s.cursor) };
+}
+
+impl<C: Cursor> OverlappingRanges<C> {
+    /// Returns the ranges of the pairs of a cursor.
+    pub fn over(cursor: C) -> Self
+        ensures { result ≡ map (λ p. p.0) (C.left cursor) }
+    {
+        OverlappingRanges { cursor }
+    }
+}
+
+impl<C: Cursor<GivenValue: Drop>> Iterator for OverlappingRanges<C> {
+    type Item = C::Given;
+
+    ghost next_gives = { TakesFirst C.given };
+
+    ghost remaining = { λ s. at_most (length s) };
+
+    fn next(&mut self) -> Option<C::Given> {
+        let (range, _) = self.cursor.take_first()?;
+        Some(range)
+    }
+
+    fn size_hint(&self) -> (usize, Option<usize>)
+        ensures lower { IsWithinCount result.0 (at_most (length self.now)) }
+        ensures upper { IfSome result.1 (UpTo (at_most (length self.now))) }
+        ensures exact { result ≡ (0, NoneWord) }
+    {
+        (0, None)
+    }
+}
+
+impl<C: Cursor<GivenValue: Drop>> DoubleEndedIterator for OverlappingRanges<C> {
+    ghost next_back_gives = { TakesLast C.given };
+
+    fn next_back(&mut self) -> Option<C::Given> {
+        let (range, _) = self.cursor.take_last()?;
+        Some(range)
     }
 }

@@ -6,15 +6,16 @@ ghost use Rattle.rangemap_core.specs.Clones.{KeysCloneFaithfully};
 ghost use Rattle.rangemap_core.specs.MadeRanges.{GivesRange, TakesRange};
 ghost use Rattle.std.specs.Map.Iter.{TakesFirst};
 ghost use Rattle.std.specs.Option.{option_map};
-ghost use Rattle.rangemap_core.specs.Sets.{AreHulls, AreNonEmptyRanges, CoverEither, ranges};
+ghost use Rattle.rangemap_core.specs.Sets.{AreHulls, AreNonEmptyRanges, CoverEither, IsCanonicalSet, ranges};
+ghost use Rattle.rangemap_core.specs.Shown.{shown_range};
 ghost use Rattle.rangemap_unions.specs.Items.{hulls, hulls_from, merged, reaches, union_items};
 ghost use Rattle.rangemap_unions.specs.Merged.{IsUnreached, items_behind, left_first};
 
 use crate::item::{between, compare_ends, compare_starts};
 use crate::ranges::Ranges;
 use crate::side;
+use rangemap_core::cursor::{Cursor, Peek};
 use rangemap_core::key_range::KeyRange;
-use rangemap_core::pair_iter::{LentPairs, PairIter, range_of};
 use std::alloc::AllocError;
 use std::iter::Iterator;
 use std::marker::Model;
@@ -26,39 +27,49 @@ use std::marker::Model;
 /// knows no steps. `laws::sets::closed_operations` tells the same items by the steps' keys, and so
 /// does a set's own `union`.
 #[derive(Drop)]
-pub struct Union<I: LentPairs> {
-    sides: Sides<I>,
+pub struct Union<C: Cursor<Range: KeyRange>> {
+    sides: Sides<C>,
     // Whether a clone was refused to `next`, after which nothing comes.
     is_done: bool,
 }
 
-impl<I: LentPairs> Model for Union<I> {
+impl<C: Cursor<Range: KeyRange>> Model for Union<C> {
     ghost use Rattle.std.specs.Prelude.{List, [], if◌then◌else◌, unwrap_or};
     ghost use Rattle.std.specs.Option.{option_map};
     ghost use Rattle.rangemap_core.specs.Sets.{AreNonEmptyRanges, ranges};
+    ghost use Rattle.rangemap_core.specs.Shown.{shown_range};
     ghost use Rattle.rangemap_unions.specs.Items.{merged};
     ghost use Rattle.rangemap_unions.specs.Merged.{items_behind};
 
-    ghost Value = { List I.Range };
+    ghost Value = { List C.Range };
 
-    ghost view = { λ s. if s.is_done then [] else items_behind I.Range.places (option_map (λ first. (I.range first, I.range (unwrap_or s.sides.last first))) s.sides.first) (merged I.Range.places (ranges (I.left s.sides.left)) (ranges (I.left s.sides.right))) };
+    ghost view = { λ s. if s.is_done then [] else items_behind C.Range.places (option_map (λ first. (shown_range C.given first, shown_range C.given (unwrap_or s.sides.last first))) s.sides.first) (merged C.Range.places (ranges (C.left s.sides.left)) (ranges (C.left s.sides.right))) };
 
-    ghost invariant = { λ s. AreNonEmptyRanges I.Range.read (items_behind I.Range.places (option_map (λ first. (I.range first, I.range (unwrap_or s.sides.last first))) s.sides.first) (merged I.Range.places (ranges (I.left s.sides.left)) (ranges (I.left s.sides.right)))) };
+    ghost invariant = { λ s. AreNonEmptyRanges C.Range.read (items_behind C.Range.places (option_map (λ first. (shown_range C.given first, shown_range C.given (unwrap_or s.sides.last first))) s.sides.first) (merged C.Range.places (ranges (C.left s.sides.left)) (ranges (C.left s.sides.right)))) };
 }
 
-impl<I: PairIter> Union<I> {
+impl<C: Peek> Union<C> {
     /// Returns the union of what is left in two iterators.
-    pub fn new(left: Ranges<I>, right: Ranges<I>) -> Self
-        ensures items { result ≡ union_items I.Range.places left right }
-        ensures hulls { AreHulls I.Range.read (left ++ right) result }
-        ensures points { CoverEither I.Range.read left right result }
+    pub fn new(left: Ranges<C>, right: Ranges<C>) -> Self
+        ensures items { result ≡ union_items C.Range.places left right }
+        ensures hulls { AreHulls C.Range.read (left ++ right) result }
+        ensures points { CoverEither C.Range.read left right result }
+    {
+        Union::over(left.into_cursor(), right.into_cursor())
+    }
+
+    /// Returns the union of the ranges of two cursors.
+    pub fn over(left: C, right: C) -> Self
+        requires left { IsCanonicalSet C.Range.read (ranges (C.left left)) }
+        requires right { IsCanonicalSet C.Range.read (ranges (C.left right)) }
+        ensures { result ≡ union_items C.Range.places (ranges (C.left left)) (ranges (C.left right)) }
     {
         Union {
             sides: Sides {
                 first: None,
                 last: None,
-                left: left.into_pairs(),
-                right: right.into_pairs(),
+                left,
+                right,
             },
             is_done: false,
         }
@@ -73,9 +84,9 @@ impl<I: PairIter> Union<I> {
     /// # Errors
     ///
     /// A clone was refused. Nothing has changed then.
-    pub fn try_next(&mut self) -> Result<Option<I::Range>, AllocError>
-        requires { KeysCloneFaithfully I.Range.Key.is_clone I.Range.Key.cmp }
-        ensures ok { IfOk result (λ item. TakesRange I.Range.read self.old item self.new) }
+    pub fn try_next(&mut self) -> Result<Option<C::Range>, AllocError>
+        requires { KeysCloneFaithfully C.Range.Key.is_clone C.Range.Key.cmp }
+        ensures ok { IfOk result (λ item. TakesRange C.Range.read self.old item self.new) }
         ensures err { OnErr result (self.new ≡ self.old) }
         ensures refused { OnErr result (self.old ≢ []) }
     {
@@ -86,16 +97,16 @@ impl<I: PairIter> Union<I> {
     }
 }
 
-impl<I: PairIter> Iterator for Union<I> {
-    type Item = Result<I::Range, AllocError>;
+impl<C: Peek> Iterator for Union<C> {
+    type Item = Result<C::Range, AllocError>;
 
-    ghost can_next = { λ _. KeysCloneFaithfully I.Range.Key.is_clone I.Range.Key.cmp };
+    ghost can_next = { λ _. KeysCloneFaithfully C.Range.Key.is_clone C.Range.Key.cmp };
 
-    ghost next_gives = { GivesRange I.Range.read };
+    ghost next_gives = { GivesRange C.Range.read };
 
     ghost remaining = { λ s. at_most (length s) };
 
-    fn next(&mut self) -> Option<Result<I::Range, AllocError>> {
+    fn next(&mut self) -> Option<Result<C::Range, AllocError>> {
         match self.try_next() {
             Ok(None) => None,
             Ok(Some(item)) => Some(Ok(item)),
@@ -118,21 +129,21 @@ impl<I: PairIter> Iterator for Union<I> {
 
 // Whether the first range of the left list comes before that of the right one. Of two that start
 // alike the right one does.
-fn is_left_first<I: PairIter>(left: &mut I, right: &mut I) -> bool
-    ensures first { result ≡ left_first I.Range.places (ranges (I.left left.old)) (ranges (I.left right.old)) }
-    ensures same_left { I.left left.new ≡ I.left left.old }
-    ensures same_right { I.left right.new ≡ I.left right.old }
+fn is_left_first<C: Peek>(left: &mut C, right: &mut C) -> bool
+    ensures first { result ≡ left_first C.Range.places (ranges (C.left left.old)) (ranges (C.left right.old)) }
+    ensures same_left { C.left left.new ≡ C.left left.old }
+    ensures same_right { C.left right.new ≡ C.left right.old }
 {
     match (left.peek(), right.peek()) {
-        (Some(p), Some(q)) => compare_starts(range_of::<I>(&p), range_of::<I>(&q)).is_lt(),
+        (Some(p), Some(q)) => compare_starts(C::parts(&p).0, C::parts(&q).0).is_lt(),
         (Some(_), None) => true,
         (None, _) => false,
     }
 }
 
 // Takes the first of both.
-fn take_first<I: PairIter>(left: &mut I, right: &mut I) -> Option<I::Lent>
-    ensures { TakesFirst I.range (merged I.Range.places (ranges (I.left left.old)) (ranges (I.left right.old))) result (merged I.Range.places (ranges (I.left left.new)) (ranges (I.left right.new))) }
+fn take_first<C: Peek>(left: &mut C, right: &mut C) -> Option<(C::Given, C::GivenValue)>
+    ensures { TakesFirst (shown_range C.given) (merged C.Range.places (ranges (C.left left.old)) (ranges (C.left right.old))) result (merged C.Range.places (ranges (C.left left.new)) (ranges (C.left right.new))) }
 {
     if is_left_first(left, right) {
         side::take(left)
@@ -142,10 +153,14 @@ fn take_first<I: PairIter>(left: &mut I, right: &mut I) -> Option<I::Lent>
 }
 
 // Takes the first of both, if it starts before `last` ends.
-fn take_reached<I: PairIter>(last: &I::Range, left: &mut I, right: &mut I) -> Option<I::Lent>
+fn take_reached<C: Peek>(
+    last: &C::Range,
+    left: &mut C,
+    right: &mut C,
+) -> Option<(C::Given, C::GivenValue)>
     ensures { MatchOption result
-        ((I.left left.new ≡ I.left left.old) × (I.left right.new ≡ I.left right.old) × IsUnreached I.Range.places last.now (merged I.Range.places (ranges (I.left left.old)) (ranges (I.left right.old))))
-        (λ first. (reaches I.Range.places last.now (I.range first) ≡ true) × (merged I.Range.places (ranges (I.left left.old)) (ranges (I.left right.old)) ≡ I.range first ∷ merged I.Range.places (ranges (I.left left.new)) (ranges (I.left right.new)))) }
+        ((C.left left.new ≡ C.left left.old) × (C.left right.new ≡ C.left right.old) × IsUnreached C.Range.places last.now (merged C.Range.places (ranges (C.left left.old)) (ranges (C.left right.old))))
+        (λ first. (reaches C.Range.places last.now (shown_range C.given first) ≡ true) × (merged C.Range.places (ranges (C.left left.old)) (ranges (C.left right.old)) ≡ shown_range C.given first ∷ merged C.Range.places (ranges (C.left left.new)) (ranges (C.left right.new)))) }
 {
     if is_left_first(left, right) {
         side::take_reached(last, left)
@@ -155,25 +170,35 @@ fn take_reached<I: PairIter>(last: &I::Range, left: &mut I, right: &mut I) -> Op
 }
 
 // The last of the ranges that are joined.
-fn last_of<'b, I: PairIter>(first: &'b I::Lent, last: &'b Option<I::Lent>) -> &'b I::Range
-    ensures { result.now ≡ I.range (unwrap_or last.now first.now) }
+fn last_of<'b, C: Peek>(
+    first: &'b (C::Given, C::GivenValue),
+    last: &'b Option<(C::Given, C::GivenValue)>,
+) -> &'b C::Range
+where
+    C::Value: 'b,
+    ensures { result.now ≡ shown_range C.given (unwrap_or last.now first.now) }
 {
     match last {
-        Some(last) => range_of::<I>(last),
-        None => range_of::<I>(first),
+        Some(last) => C::parts(last).0,
+        None => C::parts(first).0,
     }
 }
 
 // Goes on as far as the next range overlaps what is joined, which goes from the first range up to
 // the last so far.
-fn join<I: PairIter>(first: &I::Lent, last: &mut Option<I::Lent>, left: &mut I, right: &mut I)
-    ensures same { hulls_from I.Range.places (I.range first.now) (I.range (unwrap_or last.old first.now)) (merged I.Range.places (ranges (I.left left.old)) (ranges (I.left right.old)))
-        ≡ hulls_from I.Range.places (I.range first.now) (I.range (unwrap_or last.new first.now)) (merged I.Range.places (ranges (I.left left.new)) (ranges (I.left right.new))) }
-    ensures ended { hulls_from I.Range.places (I.range first.now) (I.range (unwrap_or last.new first.now)) (merged I.Range.places (ranges (I.left left.new)) (ranges (I.left right.new)))
-        ≡ I.Range.places.between (I.range first.now) (I.range (unwrap_or last.new first.now)) ∷ hulls I.Range.places (merged I.Range.places (ranges (I.left left.new)) (ranges (I.left right.new))) }
+fn join<C: Peek>(
+    first: &(C::Given, C::GivenValue),
+    last: &mut Option<(C::Given, C::GivenValue)>,
+    left: &mut C,
+    right: &mut C,
+)
+    ensures same { hulls_from C.Range.places (shown_range C.given first.now) (shown_range C.given (unwrap_or last.old first.now)) (merged C.Range.places (ranges (C.left left.old)) (ranges (C.left right.old)))
+        ≡ hulls_from C.Range.places (shown_range C.given first.now) (shown_range C.given (unwrap_or last.new first.now)) (merged C.Range.places (ranges (C.left left.new)) (ranges (C.left right.new))) }
+    ensures ended { hulls_from C.Range.places (shown_range C.given first.now) (shown_range C.given (unwrap_or last.new first.now)) (merged C.Range.places (ranges (C.left left.new)) (ranges (C.left right.new)))
+        ≡ C.Range.places.between (shown_range C.given first.now) (shown_range C.given (unwrap_or last.new first.now)) ∷ hulls C.Range.places (merged C.Range.places (ranges (C.left left.new)) (ranges (C.left right.new))) }
 {
-    'joined: while let Some(next) = take_reached(last_of::<I>(first, last), left, right) {
-        if compare_ends(last_of::<I>(first, last), range_of::<I>(&next)).is_lt() {
+    'joined: while let Some(next) = take_reached(last_of::<C>(first, last), left, right) {
+        if compare_ends(last_of::<C>(first, last), C::parts(&next).0).is_lt() {
             *last = Some(next);
         }
     }
@@ -181,23 +206,23 @@ fn join<I: PairIter>(first: &I::Lent, last: &mut Option<I::Lent>, left: &mut I, 
 
 // Both lists, and what of them is joined already.
 #[derive(Drop)]
-struct Sides<I: LentPairs> {
+struct Sides<C: Cursor<Range: KeyRange>> {
     // The range with which the item starts whose clones were refused, and then that with which it
     // ends, if it is another one.
-    first: Option<I::Lent>,
-    last: Option<I::Lent>,
-    left: I,
-    right: I,
+    first: Option<(C::Given, C::GivenValue)>,
+    last: Option<(C::Given, C::GivenValue)>,
+    left: C,
+    right: C,
 }
 
-impl<I: PairIter> Sides<I> {
+impl<C: Peek> Sides<C> {
     // Takes what is begun, or begins with the next range.
-    fn begin(&mut self) -> Option<(I::Lent, Option<I::Lent>)>
+    fn begin(&mut self) -> Option<((C::Given, C::GivenValue), Option<(C::Given, C::GivenValue)>)>
         ensures none_begun { self.new.first ≡ NoneWord }
         ensures begun { MatchOption result
-            ((items_behind I.Range.places (option_map (λ first. (I.range first, I.range (unwrap_or self.old.last first))) self.old.first) (merged I.Range.places (ranges (I.left self.old.left)) (ranges (I.left self.old.right))) ≡ []) × (merged I.Range.places (ranges (I.left self.new.left)) (ranges (I.left self.new.right)) ≡ []))
-            (λ begun. items_behind I.Range.places (option_map (λ first. (I.range first, I.range (unwrap_or self.old.last first))) self.old.first) (merged I.Range.places (ranges (I.left self.old.left)) (ranges (I.left self.old.right)))
-            ≡ hulls_from I.Range.places (I.range begun.0) (I.range (unwrap_or begun.1 begun.0)) (merged I.Range.places (ranges (I.left self.new.left)) (ranges (I.left self.new.right)))) }
+            ((items_behind C.Range.places (option_map (λ first. (shown_range C.given first, shown_range C.given (unwrap_or self.old.last first))) self.old.first) (merged C.Range.places (ranges (C.left self.old.left)) (ranges (C.left self.old.right))) ≡ []) × (merged C.Range.places (ranges (C.left self.new.left)) (ranges (C.left self.new.right)) ≡ []))
+            (λ begun. items_behind C.Range.places (option_map (λ first. (shown_range C.given first, shown_range C.given (unwrap_or self.old.last first))) self.old.first) (merged C.Range.places (ranges (C.left self.old.left)) (ranges (C.left self.old.right)))
+            ≡ hulls_from C.Range.places (shown_range C.given begun.0) (shown_range C.given (unwrap_or begun.1 begun.0)) (merged C.Range.places (ranges (C.left self.new.left)) (ranges (C.left self.new.right)))) }
     {
         if let Some(first) = self.first.take() {
             return Some((first, self.last.take()));
@@ -207,18 +232,18 @@ impl<I: PairIter> Sides<I> {
     }
 
     // Takes the next item, made of clones. `Err` says that a clone was refused: no item is lost then.
-    fn try_next(&mut self) -> Result<Option<I::Range>, AllocError>
-        requires non_empty { AreNonEmptyRanges I.Range.read (items_behind I.Range.places (option_map (λ first. (I.range first, I.range (unwrap_or self.now.last first))) self.now.first) (merged I.Range.places (ranges (I.left self.now.left)) (ranges (I.left self.now.right)))) }
-        requires faithful_keys { KeysCloneFaithfully I.Range.Key.is_clone I.Range.Key.cmp }
-        ensures ok { IfOk result (λ item. TakesRange I.Range.read (items_behind I.Range.places (option_map (λ first. (I.range first, I.range (unwrap_or self.old.last first))) self.old.first) (merged I.Range.places (ranges (I.left self.old.left)) (ranges (I.left self.old.right)))) item (items_behind I.Range.places (option_map (λ first. (I.range first, I.range (unwrap_or self.new.last first))) self.new.first) (merged I.Range.places (ranges (I.left self.new.left)) (ranges (I.left self.new.right))))) }
-        ensures err { OnErr result (items_behind I.Range.places (option_map (λ first. (I.range first, I.range (unwrap_or self.new.last first))) self.new.first) (merged I.Range.places (ranges (I.left self.new.left)) (ranges (I.left self.new.right))) ≡ items_behind I.Range.places (option_map (λ first. (I.range first, I.range (unwrap_or self.old.last first))) self.old.first) (merged I.Range.places (ranges (I.left self.old.left)) (ranges (I.left self.old.right)))) }
-        ensures refused { OnErr result (items_behind I.Range.places (option_map (λ first. (I.range first, I.range (unwrap_or self.old.last first))) self.old.first) (merged I.Range.places (ranges (I.left self.old.left)) (ranges (I.left self.old.right))) ≢ []) }
+    fn try_next(&mut self) -> Result<Option<C::Range>, AllocError>
+        requires non_empty { AreNonEmptyRanges C.Range.read (items_behind C.Range.places (option_map (λ first. (shown_range C.given first, shown_range C.given (unwrap_or self.now.last first))) self.now.first) (merged C.Range.places (ranges (C.left self.now.left)) (ranges (C.left self.now.right)))) }
+        requires faithful_keys { KeysCloneFaithfully C.Range.Key.is_clone C.Range.Key.cmp }
+        ensures ok { IfOk result (λ item. TakesRange C.Range.read (items_behind C.Range.places (option_map (λ first. (shown_range C.given first, shown_range C.given (unwrap_or self.old.last first))) self.old.first) (merged C.Range.places (ranges (C.left self.old.left)) (ranges (C.left self.old.right)))) item (items_behind C.Range.places (option_map (λ first. (shown_range C.given first, shown_range C.given (unwrap_or self.new.last first))) self.new.first) (merged C.Range.places (ranges (C.left self.new.left)) (ranges (C.left self.new.right))))) }
+        ensures err { OnErr result (items_behind C.Range.places (option_map (λ first. (shown_range C.given first, shown_range C.given (unwrap_or self.new.last first))) self.new.first) (merged C.Range.places (ranges (C.left self.new.left)) (ranges (C.left self.new.right))) ≡ items_behind C.Range.places (option_map (λ first. (shown_range C.given first, shown_range C.given (unwrap_or self.old.last first))) self.old.first) (merged C.Range.places (ranges (C.left self.old.left)) (ranges (C.left self.old.right)))) }
+        ensures refused { OnErr result (items_behind C.Range.places (option_map (λ first. (shown_range C.given first, shown_range C.given (unwrap_or self.old.last first))) self.old.first) (merged C.Range.places (ranges (C.left self.old.left)) (ranges (C.left self.old.right))) ≢ []) }
     {
         let Some((first, mut last)) = self.begin() else {
             return Ok(None);
         };
         join(&first, &mut last, &mut self.left, &mut self.right);
-        match between(range_of::<I>(&first), last_of::<I>(&first, &last)) {
+        match between(C::parts(&first).0, last_of::<C>(&first, &last)) {
             Ok(item) => Ok(item),
             Err(error) => {
                 self.first = Some(first);

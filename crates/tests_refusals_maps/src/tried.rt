@@ -5,7 +5,6 @@ use rangemap::map::Map;
 use rangemap_chunked::Chunks;
 use rangemap_core::key_range::KeyRange;
 use rangemap_core::kind::Kind;
-use rangemap_core::pair_iter::PairIter;
 use rangemap_core::store::{Lends, Store};
 use rangemap_sorted::SortedVec;
 use rangemap_tree::Tree;
@@ -119,7 +118,7 @@ fn try_gaps<'a, S>(
     left: u64,
 ) -> Answer
 where
-    S: Lends<'a, Range: 'a + KeyRange<Key: Word<S::Alloc>>, Value: 'a, Overlapping: PairIter>,
+    S: Lends<'a, Range: 'a + KeyRange<Key: Word<S::Alloc>>, Value: 'a>,
     requires { KeysCloneFaithfully S.Range.Key.is_clone S.Range.Key.cmp }
 {
     let gaps = (map.gaps(outer), map.gaps(outer));

@@ -3,9 +3,9 @@ ghost use Rattle.rangemap.specs.Clones.{KeysCloneFaithfully};
 
 use rangemap::range_set::Set;
 use rangemap_chunked::Chunks;
+use rangemap_core::cursor::Peek;
 use rangemap_core::key_range::KeyRange;
 use rangemap_core::kind::Kind;
-use rangemap_core::pair_iter::PairIter;
 use rangemap_core::store::{Lends, StoreMut};
 use rangemap_sorted::SortedVec;
 use rangemap_tree::Tree;
@@ -103,7 +103,7 @@ fn try_or_make<S: InRows<Value = ()> + OwnCalls>(
 /// Asks a set for its gaps in the one range of another.
 fn try_gaps<'a, S>(heap: &Heap, set: &'a Set<S>, other: &'a Set<S>, list: &str, left: u64) -> Answer
 where
-    S: Lends<'a, Range: 'a + KeyRange<Key: Word<S::Alloc>>, Value = (), Overlapping: PairIter>,
+    S: Lends<'a, Range: 'a + KeyRange<Key: Word<S::Alloc>>, Value = ()>,
     requires { KeysCloneFaithfully S.Range.Key.is_clone S.Range.Key.cmp }
 {
     let outer = other.first().ok_or("gaps are asked for in a range")?;
@@ -120,7 +120,7 @@ fn try_joined<'a, S>(
     left: u64,
 ) -> Answer
 where
-    S: Lends<'a, Value = (), Iter: PairIter> + StoreMut<Alloc: Copy> + Drop,
+    S: Lends<'a, Value = (), Iter: Peek> + StoreMut<Alloc: Copy> + Drop,
     S::Range: FromEnds<Key: Word<S::Alloc>> + 'a,
     S::Kind: Kind<S::Range, Steps = <S::Range as KeyRange>::Key>,
     Set<S>: InRows<Range = S::Range, Value = (), Alloc = S::Alloc, Kind = S::Kind>,

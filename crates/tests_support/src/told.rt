@@ -3,34 +3,32 @@ ghost use Rattle.rangemap.specs.Clones.{KeysCloneFaithfully};
 
 use rangemap::map::Map;
 use rangemap::range_set::Set;
-use rangemap_core::pair_iter::PairIter;
 use rangemap_core::store::Lends;
 use std::alloc::AllocError;
 use tests_words::{ReadsGaps, ReadsPairs, tell_gaps, tell_pairs, tell_ranges};
 
 /// Tells a reader of all pairs of a map.
 #[inline(always)]
-pub fn tell_all_pairs<
-    'a,
-    S: Lends<'a, Iter: PairIter<LentValue = &'a S::Value>>,
-    U: ReadsPairs<S::Range, S::Value>,
->(map: &'a Map<S>, reader: &mut U) -> Result<(), AllocError> {
+pub fn tell_all_pairs<'a, S: Lends<'a>, U: ReadsPairs<S::Range, S::Value>>(
+    map: &'a Map<S>,
+    reader: &mut U,
+) -> Result<(), AllocError> {
     tell_pairs(map.iter(), reader)
 }
 
 /// Tells a reader of the pairs of a map that overlap a range.
 #[inline(always)]
-pub fn tell_overlapping_pairs<
-    'a,
-    S: Lends<'a, Overlapping: PairIter<LentValue = &'a S::Value>>,
-    U: ReadsPairs<S::Range, S::Value>,
->(map: &'a Map<S>, range: &'a S::Range, reader: &mut U) -> Result<(), AllocError> {
+pub fn tell_overlapping_pairs<'a, S: Lends<'a>, U: ReadsPairs<S::Range, S::Value>>(
+    map: &'a Map<S>,
+    range: &'a S::Range,
+    reader: &mut U,
+) -> Result<(), AllocError> {
     tell_pairs(map.overlapping(range), reader)
 }
 
 /// Tells a reader of the gaps of a map in an outer range.
 #[inline(always)]
-pub fn tell_gaps_of_map<'a, S: Lends<'a, Overlapping: PairIter>, U: ReadsGaps<S::Range>>(
+pub fn tell_gaps_of_map<'a, S: Lends<'a>, U: ReadsGaps<S::Range>>(
     map: &'a Map<S>,
     outer_range: &'a S::Range,
     reader: &mut U,
@@ -42,7 +40,7 @@ pub fn tell_gaps_of_map<'a, S: Lends<'a, Overlapping: PairIter>, U: ReadsGaps<S:
 
 /// Tells a reader of all ranges of a set.
 #[inline(always)]
-pub fn tell_all_ranges<'a, S: Lends<'a, Value = (), Iter: PairIter>, U: ReadsPairs<S::Range, ()>>(
+pub fn tell_all_ranges<'a, S: Lends<'a, Value = ()>, U: ReadsPairs<S::Range, ()>>(
     set: &'a Set<S>,
     reader: &mut U,
 ) -> Result<(), AllocError> {
@@ -51,21 +49,21 @@ pub fn tell_all_ranges<'a, S: Lends<'a, Value = (), Iter: PairIter>, U: ReadsPai
 
 /// Tells a reader of the ranges of a set that overlap a range.
 #[inline(always)]
-pub fn tell_overlapping_ranges<
-    'a,
-    S: Lends<'a, Value = (), Overlapping: PairIter>,
-    U: ReadsPairs<S::Range, ()>,
->(set: &'a Set<S>, range: &'a S::Range, reader: &mut U) -> Result<(), AllocError> {
+pub fn tell_overlapping_ranges<'a, S: Lends<'a, Value = ()>, U: ReadsPairs<S::Range, ()>>(
+    set: &'a Set<S>,
+    range: &'a S::Range,
+    reader: &mut U,
+) -> Result<(), AllocError> {
     tell_ranges(set.overlapping(range), reader)
 }
 
 /// Tells a reader of the gaps of a set in an outer range.
 #[inline(always)]
-pub fn tell_gaps_of_set<
-    'a,
-    S: Lends<'a, Value = (), Overlapping: PairIter>,
-    U: ReadsGaps<S::Range>,
->(set: &'a Set<S>, outer_range: &'a S::Range, reader: &mut U) -> Result<(), AllocError>
+pub fn tell_gaps_of_set<'a, S: Lends<'a, Value = ()>, U: ReadsGaps<S::Range>>(
+    set: &'a Set<S>,
+    outer_range: &'a S::Range,
+    reader: &mut U,
+) -> Result<(), AllocError>
     requires { KeysCloneFaithfully S.Range.Key.is_clone S.Range.Key.cmp }
 {
     tell_gaps(set.gaps(outer_range), reader)

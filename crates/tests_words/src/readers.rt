@@ -22,15 +22,19 @@ pub trait ReadsGaps<R> {
 
 /// Tells a reader of the pairs of an iterator.
 #[inline(always)]
-pub fn tell_pairs<'a, R: 'a, V: 'a, I: Iterator<Item = (&'a R, &'a V)> + Drop, U: ReadsPairs<R, V>>(
-    pairs: I,
-    reader: &mut U,
-) -> Result<(), AllocError>
+pub fn tell_pairs<
+    R,
+    V,
+    L: Deref<Target = R> + Drop,
+    W: Deref<Target = V> + Drop,
+    I: Iterator<Item = (L, W)> + Drop,
+    U: ReadsPairs<R, V>,
+>(pairs: I, reader: &mut U) -> Result<(), AllocError>
     requires can { I.can_next pairs }
     requires ends { IsFinite (I.remaining pairs) }
 {
     for (range, value) in pairs {
-        reader.pair(range, value)?;
+        reader.pair(&*range, &*value)?;
     }
     Ok(())
 }

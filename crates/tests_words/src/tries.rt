@@ -1,9 +1,9 @@
 //! Iterators that make their items out of clones, and are asked for the same item again.
 
+use rangemap_core::cursor::{Cursor, Peek};
 use rangemap_core::gaps::Gaps;
 use rangemap_core::key_range::KeyRange;
 use rangemap_core::kind::Kind;
-use rangemap_core::pair_iter::PairIter;
 use rangemap_unions::{Intersection, Union};
 use std::alloc::AllocError;
 use std::iter::Iterator;
@@ -19,7 +19,8 @@ pub trait Tries: Iterator + Drop {
         ensures { Self.can_next self.new };
 }
 
-impl<'a, Q: Kind<R>, R: KeyRange, I: PairIter<Range = R>> Tries for Gaps<'a, Q, R, I> {
+impl<'a, Q: Kind<R>, R: KeyRange, C: Cursor<Range = R, Given: Drop, GivenValue: Drop>> Tries
+    for Gaps<'a, Q, R, C> {
     type Range = R;
 
     fn try_next(&mut self) -> Result<Option<R>, AllocError> {
@@ -27,18 +28,18 @@ impl<'a, Q: Kind<R>, R: KeyRange, I: PairIter<Range = R>> Tries for Gaps<'a, Q, 
     }
 }
 
-impl<I: PairIter> Tries for Union<I> {
-    type Range = I::Range;
+impl<C: Peek> Tries for Union<C> {
+    type Range = C::Range;
 
-    fn try_next(&mut self) -> Result<Option<I::Range>, AllocError> {
+    fn try_next(&mut self) -> Result<Option<C::Range>, AllocError> {
         self.try_next()
     }
 }
 
-impl<I: PairIter> Tries for Intersection<I> {
-    type Range = I::Range;
+impl<C: Peek> Tries for Intersection<C> {
+    type Range = C::Range;
 
-    fn try_next(&mut self) -> Result<Option<I::Range>, AllocError> {
+    fn try_next(&mut self) -> Result<Option<C::Range>, AllocError> {
         self.try_next()
     }
 }

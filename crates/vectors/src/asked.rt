@@ -5,7 +5,6 @@ use rangemap::container::{Container, segments};
 use rangemap::map::Map;
 use rangemap_core::key_range::KeyRange;
 use rangemap_core::kind::Kind;
-use rangemap_core::pair_iter::OwnedPairs;
 use rangemap_core::store::{HandsOver, StoreMut};
 use std::alloc::Global;
 use std::fmt::Debug;
@@ -70,7 +69,7 @@ where
         Asked::OneHandedOver(pair) => {
             let map = map_of::<S>(alloc, *pair)?;
             let copy = map.clone()?;
-            check_one_handed(map.into_iter(), copy.into_iter())
+            check_both_ends(map.into_iter(), copy.into_iter())
         }
         Asked::Stretches {
             pairs,
@@ -121,21 +120,17 @@ where
 }
 
 /// Compares the three pairs that two iterators hand over which are alike, from both ends.
-fn check_three_handed<I: OwnedPairs<Range: Debug, Value: Debug + Drop>>(
+fn check_three_handed<I: DoubleEndedIterator<Item: Debug + Drop>>(
     alloc: Global,
     pairs: I,
     again: I,
     texts: &str,
-) -> Result<(), Fail> {
+) -> Result<(), Fail>
+    requires { (it : I) → I.can_next it × I.can_next_back it }
+{
     let (first, middle, last) = three_lists(texts)?;
     check_three(alloc, pairs, [first, middle, last], true)?;
     check_counted_back(alloc, again, [first, middle, last])
-}
-
-/// Takes the one pair that is handed over from either end of two iterators that are alike, and asks
-/// on.
-fn check_one_handed<I: OwnedPairs<Value: Drop>>(front: I, back: I) -> Result<(), Fail> {
-    check_both_ends(front, back)
 }
 
 /// Compares the stretches of a container, for each query.

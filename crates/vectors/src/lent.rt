@@ -2,10 +2,10 @@
 ghost use Rattle.rangemap.specs.Clones.{KeysCloneFaithfully};
 
 use rangemap::map::Map;
+use rangemap_core::cursor::Cursor;
 use rangemap_core::gaps::Gaps;
 use rangemap_core::key_range::KeyRange;
 use rangemap_core::kind::Kind;
-use rangemap_core::pair_iter::PairIter;
 use rangemap_core::store::Lends;
 use std::alloc::Global;
 use std::fmt::Debug;
@@ -43,25 +43,30 @@ pub enum In {
 }
 
 /// Compares what a map lends of all its pairs.
-pub fn check_all<
-    'a,
-    S: Lends<'a, Range: Debug, Value: Debug, Iter: PairIter<LentValue = &'a S::Value>>,
->(alloc: Global, map: &'a Map<S>, asked: &All, answer: &str) -> Result<(), Fail>
+pub fn check_all<'a, S: Lends<'a, Range: Debug, Value: Debug>>(
+    alloc: Global,
+    map: &'a Map<S>,
+    asked: &All,
+    answer: &str,
+) -> Result<(), Fail>
 where
     S::Range: 'a,
     S::Value: 'a,
 {
     match asked {
         All::Three => check_three_pairs(alloc, map.iter(), answer, true),
-        All::One => check_one_pair(map.iter(), map.iter()),
+        All::One => check_both_ends(map.iter(), map.iter()),
     }
 }
 
 /// Compares what a map lends in a range.
-pub fn check_in_range<
-    'a,
-    S: Lends<'a, Range: Debug, Value: Debug, Overlapping: PairIter<LentValue = &'a S::Value>>,
->(alloc: Global, map: &'a Map<S>, range: &'a S::Range, asked: &In, answer: &str) -> Result<(), Fail>
+pub fn check_in_range<'a, S: Lends<'a, Range: Debug, Value: Debug>>(
+    alloc: Global,
+    map: &'a Map<S>,
+    range: &'a S::Range,
+    asked: &In,
+    answer: &str,
+) -> Result<(), Fail>
 where
     S::Range: 'a,
     S::Value: 'a,
@@ -69,7 +74,7 @@ where
 {
     match asked {
         In::Three => check_three_pairs(alloc, map.overlapping(range), answer, false),
-        In::One => check_one_pair(map.overlapping(range), map.overlapping(range)),
+        In::One => check_both_ends(map.overlapping(range), map.overlapping(range)),
         In::OneGap => {
             let gaps = (map.gaps(range), map.gaps(range), map.gaps(range));
             check_gap(alloc, gaps, answer)
@@ -78,25 +83,22 @@ where
 }
 
 /// Compares the three pairs that are lent.
-fn check_three_pairs<I: PairIter<Lent: Debug, LentValue: Debug>>(
+fn check_three_pairs<I: DoubleEndedIterator<Item: Debug + Drop>>(
     alloc: Global,
     pairs: I,
     texts: &str,
     is_counted: bool,
-) -> Result<(), Fail> {
+) -> Result<(), Fail>
+    requires { (it : I) → I.can_next it × I.can_next_back it }
+{
     let (first, middle, last) = three_lists(texts)?;
     check_three(alloc, pairs, [first, middle, last], is_counted)
 }
 
-/// Takes the one pair that is lent from either end of two iterators that are alike, and asks on.
-fn check_one_pair<I: PairIter>(front: I, back: I) -> Result<(), Fail> {
-    check_both_ends(front, back)
-}
-
 /// Compares the one gap of three iterators that are alike, and asks on.
-fn check_gap<Q: Kind<R>, R: KeyRange + Debug, I: PairIter<Range = R>>(
+fn check_gap<Q: Kind<R>, R: KeyRange + Debug, C: Cursor<Range = R, Given: Drop, GivenValue: Drop>>(
     alloc: Global,
-    gaps: (Gaps<'_, Q, R, I>, Gaps<'_, Q, R, I>, Gaps<'_, Q, R, I>),
+    gaps: (Gaps<'_, Q, R, C>, Gaps<'_, Q, R, C>, Gaps<'_, Q, R, C>),
     gap: &str,
 ) -> Result<(), Fail>
     requires { KeysCloneFaithfully R.Key.is_clone R.Key.cmp }

@@ -37,7 +37,7 @@ fn check_asks<Q: Kind<R>, R: KeyRange<Key = u32>>(
     (len, most): (u16, usize),
 ) -> Result<(), Fail> {
     let map = spread::<SortedVec<Q, R, u8, Global>>(alloc, len, end)?;
-    let pairs = map.iter().as_slice();
+    let pairs = map.iter().cursor().as_slice();
     check_same(pairs.len(), usize::from(len))?;
     let behind = 3 * u32::from(len);
     for key in 0..behind + 1 {

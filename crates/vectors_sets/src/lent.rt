@@ -3,10 +3,10 @@ ghost use Rattle.std.specs.Iterator.{IsFinite};
 ghost use Rattle.rangemap.specs.Clones.{KeysCloneFaithfully};
 
 use rangemap::range_set::Set;
+use rangemap_core::cursor::{Cursor, Peek};
 use rangemap_core::gaps::Gaps;
 use rangemap_core::key_range::KeyRange;
 use rangemap_core::kind::Kind;
-use rangemap_core::pair_iter::PairIter;
 use rangemap_core::store::Lends;
 use rangemap_unions::{Intersection, Ranges, Union};
 use std::alloc::{AllocError, Global};
@@ -62,7 +62,7 @@ pub enum OfBoth {
 }
 
 /// Compares what a set lends of all its ranges, and where two are asked the other one too.
-pub fn check_all<'a, S: Lends<'a, Range: Debug, Value = (), Iter: PairIter>>(
+pub fn check_all<'a, S: Lends<'a, Range: Debug, Value = (), Iter: Peek>>(
     alloc: Global,
     set: &'a Set<S>,
     other: &'a Set<S>,
@@ -76,13 +76,13 @@ where
 {
     match asked {
         All::Three => check_three_ranges(alloc, set.iter(), answer, true),
-        All::One => check_one_range(set.iter(), set.iter()),
+        All::One => check_both_ends(set.iter(), set.iter()),
         All::OfBoth(asked) => check_of_both(alloc, set, other, asked, answer),
     }
 }
 
 /// Compares what a set lends in a range.
-pub fn check_in_range<'a, S: Lends<'a, Range: Debug, Value = (), Overlapping: PairIter>>(
+pub fn check_in_range<'a, S: Lends<'a, Range: Debug, Value = ()>>(
     alloc: Global,
     set: &'a Set<S>,
     range: &'a S::Range,
@@ -96,7 +96,7 @@ where
 {
     match asked {
         In::Three => check_three_ranges(alloc, set.overlapping(range), answer, false),
-        In::One => check_one_range(set.overlapping(range), set.overlapping(range)),
+        In::One => check_both_ends(set.overlapping(range), set.overlapping(range)),
         In::OneGap => {
             let gaps = (set.gaps(range), set.gaps(range), set.gaps(range));
             check_gap(alloc, gaps, answer)
@@ -106,7 +106,7 @@ where
 }
 
 /// Compares what two sets lend of both.
-fn check_of_both<'a, S: Lends<'a, Range: Debug, Value = (), Iter: PairIter>>(
+fn check_of_both<'a, S: Lends<'a, Range: Debug, Value = (), Iter: Peek>>(
     alloc: Global,
     left: &'a Set<S>,
     right: &'a Set<S>,
@@ -138,25 +138,22 @@ where
 }
 
 /// Compares the three ranges that are lent.
-fn check_three_ranges<I: PairIter<Lent: Debug>>(
+fn check_three_ranges<I: DoubleEndedIterator<Item: Debug + Drop>>(
     alloc: Global,
-    ranges: Ranges<I>,
+    ranges: I,
     texts: &str,
     is_counted: bool,
-) -> Result<(), Fail> {
+) -> Result<(), Fail>
+    requires { (it : I) → I.can_next it × I.can_next_back it }
+{
     let (first, middle, last) = three_lists(texts)?;
     check_three(alloc, ranges, [first, middle, last], is_counted)
 }
 
-/// Takes the one range that is lent from either end of two iterators that are alike, and asks on.
-fn check_one_range<I: PairIter>(front: Ranges<I>, back: Ranges<I>) -> Result<(), Fail> {
-    check_both_ends(front, back)
-}
-
 /// Compares the one gap of three iterators that are alike, and asks on.
-fn check_gap<Q: Kind<R>, R: KeyRange + Debug, I: PairIter<Range = R>>(
+fn check_gap<Q: Kind<R>, R: KeyRange + Debug, C: Cursor<Range = R, Given: Drop, GivenValue: Drop>>(
     alloc: Global,
-    gaps: (Gaps<'_, Q, R, I>, Gaps<'_, Q, R, I>, Gaps<'_, Q, R, I>),
+    gaps: (Gaps<'_, Q, R, C>, Gaps<'_, Q, R, C>, Gaps<'_, Q, R, C>),
     gap: &str,
 ) -> Result<(), Fail>
     requires { KeysCloneFaithfully R.Key.is_clone R.Key.cmp }
@@ -165,11 +162,11 @@ fn check_gap<Q: Kind<R>, R: KeyRange + Debug, I: PairIter<Range = R>>(
 }
 
 /// Takes two gaps by calls in turn, asks on, and compares the text of what is answered behind the hint.
-fn check_two_gaps<Q: Kind<R>, R: KeyRange + Debug, I: PairIter<Range = R>>(
-    alloc: Global,
-    mut gaps: Gaps<'_, Q, R, I>,
-    text: &str,
-) -> Result<(), Fail>
+fn check_two_gaps<
+    Q: Kind<R>,
+    R: KeyRange + Debug,
+    C: Cursor<Range = R, Given: Drop, GivenValue: Drop>,
+>(alloc: Global, mut gaps: Gaps<'_, Q, R, C>, text: &str) -> Result<(), Fail>
     requires { KeysCloneFaithfully R.Key.is_clone R.Key.cmp }
 {
     let hint = gaps.size_hint();
@@ -182,13 +179,13 @@ fn check_two_gaps<Q: Kind<R>, R: KeyRange + Debug, I: PairIter<Range = R>>(
 type Three<I> = (I, I, I);
 
 /// Compares the one item of a union, and that of an intersection, and asks on.
-fn check_item<I: PairIter<Range: Debug>>(
+fn check_item<C: Peek<Range: Debug>>(
     alloc: Global,
-    unions: Three<Union<I>>,
-    intersections: Three<Intersection<I>>,
+    unions: Three<Union<C>>,
+    intersections: Three<Intersection<C>>,
     items: &str,
 ) -> Result<(), Fail>
-    requires { KeysCloneFaithfully I.Range.Key.is_clone I.Range.Key.cmp }
+    requires { KeysCloneFaithfully C.Range.Key.is_clone C.Range.Key.cmp }
 {
     let (either, common) = two_lists(items)?;
     check_tries(alloc, unions, Union::try_next, either)?;
@@ -196,13 +193,13 @@ fn check_item<I: PairIter<Range: Debug>>(
 }
 
 /// Compares the items of a union, and those of an intersection.
-fn check_items<I: PairIter<Range: Debug>>(
+fn check_items<C: Peek<Range: Debug>>(
     alloc: Global,
-    union: Union<I>,
-    intersection: Intersection<I>,
+    union: Union<C>,
+    intersection: Intersection<C>,
     items: &str,
 ) -> Result<(), Fail>
-    requires { KeysCloneFaithfully I.Range.Key.is_clone I.Range.Key.cmp }
+    requires { KeysCloneFaithfully C.Range.Key.is_clone C.Range.Key.cmp }
 {
     let (either, common) = two_lists(items)?;
     check_listed(alloc, union, either)?;
@@ -228,14 +225,14 @@ fn check_listed<T: Debug + Drop, I: Iterator<Item = Result<T, AllocError>> + Dro
 
 /// Compares the first range of two iterators, or the last; and what a union with the rest of one and
 /// an intersection with that of the other make.
-fn check_rests<I: PairIter<Range: Debug, Lent: Debug>>(
+fn check_rests<C: Peek<Range: Debug, Given: Debug>>(
     alloc: Global,
-    left: (Ranges<I>, Ranges<I>),
-    right: (Ranges<I>, Ranges<I>),
+    left: (Ranges<C>, Ranges<C>),
+    right: (Ranges<C>, Ranges<C>),
     from_front: bool,
     texts: &str,
 ) -> Result<(), Fail>
-    requires { KeysCloneFaithfully I.Range.Key.is_clone I.Range.Key.cmp }
+    requires { KeysCloneFaithfully C.Range.Key.is_clone C.Range.Key.cmp }
 {
     let (taken, either, common) = three_lists(texts)?;
     let (mut one, mut other) = left;
@@ -246,7 +243,7 @@ fn check_rests<I: PairIter<Range: Debug, Lent: Debug>>(
 }
 
 /// Takes the first range, or else the last.
-fn take<I: PairIter>(ranges: &mut Ranges<I>, from_front: bool) -> Option<I::Lent> {
+fn take<C: Peek>(ranges: &mut Ranges<C>, from_front: bool) -> Option<C::Given> {
     if from_front {
         ranges.next()
     } else {

@@ -8,9 +8,8 @@ ghost use Rattle.rangemap.specs.Sets.{Adds, AreNonEmptyRanges, GivesNonEmptyRang
 use super::Set;
 use rangemap_core::key_range::KeyRange;
 use rangemap_core::kind::Kind;
-use rangemap_core::pair_iter::PairIter;
 use rangemap_core::store::{HandsOver, Lends, Store, StoreMut};
-use rangemap_unions::{IntoRanges, Ranges};
+use rangemap_unions::Ranges;
 use std::alloc::AllocError;
 use std::iter::IntoIterator;
 use std::marker::PhantomData;
@@ -129,17 +128,18 @@ where
 
     type Item = S::Range;
 
-    type IntoIter = IntoRanges<S::IntoIter>;
+    type IntoIter = Ranges<S::IntoIter>;
 
     ghost into_iter_gives = { λ set it. (it ≡ set) × IsCanonicalSet S.Kind.kind set };
 
     /// Returns the stored ranges in order, which can be taken from both ends.
-    fn into_iter(self) -> IntoRanges<S::IntoIter> {
-        IntoRanges::over(self.stored.into_pairs())
+    fn into_iter(self) -> Ranges<S::IntoIter> {
+        let len = self.stored.len();
+        Ranges::over(self.stored.into_pairs(), len)
     }
 }
 
-impl<'a, S: Lends<'a, Iter: PairIter> + Store<Value = ()>> IntoIterator for &'a Set<S>
+impl<'a, S: Lends<'a> + Store<Value = ()>> IntoIterator for &'a Set<S>
 where
     S::Range: 'a,
     S::Value: 'a,
@@ -155,7 +155,6 @@ where
 
     /// Returns the stored ranges in order, which can be taken from both ends.
     fn into_iter(self) -> Ranges<S::Iter> {
-        self.stored.known();
-        Ranges::over(self.stored.iter())
+        self.iter()
     }
 }

@@ -3,9 +3,9 @@ ghost use Rattle.std.specs.Prelude.{◌++◌};
 ghost use Rattle.rangemap.specs.Sets.{AreCommon, AreHulls, CoverEither};
 
 use super::Set;
+use rangemap_core::cursor::Peek;
 use rangemap_core::key_range::KeyRange;
 use rangemap_core::kind::Kind;
-use rangemap_core::pair_iter::PairIter;
 use rangemap_core::store::{Lends, Store, StoreMut};
 use rangemap_unions::inserts::{Intersecting, Uniting};
 use rangemap_unions::{Intersection, Union};
@@ -13,7 +13,7 @@ use std::alloc::AllocError;
 use std::marker::PhantomData;
 use std::ops::{BitAnd, BitOr};
 
-impl<'a, S: Lends<'a, Iter: PairIter> + Store<Value = ()>> Set<S>
+impl<'a, S: Lends<'a, Iter: Peek> + Store<Value = ()>> Set<S>
 where
     S::Range: 'a,
     S::Value: 'a,

@@ -10,10 +10,10 @@ ghost use Rattle.rangemap_core.specs.engine.Endpoints.{AtStart, gaps_from};
 ghost use Rattle.rangemap_core.specs.MadeRanges.{GivesRange};
 ghost use Rattle.rangemap_core.specs.Ranges.{IsStorable};
 
+use crate::cursor::Cursor;
 use crate::gaps::Gaps;
 use crate::key_range::KeyRange;
 use crate::kind::Kind;
-use crate::pair_iter::{PairIter, range_of, value_of};
 use crate::pairs::clone_pair;
 use crate::reader::Reader;
 use std::alloc::{AllocError, Allocator};
@@ -60,14 +60,14 @@ impl<Q: Kind<R>, R: KeyRange, V: Eq + Clone, B: Allocator> Reader<R, V> for Appe
 
     ghost reads = { λ pairs old result new. OnOk result (Appends Q.kind V.eq pairs old.items new.items) × OnErr result (new.items ≡ old.items) };
 
-    fn read<I: PairIter<Range = R, Value = V>>(
-        pairs: I,
+    fn read<C: Cursor<Range = R, Value = V, Given: Drop, GivenValue: Drop>>(
+        pairs: C,
         out: &mut Vec<(R, V), B>,
     ) -> Result<(), AllocError> {
         let len = out.len();
         let mut rest = pairs;
-        'pairs: while let Some(pair) = rest.next() {
-            let (range, value) = (range_of::<I>(&pair.0), value_of::<I>(&pair.1));
+        'pairs: while let Some(pair) = rest.take_first() {
+            let (range, value) = C::parts(&pair);
             if let Err(error) = append_clone::<Q, R, V, B>(range, value, out) {
                 out.truncate(len);
                 return Err(error);
@@ -82,16 +82,17 @@ impl<Q: Kind<R>, R: KeyRange, V: Eq + Clone, B: Allocator> Reader<R, V> for Appe
 /// # Errors
 ///
 /// A clone of a key, or the growth of the vector, was refused: then the vector is as it was.
-pub fn append_gaps<Q: Kind<R>, R: KeyRange, I: PairIter<Range = R>, B: Allocator>(
-    pairs: I,
-    outer_range: &R,
-    out: &mut Vec<R, B>,
-) -> Result<(), AllocError>
+pub fn append_gaps<
+    Q: Kind<R>,
+    R: KeyRange,
+    C: Cursor<Range = R, Given: Drop, GivenValue: Drop>,
+    B: Allocator,
+>(pairs: C, outer_range: &R, out: &mut Vec<R, B>) -> Result<(), AllocError>
     requires { KeysCloneFaithfully R.Key.is_clone R.Key.cmp }
-    ensures ok { OnOk result ((gaps : List _) × Drains (GivesRange Q.kind) (gaps_from Q.kind Q.end_place Q.part_of (AtStart outer_range.now) outer_range.now (I.left pairs)) (map OkWord gaps) × (out.new.items ≡ out.old.items ++ gaps)) }
+    ensures ok { OnOk result ((gaps : List _) × Drains (GivesRange Q.kind) (gaps_from Q.kind Q.end_place Q.part_of (AtStart outer_range.now) outer_range.now (C.left pairs)) (map OkWord gaps) × (out.new.items ≡ out.old.items ++ gaps)) }
     ensures err { OnErr result (out.new.items ≡ out.old.items) }
 {
-    append_items(Gaps::<Q, R, I>::over(pairs, outer_range), out)
+    append_items(Gaps::<Q, R, C>::over(pairs, outer_range), out)
 }
 
 // Appends the ranges that are still to come. Where one, or the growth of the vector, is refused, the

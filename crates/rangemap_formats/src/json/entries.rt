@@ -6,6 +6,8 @@ ghost use Rattle.rangemap_formats.specs.Json.{list_of, map_entry};
 use super::WriteError;
 use super::reading::{ReadsParts, items};
 use super::writing::WritesParts;
+use rangemap_core::key_range::KeyRange;
+use rangemap_core::store::Store;
 use serde_json::Value;
 use std::alloc::{AllocError, Global};
 
@@ -16,8 +18,12 @@ pub(crate) struct MapReader<RK, RV> {
     pub(crate) read_value: RV,
 }
 
-impl<K, V, E, RK: Fn(&Value) -> Result<K, E>, RV: Fn(&Value) -> Result<V, E>> ReadsParts<K, V, E>
-    for MapReader<RK, RV> {
+impl<
+    S: Store,
+    E,
+    RK: Fn(&Value) -> Result<<S::Range as KeyRange>::Key, E>,
+    RV: Fn(&Value) -> Result<S::Value, E>,
+> ReadsParts<S, E> for MapReader<RK, RV> {
     ghost use Rattle.std.specs.Fn.{FnReturnsAt};
     ghost use Rattle.rangemap_formats.specs.Json.{map_reader};
     ghost use Rattle.rangemap_formats.specs.laws.Entries.{map_unambiguous};
@@ -34,11 +40,11 @@ impl<K, V, E, RK: Fn(&Value) -> Result<K, E>, RV: Fn(&Value) -> Result<V, E>> Re
         Some((start, end, value))
     }
 
-    fn key(&self, part: &Value) -> Result<K, E> {
+    fn key(&self, part: &Value) -> Result<<S::Range as KeyRange>::Key, E> {
         (self.read_key)(part)
     }
 
-    fn value(&self, part: &Value) -> Result<V, E> {
+    fn value(&self, part: &Value) -> Result<S::Value, E> {
         (self.read_value)(part)
     }
 }
@@ -51,8 +57,12 @@ pub(crate) struct MapWriter<WK, WV> {
     pub(crate) write_value: WV,
 }
 
-impl<K, V, E, WK: Fn(&K) -> Result<Value, E>, WV: Fn(&V) -> Result<Value, E>> WritesParts<K, V, E>
-    for MapWriter<WK, WV> {
+impl<
+    S: Store,
+    E,
+    WK: Fn(&<S::Range as KeyRange>::Key) -> Result<Value, E>,
+    WV: Fn(&S::Value) -> Result<Value, E>,
+> WritesParts<S, E> for MapWriter<WK, WV> {
     ghost use Rattle.std.specs.Fn.{FnReturnsAt};
     ghost use Rattle.rangemap_formats.specs.Json.{map_writer};
 
@@ -60,11 +70,11 @@ impl<K, V, E, WK: Fn(&K) -> Result<Value, E>, WV: Fn(&V) -> Result<Value, E>> Wr
 
     ghost is_ready = { λ it. WK.IsAlwaysCallable it.write_key × WV.IsAlwaysCallable it.write_value };
 
-    fn key(&self, key: &K) -> Result<Value, E> {
+    fn key(&self, key: &<S::Range as KeyRange>::Key) -> Result<Value, E> {
         (self.write_key)(key)
     }
 
-    fn entry(&self, ends: (Value, Value), value: &V) -> Result<Value, WriteError<E>> {
+    fn entry(&self, ends: (Value, Value), value: &S::Value) -> Result<Value, WriteError<E>> {
         let part = match (self.write_value)(value) {
             Ok(part) => part,
             Err(fault) => return Err(WriteError::Caller(fault)),
@@ -80,7 +90,10 @@ pub(crate) struct SetReader<RK> {
     pub(crate) read_key: RK,
 }
 
-impl<K, E, RK: Fn(&Value) -> Result<K, E>> ReadsParts<K, (), E> for SetReader<RK> {
+impl<S: Store<Value = ()>, E, RK: Fn(&Value) -> Result<<S::Range as KeyRange>::Key, E>> ReadsParts<
+    S,
+    E,
+> for SetReader<RK> {
     ghost use Rattle.std.specs.Fn.{FnReturnsAt};
     ghost use Rattle.rangemap_formats.specs.Json.{set_reader};
     ghost use Rattle.rangemap_formats.specs.laws.Entries.{set_unambiguous};
@@ -96,7 +109,7 @@ impl<K, E, RK: Fn(&Value) -> Result<K, E>> ReadsParts<K, (), E> for SetReader<RK
         Some((start, end, entry))
     }
 
-    fn key(&self, part: &Value) -> Result<K, E> {
+    fn key(&self, part: &Value) -> Result<<S::Range as KeyRange>::Key, E> {
         (self.read_key)(part)
     }
 
@@ -112,7 +125,10 @@ pub(crate) struct SetWriter<WK> {
     pub(crate) write_key: WK,
 }
 
-impl<K, E, WK: Fn(&K) -> Result<Value, E>> WritesParts<K, (), E> for SetWriter<WK> {
+impl<S: Store<Value = ()>, E, WK: Fn(&<S::Range as KeyRange>::Key) -> Result<Value, E>> WritesParts<
+    S,
+    E,
+> for SetWriter<WK> {
     ghost use Rattle.std.specs.Fn.{FnReturnsAt};
     ghost use Rattle.rangemap_formats.specs.Json.{set_writer};
 
@@ -120,7 +136,7 @@ impl<K, E, WK: Fn(&K) -> Result<Value, E>> WritesParts<K, (), E> for SetWriter<W
 
     ghost is_ready = { λ it. WK.IsAlwaysCallable it.write_key };
 
-    fn key(&self, key: &K) -> Result<Value, E> {
+    fn key(&self, key: &<S::Range as KeyRange>::Key) -> Result<Value, E> {
         (self.write_key)(key)
     }
 

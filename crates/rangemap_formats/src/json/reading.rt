@@ -14,11 +14,10 @@ use rangemap_core::std_ext::Touch;
 use rangemap_core::store::{Store, StoreMut};
 use serde_json::Value;
 
-/// What reads the parts of an entry, with keys of type `K`, values of type `V` and faults of type
-/// `E`.
-pub(crate) trait ReadsParts<K, V, E> {
+/// What reads the parts of an entry for a store, with faults of type `E`.
+pub(crate) trait ReadsParts<S: Store, E> {
     /// What it may answer.
-    ghost reader: { Self → Reader K V E };
+    ghost reader: { Self → Reader S.Range.Key S.Value E };
 
     /// What the caller sees to.
     ghost is_ready: { Self → Type 0 };
@@ -31,18 +30,18 @@ pub(crate) trait ReadsParts<K, V, E> {
         ensures { MatchOption result ((start end value : Json) → (reader self.now).shape entry.now start end value → ⊥) (λ parts. (reader self.now).shape entry.now parts.0.now parts.1.now parts.2.now) };
 
     /// Reads a key.
-    fn key(&self, part: &Value) -> Result<K, E>
+    fn key(&self, part: &Value) -> Result<<S::Range as KeyRange>::Key, E>
         requires { is_ready self.now }
         ensures { (reader self.now).key part.now result };
 
     /// Reads a value.
-    fn value(&self, part: &Value) -> Result<V, E>
+    fn value(&self, part: &Value) -> Result<S::Value, E>
         requires { is_ready self.now }
         ensures { (reader self.now).value part.now result };
 }
 
 // Reads a store: inserts the pairs of the entries, in order.
-pub(crate) fn read<S: StoreMut + Drop, E, R: ReadsParts<<S::Range as KeyRange>::Key, S::Value, E>>(
+pub(crate) fn read<S: StoreMut + Drop, E, R: ReadsParts<S, E>>(
     alloc: S::Alloc,
     form: Form,
     value: &Value,
@@ -71,7 +70,7 @@ pub(crate) fn read<S: StoreMut + Drop, E, R: ReadsParts<<S::Range as KeyRange>::
 }
 
 // The pair of the entry at the place, unless its range is empty.
-fn read_entry<S: Store, E, R: ReadsParts<<S::Range as KeyRange>::Key, S::Value, E>>(
+fn read_entry<S: Store, E, R: ReadsParts<S, E>>(
     at: usize,
     entry: &Value,
     reader: &R,

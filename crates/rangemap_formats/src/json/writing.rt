@@ -1,13 +1,12 @@
 //! Writing the pairs of a store as the value of its JSON form.
 ghost use Rattle.std.specs.Prelude.{Err as ErrWord, IfErr, IfOk, Ok as OkWord};
 ghost use Rattle.serde_json.specs.declared.value.Value.{Value as Json};
+ghost use Rattle.rangemap_core.specs.Shown.{shown};
 ghost use Rattle.rangemap_formats.specs.Json.{CallerOr, IsForm, IsRefusedIn, IsWritten, RefusesToWrite, Writer};
-ghost use Rattle.rangemap_core.specs.Lent.{shown};
 
 use super::WriteError;
+use rangemap_core::cursor::Cursor;
 use rangemap_core::key_range::KeyRange;
-use rangemap_core::kind::Kind;
-use rangemap_core::pair_iter::{PairIter, range_of, value_of};
 use rangemap_core::reader::Reader;
 use rangemap_core::store::Store;
 use serde_json::Value;
@@ -15,30 +14,29 @@ use std::alloc::Global;
 use std::iter::Iterator;
 use std::marker::PhantomData;
 
-/// What writes the parts of an entry, with keys of type `K`, values of type `V` and faults of type
-/// `E`.
-pub(crate) trait WritesParts<K, V, E>: Drop {
+/// What writes the parts of an entry of a store, with faults of type `E`.
+pub(crate) trait WritesParts<S: Store, E>: Drop {
     /// What it may answer.
-    ghost writer: { Self → Writer K V E };
+    ghost writer: { Self → Writer S.Range.Key S.Value E };
 
     /// What the caller sees to.
     ghost is_ready: { Self → Type 0 };
 
     /// Writes a key.
-    fn key(&self, key: &K) -> Result<Value, E>
+    fn key(&self, key: &<S::Range as KeyRange>::Key) -> Result<Value, E>
         requires { is_ready self.now }
         ensures { (writer self.now).key key.now result };
 
     /// Writes a value, where there is one to write, and lays it out as an entry behind the ends of
     /// its range, the first before the last.
-    fn entry(&self, ends: (Value, Value), value: &V) -> Result<Value, WriteError<E>>
+    fn entry(&self, ends: (Value, Value), value: &S::Value) -> Result<Value, WriteError<E>>
         requires { is_ready self.now }
         ensures ok { IfOk result (λ entry. (part : Json) × (writer self.now).value value.now (OkWord part) × (writer self.now).shape entry ends.0 ends.1 part) }
         ensures err { IfErr result (CallerOr (λ fault. (writer self.now).value value.now (ErrWord fault))) };
 }
 
 // Writes the list of the entries of the pairs, in order.
-pub(crate) fn write<S: Store, E, W: WritesParts<<S::Range as KeyRange>::Key, S::Value, E>>(
+pub(crate) fn write<S: Store, E, W: WritesParts<S, E>>(
     alloc: Global,
     stored: &S,
     writer: W,
@@ -53,10 +51,7 @@ pub(crate) fn write<S: Store, E, W: WritesParts<<S::Range as KeyRange>::Key, S::
 // Makes the list of the entries of the pairs that it reads.
 struct Entries<S, E, W>(PhantomData<(S, E, W)>);
 
-impl<S: Store, E, W: WritesParts<<S::Range as KeyRange>::Key, S::Value, E>> Reader<
-    S::Range,
-    S::Value,
-> for Entries<S, E, W> {
+impl<S: Store, E, W: WritesParts<S, E>> Reader<S::Range, S::Value> for Entries<S, E, W> {
     ghost use Rattle.std.specs.Prelude.{IfErr, IfOk};
     ghost use Rattle.rangemap_formats.specs.Json.{IsForm, RefusesToWrite};
 
@@ -68,14 +63,14 @@ impl<S: Store, E, W: WritesParts<<S::Range as KeyRange>::Key, S::Value, E>> Read
 
     ghost reads = { λ pairs state result _. IfOk result (IsForm S.Kind.kind (W.writer state.1) pairs) × IfErr result (RefusesToWrite S.Kind.kind (W.writer state.1) pairs) };
 
-    fn read<I: PairIter<Range = S::Range, Value = S::Value>>(
-        pairs: I,
+    fn read<C: Cursor<Range = S::Range, Value = S::Value, Given: Drop, GivenValue: Drop>>(
+        pairs: C,
         state: &mut (Global, W),
     ) -> Result<Value, WriteError<E>> {
         let mut entries = Vec::new(state.0);
         let mut rest = pairs;
-        'pairs: while let Some(pair) = rest.next() {
-            let entry = write_entry::<S::Kind, I, E, W>(&pair, &state.1)?;
+        'pairs: while let Some(pair) = rest.take_first() {
+            let entry = write_entry::<S, C, E, W>(&pair, &state.1)?;
             entries.push(entry)?;
         }
         Ok(Value::Array(entries))
@@ -83,17 +78,15 @@ impl<S: Store, E, W: WritesParts<<S::Range as KeyRange>::Key, S::Value, E>> Read
 }
 
 // The entry of the pair.
-fn write_entry<
-    Q: Kind<I::Range>,
-    I: PairIter,
-    E,
-    W: WritesParts<<I::Range as KeyRange>::Key, I::Value, E>,
->(pair: &I::Item, writer: &W) -> Result<Value, WriteError<E>>
+fn write_entry<S: Store, C: Cursor<Range = S::Range, Value = S::Value>, E, W: WritesParts<S, E>>(
+    pair: &(C::Given, C::GivenValue),
+    writer: &W,
+) -> Result<Value, WriteError<E>>
     requires { W.is_ready writer.now }
-    ensures ok { IfOk result (IsWritten Q.kind (W.writer writer.now) (shown I.range I.value pair.now)) }
-    ensures err { IfErr result (CallerOr (IsRefusedIn Q.kind (W.writer writer.now) (shown I.range I.value pair.now))) }
+    ensures ok { IfOk result (IsWritten S.Kind.kind (W.writer writer.now) (shown C.given C.given_value pair.now)) }
+    ensures err { IfErr result (CallerOr (IsRefusedIn S.Kind.kind (W.writer writer.now) (shown C.given C.given_value pair.now))) }
 {
-    let (range, value) = (range_of::<I>(&pair.0), value_of::<I>(&pair.1));
+    let (range, value) = C::parts(pair);
     let start = match writer.key(range.start()) {
         Ok(part) => part,
         Err(fault) => return Err(WriteError::Caller(fault)),

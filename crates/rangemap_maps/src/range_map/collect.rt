@@ -164,18 +164,19 @@ where
 
     type Item = (S::Range, S::Value);
 
-    type IntoIter = S::IntoIter;
+    type IntoIter = PairIter<S::IntoIter>;
 
-    ghost into_iter_gives = { λ map it. (S.IntoIter.left it ≡ map) × IsCanonical S.Kind.kind S.Value.eq map };
+    ghost into_iter_gives = { λ map it. (it ≡ map) × IsCanonical S.Kind.kind S.Value.eq map };
 
     /// Returns the stored pairs, in order, from both ends. Those that are not taken are dropped
     /// with it.
-    fn into_iter(self) -> S::IntoIter {
-        self.stored.into_pairs()
+    fn into_iter(self) -> PairIter<S::IntoIter> {
+        let len = self.stored.len();
+        PairIter::over(self.stored.into_pairs(), len)
     }
 }
 
-impl<'a, S: Lends<'a, Iter: PairIter<LentValue = &'a S::Value>>> IntoIterator for &'a Map<S>
+impl<'a, S: Lends<'a>> IntoIterator for &'a Map<S>
 where
     S::Range: 'a,
     S::Value: 'a,
@@ -185,13 +186,12 @@ where
 
     type Item = (&'a S::Range, &'a S::Value);
 
-    type IntoIter = S::Iter;
+    type IntoIter = PairIter<S::Iter>;
 
-    ghost into_iter_gives = { λ map it. (S.Iter.left it ≡ map.now) × IsCanonical S.Kind.kind S.Value.eq map.now };
+    ghost into_iter_gives = { λ map it. (it ≡ map.now) × IsCanonical S.Kind.kind S.Value.eq map.now };
 
     /// Returns the stored pairs, in order, from both ends.
-    fn into_iter(self) -> S::Iter {
-        self.stored.known();
-        self.stored.iter()
+    fn into_iter(self) -> PairIter<S::Iter> {
+        self.iter()
     }
 }

@@ -4,7 +4,7 @@ ghost use Rattle.rangemap_core.specs.Clones.{KeysCloneFaithfully, ValuesCloneFai
 ghost use Rattle.rangemap_core.specs.Ranges.{IsCanonOf, IsCanonical, IsNewest, erase, overlapped, override, value_at};
 ghost use Rattle.rangemap_sorted.specs.Changes.{IsChanged, grown};
 
-use super::stretch::{left_side, middle, right_side, stretch};
+use super::stretch::{middle, sides, stretch};
 use crate::overlapping::overlap;
 use crate::splice::splice;
 use rangemap_core::key_range::KeyRange;
@@ -35,8 +35,7 @@ pub fn insert<Q: Kind<R>, R: KeyRange, V: Eq + Clone, A: Allocator>(
     known_ends::<Q, R>(&range);
     let pairs = list.as_slice();
     let places = stretch::<Q, R, V>(pairs, &range, &value);
-    let left = left_side::<Q, R, V>(pairs, &places, &range, &value)?;
-    let right = right_side::<Q, R, V>(pairs, &places, &range, &value)?;
+    let (left, right) = sides::<Q, R, V>(pairs, &places, &range, &value)?;
     let middle = middle::<Q, R, V>(pairs, &places, &left, &right, range, &value)?;
     splice(list, places, left.piece, Some((middle, value)), right.piece)
 }

@@ -1,11 +1,12 @@
 //! The stretch of a list of pairs that an insert replaces.
-ghost use Rattle.std.specs.Prelude.{◌≡◌, ◌-◌, ◌≤◌, length, true, false, Some as SomeWord, IfOk};
+ghost use Rattle.std.specs.Prelude.{◌≡◌, ◌-◌, ◌≤◌, true, false, None as NoneWord, Some as SomeWord, IfOk};
 ghost use Rattle.rangemap_core.specs.Clones.{KeysCloneFaithfully, ValuesCloneFaithfully};
+ghost use Rattle.rangemap_core.specs.engine.Endpoints.{IsAskedAt, endpoint_of};
 ghost use Rattle.rangemap_core.specs.engine.Places.{Spans};
 ghost use Rattle.rangemap_core.specs.Ranges.{IsCanonical, IsStorable};
-ghost use Rattle.std.specs.List.Sorted.{IsPartitionPoint};
 ghost use Rattle.rangemap_core.specs.engine.Shape.{PassesUpTo, shape_of};
 ghost use Rattle.rangemap_core.specs.engine.Stretch.{are_apart, taken_or_new, IsOverlap, IsStretch, IsLeftSide, IsRightSide, IsPiece, IsTaken};
+ghost use Rattle.rangemap_sorted.specs.Sides.{IsSide};
 
 use crate::overlapping::overlap;
 use rangemap_core::key_range::KeyRange;
@@ -25,6 +26,19 @@ pub struct Side<R, V> {
     pub is_taken: bool,
 }
 
+impl<R, V> Side<R, V> {
+    // What is left where there is no pair.
+    fn none() -> Self
+        ensures piece { result.piece ≡ NoneWord }
+        ensures not_taken { result.is_taken ≡ false }
+    {
+        Side {
+            piece: None,
+            is_taken: false,
+        }
+    }
+}
+
 /// Returns the places of the pairs that overlap the new one or are to be joined with it: those that
 /// overlap it, and the pair on either side, where it touches and has an equal value.
 pub fn stretch<Q: Kind<R>, R: KeyRange, V: Eq>(
@@ -38,82 +52,73 @@ pub fn stretch<Q: Kind<R>, R: KeyRange, V: Eq>(
 {
     let met = overlap::<Q, R, V>(pairs, range);
     let start = stretch_start::<Q, R, V>(pairs, &met, range, value);
-    let end = stretch_end::<Q, R, V>(pairs, &met, range, value);
-    start..end
+    if met.end == pairs.len() {
+        return start..met.end;
+    }
+    let behind = &pairs[met.end];
+    if is_apart::<Q, R, V>(range, value, &behind.0, &behind.1) {
+        start..met.end
+    } else {
+        start..met.end + 1
+    }
 }
 
-/// Returns what an insert leaves of the first pair of its stretch.
+/// Returns what an insert leaves of the first pair of its stretch, and of the last.
 ///
 /// # Errors
 ///
 /// A clone was refused.
-pub fn left_side<Q: Kind<R>, R: KeyRange, V: Eq + Clone>(
+pub fn sides<Q: Kind<R>, R: KeyRange, V: Eq + Clone>(
     pairs: &[(R, V)],
     places: &Range<usize>,
     range: &R,
     value: &V,
-) -> Result<Side<R, V>, AllocError>
+) -> Result<(Side<R, V>, Side<R, V>), AllocError>
     requires canonical { IsCanonical Q.kind V.eq pairs.now }
     requires range { IsStorable Q.kind range.now }
     requires stretch { IsStretch (shape_of Q.kind Q.end_place V.eq) pairs.now (range.now, value.now) places.now.start places.now.end }
     requires faithful_keys { KeysCloneFaithfully R.Key.is_clone R.Key.cmp }
     requires faithful_values { ValuesCloneFaithfully V.is_clone V.eq }
-    ensures side { IfOk result (λ side. IsLeftSide (shape_of Q.kind Q.end_place V.eq) pairs.now (range.now, value.now) places.now.start places.now.end side.piece side.is_taken) }
-    ensures piece { IfOk result (λ side. IsPiece Q.kind V.eq places.now.start places.now.end side.piece) }
+    ensures left { IfOk result (λ sides. IsLeftSide (shape_of Q.kind Q.end_place V.eq) pairs.now (range.now, value.now) places.now.start places.now.end sides.0.piece sides.0.is_taken) }
+    ensures left_piece { IfOk result (λ sides. IsPiece Q.kind V.eq places.now.start places.now.end sides.0.piece) }
+    ensures right { IfOk result (λ sides. IsRightSide (shape_of Q.kind Q.end_place V.eq) pairs.now (range.now, value.now) places.now.start places.now.end sides.1.piece sides.1.is_taken) }
+    ensures right_piece { IfOk result (λ sides. IsPiece Q.kind V.eq places.now.start places.now.end sides.1.piece) }
 {
     if places.start == places.end {
-        return Ok(Side {
-            piece: None,
-            is_taken: false,
-        });
+        return Ok((Side::none(), Side::none()));
     }
     let first = &pairs[places.start];
-    if first.1 == *value {
-        return Ok(Side {
-            piece: None,
-            is_taken: Q::is_before(Endpoint::Start(&first.0), Endpoint::Start(range)),
-        });
-    }
-    Ok(Side {
-        piece: piece::<Q, R, V>(Endpoint::Start(&first.0), Endpoint::Start(range), &first.1)?,
-        is_taken: false,
-    })
+    let before = Endpoint::Start(&first.0);
+    let left = side_between::<Q, R, V>(before, Endpoint::Start(range), &first.1, value)?;
+    let last = &pairs[places.end - 1];
+    let behind = Endpoint::End(&last.0);
+    let right = side_between::<Q, R, V>(Endpoint::End(range), behind, &last.1, value)?;
+    Ok((left, right))
 }
 
-/// Returns what it leaves of the last one.
-///
-/// # Errors
-///
-/// A clone was refused.
-pub fn right_side<Q: Kind<R>, R: KeyRange, V: Eq + Clone>(
-    pairs: &[(R, V)],
-    places: &Range<usize>,
-    range: &R,
+// What is left between two endpoints of a pair that an insert meets: the piece, unless its value
+// equals the new one, which then takes the pair in.
+#[inline(always)]
+fn side_between<Q: Kind<R>, R: KeyRange, V: Eq + Clone>(
+    from: Endpoint<'_, R>,
+    to: Endpoint<'_, R>,
+    stored: &V,
     value: &V,
 ) -> Result<Side<R, V>, AllocError>
-    requires canonical { IsCanonical Q.kind V.eq pairs.now }
-    requires range { IsStorable Q.kind range.now }
-    requires stretch { IsStretch (shape_of Q.kind Q.end_place V.eq) pairs.now (range.now, value.now) places.now.start places.now.end }
+    requires from { IsAskedAt Q.kind (endpoint_of from) }
+    requires to { IsAskedAt Q.kind (endpoint_of to) }
     requires faithful_keys { KeysCloneFaithfully R.Key.is_clone R.Key.cmp }
     requires faithful_values { ValuesCloneFaithfully V.is_clone V.eq }
-    ensures side { IfOk result (λ side. IsRightSide (shape_of Q.kind Q.end_place V.eq) pairs.now (range.now, value.now) places.now.start places.now.end side.piece side.is_taken) }
-    ensures piece { IfOk result (λ side. IsPiece Q.kind V.eq places.now.start places.now.end side.piece) }
+    ensures { IfOk result (λ side. IsSide Q.kind Q.end_place V.eq (endpoint_of from.entry) (endpoint_of to.entry) stored.now value.now side.piece side.is_taken) }
 {
-    if places.start == places.end {
+    if *stored == *value {
         return Ok(Side {
             piece: None,
-            is_taken: false,
-        });
-    }
-    let last = &pairs[places.end - 1];
-    if last.1 == *value {
-        return Ok(Side {
-            piece: None,
-            is_taken: Q::is_before(Endpoint::End(range), Endpoint::End(&last.0)),
+            is_taken: Q::is_before(from, to),
         });
     }
     Ok(Side {
-        piece: piece::<Q, R, V>(Endpoint::End(range), Endpoint::End(&last.0), &last.1)?,
+        piece: piece::<Q, R, V>(from, to, stored)?,
         is_taken: false,
     })
 }
@@ -175,31 +180,6 @@ fn stretch_start<Q: Kind<R>, R: KeyRange, V: Eq>(
         met.start
     } else {
         met.start - 1
-    }
-}
-
-// Where it ends: behind the pair after those that overlap the range, if it is to be joined.
-fn stretch_end<Q: Kind<R>, R: KeyRange, V: Eq>(
-    pairs: &[(R, V)],
-    met: &Range<usize>,
-    range: &R,
-    value: &V,
-) -> usize
-    requires canonical { IsCanonical Q.kind V.eq pairs.now }
-    requires range { IsStorable Q.kind range.now }
-    requires overlap { IsOverlap (shape_of Q.kind Q.end_place V.eq) pairs.now range.now met.now.start met.now.end }
-    ensures after { met.now.end ≤ result }
-    ensures bound { result ≤ length pairs.now }
-    ensures point { IsPartitionPoint (λ b. are_apart (shape_of Q.kind Q.end_place V.eq) (range.now, value.now) b ≡ false) (λ b. are_apart (shape_of Q.kind Q.end_place V.eq) (range.now, value.now) b ≡ true) pairs.now result }
-{
-    if met.end == pairs.len() {
-        return met.end;
-    }
-    let pair = &pairs[met.end];
-    if is_apart::<Q, R, V>(range, value, &pair.0, &pair.1) {
-        met.end
-    } else {
-        met.end + 1
     }
 }
 

@@ -13,7 +13,6 @@ use rangemap_core::closed::Closed;
 use rangemap_core::half_open::HalfOpen;
 use rangemap_core::key_range::KeyRange;
 use rangemap_core::kind::Kind;
-use rangemap_core::pair_iter::PairIter;
 use rangemap_core::store::{Lends, StoreMut};
 use rangemap_sorted::SortedVec;
 use rangemap_tree::Tree;
@@ -84,7 +83,7 @@ where
 }
 
 /// Asks a set for its gaps.
-fn ask<'b, S: Lends<'b, Range: Told, Value = (), Overlapping: PairIter>>(
+fn ask<'b, S: Lends<'b, Range: Told, Value = ()>>(
     set: &'b Set<S>,
     outer: &'b S::Range,
     pieces: &[Piece],

@@ -11,27 +11,6 @@ returns-clause-ok g c =
     let stored : IsStorable g.Q.Kind.kind c.args.range = record { start_is_key = c.known_ends.ensures.start_is_key; end_is_key = c.known_ends.ensures.end_is_key; non_empty = c.requires.non_empty } in
     chunk_changed g.met.Q.Kind.placed g.met.V.Eq.laws c.args.chunks.now.items c.requires.chunked c.args.at c.requires.in_bounds c.index_mut-chunk.result.now c.change.new.self c.index_mut-chunk.ensures.value c.args.range stored c.requires.before c.args.value c.in_ok-change.ensures.ok c.requires.behind c.requires.clear
 
-pub returns-clause-filled : goal.returns-clause-filled
-returns-clause-filled g c =
-    let stored : IsStorable g.Q.Kind.kind c.args.range = record { start_is_key = c.known_ends.ensures.start_is_key; end_is_key = c.known_ends.ensures.end_is_key; non_empty = c.requires.non_empty } in
-    if_some_weaker c.args.value (Every-set _ c.args.chunks.now.items c.args.at c.change.new.self c.requires.chunked.filled) (changed_fills g.met.Q.Kind.placed g.met.V.Eq.laws (value_at g.Q.Kind.kind c.index_mut-chunk.result.now) c.args.range c.args.value c.change.new.self stored c.in_ok-change.ensures.ok)
-
-pub returns-clause-filled_before : goal.returns-clause-filled_before
-returns-clause-filled_before g c = rw (take_set c.args.chunks.now.items c.args.at c.change.new.self) (Every-take_n _ c.args.at c.args.chunks.now.items c.requires.chunked.filled)
-
-pub returns-clause-filled_behind : goal.returns-clause-filled_behind
-returns-clause-filled_behind g c = rw (add-one c.args.at, drop_set c.args.chunks.now.items c.args.at c.change.new.self, ← add-one c.args.at) (Every-drop_n _ (c.args.at + 1) c.args.chunks.now.items c.requires.chunked.filled)
-
-pub returns-clause-change : goal.returns-clause-change
-returns-clause-change g c =
-    let h = changed_length c.args.chunks.now.items c.args.at c.index_mut-chunk.result.now c.change.new.self c.requires.in_bounds c.index_mut-chunk.ensures.value in
-    omega (arith, h, c.len-before.ensures, c.len-after.ensures)
-
-pub returns-clause-some : goal.returns-clause-some
-returns-clause-some g c =
-    let h = chunk_length c.args.chunks.now.items c.args.at c.index_mut-chunk.result.now c.requires.in_bounds c.index_mut-chunk.ensures.value in
-    omega (arith, h, c.len-before.ensures)
-
 pub returns-in_err-change-clause-stays : goal.returns-in_err-change-clause-stays
 returns-in_err-change-clause-stays g c = λ out none.
     let here = ap (λ (xs : List (g.row.R.Denot × g.row.V.Denot)). overlapped g.Q.Kind.kind xs c.args.range) (c.index_mut-chunk.ensures.value ∙ get_or_default c.args.chunks.now.items c.args.at c.index_mut-chunk.result.now [] c.requires.in_bounds) ∙ none in
@@ -48,3 +27,23 @@ change-requires-clause-canonical g c =
     let k = g.Q.Kind.kind in
     let eq = g.V.PartialEq.eq in
     subst (IsCanonical k eq) (sym c.index_mut-chunk.ensures.value) (canonical_chunk k eq c.args.chunks.now.items c.requires.chunked.canonical c.args.at c.index_mut-chunk.result.now c.requires.in_bounds)
+
+pub returns-clause-filled : goal.returns-clause-filled
+returns-clause-filled g c =
+    let stored : IsStorable g.Q.Kind.kind c.args.range = record { start_is_key = c.known_ends.ensures.start_is_key; end_is_key = c.known_ends.ensures.end_is_key; non_empty = c.requires.non_empty } in
+    record {
+      all = if_some_weaker c.args.value (Every-set _ c.args.chunks.now.items c.args.at c.change.new.self c.requires.chunked.filled) (changed_fills g.met.Q.Kind.placed g.met.V.Eq.laws (value_at g.Q.Kind.kind c.index_mut-chunk.result.now) c.args.range c.args.value c.change.new.self stored c.in_ok-change.ensures.ok);
+      before = rw (take_set c.args.chunks.now.items c.args.at c.change.new.self) (Every-take_n _ c.args.at c.args.chunks.now.items c.requires.chunked.filled);
+      behind = rw (add-one c.args.at, drop_set c.args.chunks.now.items c.args.at c.change.new.self, ← add-one c.args.at) (Every-drop_n _ (c.args.at + 1) c.args.chunks.now.items c.requires.chunked.filled);
+    }
+
+pub returns-clause-counted : goal.returns-clause-counted
+returns-clause-counted g c =
+    let more = changed_length c.args.chunks.now.items c.args.at c.index_mut-chunk.result.now c.change.new.self c.requires.in_bounds c.index_mut-chunk.ensures.value in
+    let less = chunk_length c.args.chunks.now.items c.args.at c.index_mut-chunk.result.now c.requires.in_bounds c.index_mut-chunk.ensures.value in
+    record {
+      sum = omega (arith, more, c.len-before.ensures, c.len-after.ensures);
+      some = omega (arith, less, c.len-before.ensures);
+      growth = omega (arith, c.len-before.ensures, c.len-after.ensures, c.in_ok-change.ensures.growth);
+      growth_where_all_are_equal = λ equal. let one = c.in_ok-change.ensures.growth_where_all_are_equal equal in omega (arith, c.len-before.ensures, c.len-after.ensures, one);
+    }

@@ -1,5 +1,6 @@
-use Rattle.std.proofs.Common.{◌∙◌, ◌++◌, ◌∷◌, [], List, ap, append-nil, subst, sym}
-use Rattle.rangemap_core.specs.Ranges.{IsCanonical, IsCanonOf, IsNewest, IsStorable, override, value_at}
+use Rattle.std.proofs.Common.{◌∙◌, ◌++◌, ◌∷◌, [], List, Some, ap, append-nil, subst, sym}
+use Rattle.rangemap_core.specs.Ranges.{IsCanonical, IsStorable, value_at}
+use Rattle.rangemap_sorted.specs.Changes.{IsChanged}
 use Rattle.rangemap_chunked.specs.Chunks.{AreFilled, whole}
 use Rattle.rangemap_chunked.proofs.StoreLemmas.{override_fills}
 use Rattle.rangemap_chunked.proofs.changes.insert_first.Goals as goal
@@ -19,14 +20,6 @@ returns-clause-ok g c =
     let eq = g.V.PartialEq.eq in
     let one = c.change.new.self in
     let now = c.in_ok-push.ensures.items ∙ ap (λ (ps : List (List (g.row.R.Denot × g.row.V.Denot))). ps ++ one ∷ []) c.requires.none in
-    subst (λ (ps : List (List (g.row.R.Denot × g.row.V.Denot))). IsCanonOf k eq (override k (value_at k (whole c.args.chunks.now.items)) c.args.range c.args.value) (whole ps)) (sym now)
-    (subst (λ (xs : List (g.row.R.Denot × g.row.V.Denot)). IsCanonOf k eq (override k (value_at k xs) c.args.range c.args.value) (one ++ [])) (c.empty-chunk.ensures ∙ sym (ap (λ (ps : List (List (g.row.R.Denot × g.row.V.Denot))). whole ps) c.requires.none))
-    (subst (λ (ys : List (g.row.R.Denot × g.row.V.Denot)). IsCanonOf k eq (override k (value_at k c.empty-chunk.result) c.args.range c.args.value) ys) (sym (append-nil one)) c.in_ok-change.ensures.ok.canon))
-
-pub returns-clause-newest : goal.returns-clause-newest
-returns-clause-newest g c =
-    let k = g.Q.Kind.kind in
-    let one = c.change.new.self in
-    let now = c.in_ok-push.ensures.items ∙ ap (λ (ps : List (List (g.row.R.Denot × g.row.V.Denot))). ps ++ one ∷ []) c.requires.none in
-    subst (λ (ps : List (List (g.row.R.Denot × g.row.V.Denot))). IsNewest k c.args.range c.args.value (whole ps)) (sym now)
-    (subst (λ (ys : List (g.row.R.Denot × g.row.V.Denot)). IsNewest k c.args.range c.args.value ys) (sym (append-nil one)) c.in_ok-change.ensures.ok.newest)
+    subst (λ (ps : List (List (g.row.R.Denot × g.row.V.Denot))). IsChanged k eq (value_at k (whole c.args.chunks.now.items)) c.args.range (Some c.args.value) (whole ps)) (sym now)
+    (subst (λ (xs : List (g.row.R.Denot × g.row.V.Denot)). IsChanged k eq (value_at k xs) c.args.range (Some c.args.value) (one ++ [])) (c.empty-chunk.ensures ∙ sym (ap (λ (ps : List (List (g.row.R.Denot × g.row.V.Denot))). whole ps) c.requires.none))
+    (subst (λ (ys : List (g.row.R.Denot × g.row.V.Denot)). IsChanged k eq (value_at k c.empty-chunk.result) c.args.range (Some c.args.value) ys) (sym (append-nil one)) c.in_ok-change.ensures.ok))

@@ -3,7 +3,7 @@ use Rattle.std.proofs.lemmas.List.{get_or_default}
 use Rattle.std.specs.List.{AllWithin}
 use Rattle.rangemap_core.specs.Ranges.{IsCanonOf, erase, overlapped, value_at}
 use Rattle.rangemap_core.proofs.PlaceLemmas.{S, places}
-use Rattle.rangemap_chunked.specs.Chunks.{chunk_by, whole}
+use Rattle.rangemap_chunked.specs.Chunks.{IsCounted, chunk_by, whole}
 use Rattle.rangemap_chunked.proofs.StoreLemmas.{none_in_chunk}
 use Rattle.rangemap_chunked.proofs.TouchLemmas.{below_by}
 use Rattle.rangemap_chunked.proofs.changes.remove_from.Goals as goal
@@ -30,34 +30,32 @@ returns-clause-meets_nothing g c = λ none.
     let here = none_in_chunk (λ (pair : g.row.R.Denot × g.row.V.Denot). g.Q.Kind.kind.meets c.args.range pair.0) xs at (get_or xs at []) l (get_or_default xs at [] (get_or xs at []) l) none in
     (refl, c.settle.ensures.whole ∙ ap (λ (ps : List (List (g.row.R.Denot × g.row.V.Denot))). whole ps) (c.in_ok-change.ensures.stays refl alone here).1)
 
-pub change_from-requires-clause-begun : goal.change_from-requires-clause-begun
-change_from-requires-clause-begun g c =
-    subst (λ (ps : List (List (g.row.R.Denot × g.row.V.Denot))). AllWithin (λ (chunk : List (g.row.R.Denot × g.row.V.Denot)). chunk_by (S g.met.Q.Kind.placed g.V.PartialEq.eq) (g.Q.Kind.end_place c.args.range) chunk ≡ true) ps 0 c.end_overlapped-end.result) c.deref-2.ensures.value
-    (λ k d l m. below_by (S g.met.Q.Kind.placed g.V.PartialEq.eq) (places g.met.Q.Kind.placed g.V.PartialEq.eq) (g.Q.Kind.end_place c.args.range) (get_or c.deref-2.result.now k d) (c.end_overlapped-end.ensures.begun k d l m))
+pub change_over-requires-clause-begun : goal.change_over-requires-clause-begun
+change_over-requires-clause-begun g c = λ more.
+    subst (λ (ps : List (List (g.row.R.Denot × g.row.V.Denot))). AllWithin (λ (chunk : List (g.row.R.Denot × g.row.V.Denot)). chunk_by (S g.met.Q.Kind.placed g.V.PartialEq.eq) (g.Q.Kind.end_place c.args.range) chunk ≡ true) ps 0 c.end_from-end.result) c.deref-2.ensures.value
+    (λ k d l m. below_by (S g.met.Q.Kind.placed g.V.PartialEq.eq) (places g.met.Q.Kind.placed g.V.PartialEq.eq) (g.Q.Kind.end_place c.args.range) (get_or c.deref-2.result.now k d) (c.end_from-end.ensures.begun more k d l m))
 
 pub settle-requires-clause-before : goal.settle-requires-clause-before
-settle-requires-clause-before g c = c.in_ok-change.ensures.filled_before
+settle-requires-clause-before g c = c.in_ok-change.ensures.filled.before
 
 pub settle-requires-clause-behind : goal.settle-requires-clause-behind
-settle-requires-clause-behind g c = c.in_ok-change.ensures.filled_behind
-
-pub returns-clause-change : goal.returns-clause-change
-returns-clause-change g c =
-    let after = ap (λ (xs : List (g.row.R.Denot × g.row.V.Denot)). length xs) c.settle.ensures.whole in
-    omega (arith, after, c.in_ok-change.ensures.change)
+settle-requires-clause-behind g c = c.in_ok-change.ensures.filled.behind
 
 pub returns-clause-fits : goal.returns-clause-fits
 returns-clause-fits g c =
     let after = ap (λ (xs : List (g.row.R.Denot × g.row.V.Denot)). length xs) c.settle.ensures.whole in
     elim (c.is_refused.ensures.allowed c.if-is_refused.false) [
-      | inl less ↦ omega (arith, less, after, c.in_ok-change.ensures.change, c.in_ok-change.ensures.growth, c.in_ok-change.ensures.some, c.requires.len)
+      | inl less ↦ omega (arith, less, after, c.in_ok-change.ensures.counted.sum, c.in_ok-change.ensures.counted.growth, c.in_ok-change.ensures.counted.some, c.requires.chunked.1)
       | inr t ↦
           let here = subst (λ (ps : List (List (g.row.R.Denot × g.row.V.Denot))). overlapped g.Q.Kind.kind (get_or ps c.start_of-at.result []) c.args.range ≡ []) c.deref-3.ensures.value t.1 in
           let same = ap (λ (ps : List (List (g.row.R.Denot × g.row.V.Denot))). length (whole ps)) (c.in_ok-change.ensures.stays refl t.0 here).1 in
-          omega (arith, after, same, c.requires.len, c.ranges.len.fits)
+          omega (arith, after, same, c.requires.chunked.1, c.ranges.len.fits)
     ]
 
 pub returns-clause-ok : goal.returns-clause-ok
 returns-clause-ok g c =
     let k = g.Q.Kind.kind in
     subst (λ (xs : List (g.row.R.Denot × g.row.V.Denot)). IsCanonOf k g.V.PartialEq.eq (erase k (value_at k (whole c.args.chunks.now.items)) c.args.range) xs) (sym c.settle.ensures.whole) c.in_ok-change.ensures.ok.canon
+
+pub returns-clause-counted : goal.returns-clause-counted
+returns-clause-counted g c = subst (λ (xs : List (g.row.R.Denot × g.row.V.Denot)). IsCounted g.V.PartialEq.eq 1 (whole c.args.chunks.now.items) xs c.in_ok-change.change.before c.in_ok-change.change.after) (sym c.settle.ensures.whole) c.in_ok-change.ensures.counted

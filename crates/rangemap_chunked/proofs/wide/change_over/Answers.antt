@@ -1,27 +1,29 @@
-use Rattle.std.proofs.Common.{arith, ◌≡◌, ◌∙◌, ◌+◌, ◌-◌, ◌<◌, ◌++◌, [], List, ap, drop, get_or, length, refl, subst, suc, sym, take}
+use Rattle.std.proofs.Common.{arith, ◌≡◌, ◌∙◌, ◌+◌, ◌-◌, ◌<◌, ◌++◌, [], List, Less, Some, ap, drop, false, get_or, is_gt, length, refl, subst, suc, sym, take}
 use Rattle.std.specs.Option.{IfSome}
 use Rattle.std.proofs.Math.ListN.{set}
 use Rattle.std.proofs.lemmas.List.{get_or_default}
 use Rattle.rangemap_core.specs.Ranges.{IsCanonical, IsStorable, value_at}
+use Rattle.rangemap_core.specs.engine.Places.{place_cmp}
 use Rattle.rangemap_core.proofs.PlaceLemmas.{S}
 use Rattle.rangemap_core.proofs.SearchLemmas.{Every-at}
 use Rattle.rangemap_sorted.specs.Changes.{IsChanged}
-use Rattle.rangemap_chunked.specs.Chunks.{AreFilled, IsClearBehind, IsLastTouched, IsPastBehind, whole}
+use Rattle.rangemap_chunked.specs.Chunks.{AreFilled, AreFilledBut, IsClearBehind, IsLastTouched, IsPastBehind, whole}
+use Rattle.rangemap_chunked.proofs.ChunkLemmas.{Every-further}
 use Rattle.rangemap_chunked.proofs.CutLemmas.{canonical_chunk}
-use Rattle.rangemap_chunked.proofs.OverLemmas.{all_filled, changed_behind, changed_whole, count_less, count_more, kept_front, over_canonical, over_changed, set_length, sums}
+use Rattle.rangemap_chunked.proofs.OverLemmas.{all_filled, changed_behind, changed_whole, count_less, count_more, kept_front, over_canonical, over_changed, set_length, still_filled, sums}
 use Rattle.rangemap_chunked.proofs.StoreLemmas.{Every-drop_n, Every-take_n, changed_fills, if_some_weaker}
 use Rattle.rangemap_chunked.proofs.wide.change_over.Goals as goal
 
 pub last_touched-place-requires-clause-filled : goal.last_touched-place-requires-clause-filled
 last_touched-place-requires-clause-filled g c =
     let xs = c.args.chunks.now.items in
-    subst (λ (ys : List (g.row.R.Denot × g.row.V.Denot)). 0 < length ys) (sym c.index.ensures) (Every-at (λ (ys : List (g.row.R.Denot × g.row.V.Denot)). 0 < length ys) xs c.requires.chunked.filled (c.args.end - 1) c.index.result.now (omega (arith, c.requires.several, c.requires.end)))
+    subst (λ (ys : List (g.row.R.Denot × g.row.V.Denot)). 0 < length ys) (sym c.index.ensures) (Every-at (λ (ys : List (g.row.R.Denot × g.row.V.Denot)). 0 < length ys) xs c.requires.chunked.filled (c.args.end - 1) c.index.result.now (omega (arith, c.if-end-at.false, c.requires.end)))
 
 pub last_touched-place-requires-clause-canonical : goal.last_touched-place-requires-clause-canonical
 last_touched-place-requires-clause-canonical g c =
     let k = g.Q.Kind.kind in
     let eq = g.V.PartialEq.eq in
-    subst (IsCanonical k eq) (sym c.index.ensures) (canonical_chunk k eq c.args.chunks.now.items c.requires.chunked.canonical (c.args.end - 1) c.index.result.now (omega (arith, c.requires.several, c.requires.end)))
+    subst (IsCanonical k eq) (sym c.index.ensures) (canonical_chunk k eq c.args.chunks.now.items c.requires.chunked.canonical (c.args.end - 1) c.index.result.now (omega (arith, c.if-end-at.false, c.requires.end)))
 
 pub count-requires : goal.count-requires
 count-requires g c =
@@ -29,8 +31,8 @@ count-requires g c =
     let at = c.args.at in
     let last = c.args.end - 1 in
     let place = c.last_touched-place.result in
-    let order : at < last = omega (arith, c.requires.several) in
-    let l : last < length xs = omega (arith, c.requires.several, c.requires.end) in
+    let order : at < last = omega (arith, c.if-end-at.false) in
+    let l : last < length xs = omega (arith, c.if-end-at.false, c.requires.end) in
     let found : IsLastTouched (S g.met.Q.Kind.placed g.V.PartialEq.eq) c.args.range (get_or xs last []) place = subst (λ (ys : List (g.row.R.Denot × g.row.V.Denot)). IsLastTouched (S g.met.Q.Kind.placed g.V.PartialEq.eq) c.args.range ys place) (c.index.ensures ∙ get_or_default xs last c.index.result.now [] l) c.last_touched-place.ensures in
     let less = count_less xs at last order l place found.in_bounds _ refl in
     let same = ap (λ (ps : List (List (g.row.R.Denot × g.row.V.Denot))). length (whole (take (last - at) (drop at ps)))) c.deref.ensures.value in
@@ -42,8 +44,8 @@ overflow_add-before g c =
     let at = c.args.at in
     let last = c.args.end - 1 in
     let place = c.last_touched-place.result in
-    let order : at < last = omega (arith, c.requires.several) in
-    let l : last < length xs = omega (arith, c.requires.several, c.requires.end) in
+    let order : at < last = omega (arith, c.if-end-at.false) in
+    let l : last < length xs = omega (arith, c.if-end-at.false, c.requires.end) in
     let found : IsLastTouched (S g.met.Q.Kind.placed g.V.PartialEq.eq) c.args.range (get_or xs last []) place = subst (λ (ys : List (g.row.R.Denot × g.row.V.Denot)). IsLastTouched (S g.met.Q.Kind.placed g.V.PartialEq.eq) c.args.range ys place) (c.index.ensures ∙ get_or_default xs last c.index.result.now [] l) c.last_touched-place.ensures in
     let n_is : c.count.result ≡ length (whole (take (last - at) (drop at xs))) = c.count.ensures ∙ ap (λ (ps : List (List (g.row.R.Denot × g.row.V.Denot))). length (whole (take (last - at) (drop at ps)))) c.deref.ensures.value in
     let less = count_less xs at last order l place found.in_bounds c.count.result n_is in
@@ -55,8 +57,8 @@ overflow_add-before-2 g c =
     let at = c.args.at in
     let last = c.args.end - 1 in
     let place = c.last_touched-place.result in
-    let order : at < last = omega (arith, c.requires.several) in
-    let l : last < length xs = omega (arith, c.requires.several, c.requires.end) in
+    let order : at < last = omega (arith, c.if-end-at.false) in
+    let l : last < length xs = omega (arith, c.if-end-at.false, c.requires.end) in
     let found : IsLastTouched (S g.met.Q.Kind.placed g.V.PartialEq.eq) c.args.range (get_or xs last []) place = subst (λ (ys : List (g.row.R.Denot × g.row.V.Denot)). IsLastTouched (S g.met.Q.Kind.placed g.V.PartialEq.eq) c.args.range ys place) (c.index.ensures ∙ get_or_default xs last c.index.result.now [] l) c.last_touched-place.ensures in
     let n_is : c.count.result ≡ length (whole (take (last - at) (drop at xs))) = c.count.ensures ∙ ap (λ (ps : List (List (g.row.R.Denot × g.row.V.Denot))). length (whole (take (last - at) (drop at ps)))) c.deref.ensures.value in
     let less = count_less xs at last order l place found.in_bounds c.count.result n_is in
@@ -68,8 +70,8 @@ change_between-requires-clause-canonical g c =
     let at = c.args.at in
     let last = c.args.end - 1 in
     let place = c.last_touched-place.result in
-    let order : at < last = omega (arith, c.requires.several) in
-    let l : last < length xs = omega (arith, c.requires.several, c.requires.end) in
+    let order : at < last = omega (arith, c.if-end-at.false) in
+    let l : last < length xs = omega (arith, c.if-end-at.false, c.requires.end) in
     let found : IsLastTouched (S g.met.Q.Kind.placed g.V.PartialEq.eq) c.args.range (get_or xs last []) place = subst (λ (ys : List (g.row.R.Denot × g.row.V.Denot)). IsLastTouched (S g.met.Q.Kind.placed g.V.PartialEq.eq) c.args.range ys place) (c.index.ensures ∙ get_or_default xs last c.index.result.now [] l) c.last_touched-place.ensures in
     let stored : IsStorable g.Q.Kind.kind c.args.range = record { start_is_key = c.known_ends.ensures.start_is_key; end_is_key = c.known_ends.ensures.end_is_key; non_empty = c.requires.non_empty } in
     over_canonical g.met.Q.Kind.placed g.met.V.Eq.laws xs c.requires.chunked c.args.range stored at last order l place found c.requires.past
@@ -80,8 +82,8 @@ give_back_at-requires g c =
     let at = c.args.at in
     let last = c.args.end - 1 in
     let place = c.last_touched-place.result in
-    let order : at < last = omega (arith, c.requires.several) in
-    let l : last < length xs = omega (arith, c.requires.several, c.requires.end) in
+    let order : at < last = omega (arith, c.if-end-at.false) in
+    let l : last < length xs = omega (arith, c.if-end-at.false, c.requires.end) in
     let found : IsLastTouched (S g.met.Q.Kind.placed g.V.PartialEq.eq) c.args.range (get_or xs last []) place = subst (λ (ys : List (g.row.R.Denot × g.row.V.Denot)). IsLastTouched (S g.met.Q.Kind.placed g.V.PartialEq.eq) c.args.range ys place) (c.index.ensures ∙ get_or_default xs last c.index.result.now [] l) c.last_touched-place.ensures in
     let new = get_or c.change_between.new.chunks.items at [] in
     let rest = drop (place + 1) (get_or xs last []) in
@@ -94,8 +96,8 @@ drop_between-requires-clause-in_bounds g c =
     let at = c.args.at in
     let last = c.args.end - 1 in
     let place = c.last_touched-place.result in
-    let order : at < last = omega (arith, c.requires.several) in
-    let l : last < length xs = omega (arith, c.requires.several, c.requires.end) in
+    let order : at < last = omega (arith, c.if-end-at.false) in
+    let l : last < length xs = omega (arith, c.if-end-at.false, c.requires.end) in
     let found : IsLastTouched (S g.met.Q.Kind.placed g.V.PartialEq.eq) c.args.range (get_or xs last []) place = subst (λ (ys : List (g.row.R.Denot × g.row.V.Denot)). IsLastTouched (S g.met.Q.Kind.placed g.V.PartialEq.eq) c.args.range ys place) (c.index.ensures ∙ get_or_default xs last c.index.result.now [] l) c.last_touched-place.ensures in
     let new = get_or c.change_between.new.chunks.items at [] in
     let rest = drop (place + 1) (get_or xs last []) in
@@ -109,11 +111,11 @@ returns-clause-ok g c =
     let at = c.args.at in
     let last = c.args.end - 1 in
     let place = c.last_touched-place.result in
-    let order : at < last = omega (arith, c.requires.several) in
-    let l : last < length xs = omega (arith, c.requires.several, c.requires.end) in
+    let order : at < last = omega (arith, c.if-end-at.false) in
+    let l : last < length xs = omega (arith, c.if-end-at.false, c.requires.end) in
     let found : IsLastTouched (S g.met.Q.Kind.placed g.V.PartialEq.eq) c.args.range (get_or xs last []) place = subst (λ (ys : List (g.row.R.Denot × g.row.V.Denot)). IsLastTouched (S g.met.Q.Kind.placed g.V.PartialEq.eq) c.args.range ys place) (c.index.ensures ∙ get_or_default xs last c.index.result.now [] l) c.last_touched-place.ensures in
     let stored : IsStorable g.Q.Kind.kind c.args.range = record { start_is_key = c.known_ends.ensures.start_is_key; end_is_key = c.known_ends.ensures.end_is_key; non_empty = c.requires.non_empty } in
-    let next : c.args.end ≡ suc last = omega (arith, c.requires.several) in
+    let next : c.args.end ≡ suc last = omega (arith, c.if-end-at.false) in
     let new = get_or c.change_between.new.chunks.items at [] in
     let rest = drop (place + 1) (get_or xs last []) in
     let items_is = c.give_back_at.ensures ∙ c.in_ok-change_between.ensures.items in
@@ -131,8 +133,8 @@ returns-clause-filled g c =
     let at = c.args.at in
     let last = c.args.end - 1 in
     let place = c.last_touched-place.result in
-    let order : at < last = omega (arith, c.requires.several) in
-    let l : last < length xs = omega (arith, c.requires.several, c.requires.end) in
+    let order : at < last = omega (arith, c.if-end-at.false) in
+    let l : last < length xs = omega (arith, c.if-end-at.false, c.requires.end) in
     let found : IsLastTouched (S g.met.Q.Kind.placed g.V.PartialEq.eq) c.args.range (get_or xs last []) place = subst (λ (ys : List (g.row.R.Denot × g.row.V.Denot)). IsLastTouched (S g.met.Q.Kind.placed g.V.PartialEq.eq) c.args.range ys place) (c.index.ensures ∙ get_or_default xs last c.index.result.now [] l) c.last_touched-place.ensures in
     let stored : IsStorable g.Q.Kind.kind c.args.range = record { start_is_key = c.known_ends.ensures.start_is_key; end_is_key = c.known_ends.ensures.end_is_key; non_empty = c.requires.non_empty } in
     let new = get_or c.change_between.new.chunks.items at [] in
@@ -141,46 +143,20 @@ returns-clause-filled g c =
     let behind = c.drop_between.ensures.filled (subst AreFilled (sym (ap (drop (last + 1)) items_is ∙ changed_behind xs at last order l new rest)) (Every-drop_n _ (suc last) xs c.requires.chunked.filled)) in
     let front_is = c.drop_between.ensures.before ∙ ap (take (at + 1)) items_is in
     let fills = changed_fills g.met.Q.Kind.placed g.met.V.Eq.laws (value_at g.Q.Kind.kind (get_or xs at [] ++ take 1 (drop place (get_or xs last [])))) c.args.range c.args.value new stored c.in_ok-change_between.ensures.ok in
-    if_some_weaker c.args.value (all_filled xs at last order l new rest c.drop_between.new.chunks.items front_is c.requires.chunked.filled behind) fills
+    record {
+      all = if_some_weaker c.args.value (all_filled xs at last order l new rest c.drop_between.new.chunks.items front_is c.requires.chunked.filled behind) fills;
+      before = subst AreFilled (sym (kept_front xs at last order l new rest c.drop_between.new.chunks.items front_is)) (Every-take_n _ at xs c.requires.chunked.filled);
+      behind = behind;
+    }
 
-pub returns-clause-filled_before : goal.returns-clause-filled_before
-returns-clause-filled_before g c =
+pub returns-clause-counted : goal.returns-clause-counted
+returns-clause-counted g c =
     let xs = c.args.chunks.now.items in
     let at = c.args.at in
     let last = c.args.end - 1 in
     let place = c.last_touched-place.result in
-    let order : at < last = omega (arith, c.requires.several) in
-    let l : last < length xs = omega (arith, c.requires.several, c.requires.end) in
-    let found : IsLastTouched (S g.met.Q.Kind.placed g.V.PartialEq.eq) c.args.range (get_or xs last []) place = subst (λ (ys : List (g.row.R.Denot × g.row.V.Denot)). IsLastTouched (S g.met.Q.Kind.placed g.V.PartialEq.eq) c.args.range ys place) (c.index.ensures ∙ get_or_default xs last c.index.result.now [] l) c.last_touched-place.ensures in
-    let new = get_or c.change_between.new.chunks.items at [] in
-    let rest = drop (place + 1) (get_or xs last []) in
-    let items_is = c.give_back_at.ensures ∙ c.in_ok-change_between.ensures.items in
-    let front_is = c.drop_between.ensures.before ∙ ap (take (at + 1)) items_is in
-    subst AreFilled (sym (kept_front xs at last order l new rest c.drop_between.new.chunks.items front_is)) (Every-take_n _ at xs c.requires.chunked.filled)
-
-pub returns-clause-filled_behind : goal.returns-clause-filled_behind
-returns-clause-filled_behind g c =
-    let xs = c.args.chunks.now.items in
-    let at = c.args.at in
-    let last = c.args.end - 1 in
-    let place = c.last_touched-place.result in
-    let order : at < last = omega (arith, c.requires.several) in
-    let l : last < length xs = omega (arith, c.requires.several, c.requires.end) in
-    let found : IsLastTouched (S g.met.Q.Kind.placed g.V.PartialEq.eq) c.args.range (get_or xs last []) place = subst (λ (ys : List (g.row.R.Denot × g.row.V.Denot)). IsLastTouched (S g.met.Q.Kind.placed g.V.PartialEq.eq) c.args.range ys place) (c.index.ensures ∙ get_or_default xs last c.index.result.now [] l) c.last_touched-place.ensures in
-    let new = get_or c.change_between.new.chunks.items at [] in
-    let rest = drop (place + 1) (get_or xs last []) in
-    let items_is = c.give_back_at.ensures ∙ c.in_ok-change_between.ensures.items in
-    let behind = c.drop_between.ensures.filled (subst AreFilled (sym (ap (drop (last + 1)) items_is ∙ changed_behind xs at last order l new rest)) (Every-drop_n _ (suc last) xs c.requires.chunked.filled)) in
-    behind
-
-pub returns-clause-change : goal.returns-clause-change
-returns-clause-change g c =
-    let xs = c.args.chunks.now.items in
-    let at = c.args.at in
-    let last = c.args.end - 1 in
-    let place = c.last_touched-place.result in
-    let order : at < last = omega (arith, c.requires.several) in
-    let l : last < length xs = omega (arith, c.requires.several, c.requires.end) in
+    let order : at < last = omega (arith, c.if-end-at.false) in
+    let l : last < length xs = omega (arith, c.if-end-at.false, c.requires.end) in
     let found : IsLastTouched (S g.met.Q.Kind.placed g.V.PartialEq.eq) c.args.range (get_or xs last []) place = subst (λ (ys : List (g.row.R.Denot × g.row.V.Denot)). IsLastTouched (S g.met.Q.Kind.placed g.V.PartialEq.eq) c.args.range ys place) (c.index.ensures ∙ get_or_default xs last c.index.result.now [] l) c.last_touched-place.ensures in
     let n_is : c.count.result ≡ length (whole (take (last - at) (drop at xs))) = c.count.ensures ∙ ap (λ (ps : List (List (g.row.R.Denot × g.row.V.Denot))). length (whole (take (last - at) (drop at ps)))) c.deref.ensures.value in
     let new = get_or c.change_between.new.chunks.items at [] in
@@ -191,50 +167,31 @@ returns-clause-change g c =
     let made = c.change_between.new.chunks.items in
     let long : length made ≡ length xs = ap length c.in_ok-change_between.ensures.items ∙ set_length (set xs at (get_or made at [])) last (drop (place + 1) (get_or xs last [])) ∙ set_length xs at (get_or made at []) in
     let after : c.len-after.result ≡ length (get_or made at []) = c.len-after.ensures ∙ ap (λ (ps : List (g.row.R.Denot × g.row.V.Denot)). length ps) (c.index-2.ensures ∙ get_or_default made at c.index-2.result.now [] (omega (arith, long, order, l))) in
-    omega (arith, sum, after)
-
-pub returns-clause-some : goal.returns-clause-some
-returns-clause-some g c =
-    let xs = c.args.chunks.now.items in
-    let at = c.args.at in
-    let last = c.args.end - 1 in
-    let place = c.last_touched-place.result in
-    let order : at < last = omega (arith, c.requires.several) in
-    let l : last < length xs = omega (arith, c.requires.several, c.requires.end) in
-    let found : IsLastTouched (S g.met.Q.Kind.placed g.V.PartialEq.eq) c.args.range (get_or xs last []) place = subst (λ (ys : List (g.row.R.Denot × g.row.V.Denot)). IsLastTouched (S g.met.Q.Kind.placed g.V.PartialEq.eq) c.args.range ys place) (c.index.ensures ∙ get_or_default xs last c.index.result.now [] l) c.last_touched-place.ensures in
-    let n_is : c.count.result ≡ length (whole (take (last - at) (drop at xs))) = c.count.ensures ∙ ap (λ (ps : List (List (g.row.R.Denot × g.row.V.Denot))). length (whole (take (last - at) (drop at ps)))) c.deref.ensures.value in
     let less = count_less xs at last order l place found.in_bounds c.count.result n_is in
-    omega (arith, less)
-
-pub returns-clause-growth : goal.returns-clause-growth
-returns-clause-growth g c =
-    let xs = c.args.chunks.now.items in
-    let at = c.args.at in
-    let last = c.args.end - 1 in
-    let place = c.last_touched-place.result in
-    let order : at < last = omega (arith, c.requires.several) in
-    let l : last < length xs = omega (arith, c.requires.several, c.requires.end) in
-    let found : IsLastTouched (S g.met.Q.Kind.placed g.V.PartialEq.eq) c.args.range (get_or xs last []) place = subst (λ (ys : List (g.row.R.Denot × g.row.V.Denot)). IsLastTouched (S g.met.Q.Kind.placed g.V.PartialEq.eq) c.args.range ys place) (c.index.ensures ∙ get_or_default xs last c.index.result.now [] l) c.last_touched-place.ensures in
-    let n_is : c.count.result ≡ length (whole (take (last - at) (drop at xs))) = c.count.ensures ∙ ap (λ (ps : List (List (g.row.R.Denot × g.row.V.Denot))). length (whole (take (last - at) (drop at ps)))) c.deref.ensures.value in
     let more = count_more xs at last order l place found.in_bounds c.count.result n_is in
-    let made = c.change_between.new.chunks.items in
-    let long : length made ≡ length xs = ap length c.in_ok-change_between.ensures.items ∙ set_length (set xs at (get_or made at [])) last (drop (place + 1) (get_or xs last [])) ∙ set_length xs at (get_or made at []) in
-    let after : c.len-after.result ≡ length (get_or made at []) = c.len-after.ensures ∙ ap (λ (ps : List (g.row.R.Denot × g.row.V.Denot)). length ps) (c.index-2.ensures ∙ get_or_default made at c.index-2.result.now [] (omega (arith, long, order, l))) in
-    omega (arith, more, after, c.in_ok-change_between.ensures.growth)
+    record {
+      sum = omega (arith, sum, after);
+      some = omega (arith, less);
+      growth = omega (arith, more, after, c.in_ok-change_between.ensures.growth);
+      growth_where_all_are_equal = λ equal. let less = c.in_ok-change_between.ensures.growth_where_all_are_equal equal in omega (arith, more, after, less);
+    }
 
-pub returns-clause-growth_where_all_are_equal : goal.returns-clause-growth_where_all_are_equal
-returns-clause-growth_where_all_are_equal g c = λ equal.
-    let xs = c.args.chunks.now.items in
-    let at = c.args.at in
-    let last = c.args.end - 1 in
-    let place = c.last_touched-place.result in
-    let order : at < last = omega (arith, c.requires.several) in
-    let l : last < length xs = omega (arith, c.requires.several, c.requires.end) in
-    let found : IsLastTouched (S g.met.Q.Kind.placed g.V.PartialEq.eq) c.args.range (get_or xs last []) place = subst (λ (ys : List (g.row.R.Denot × g.row.V.Denot)). IsLastTouched (S g.met.Q.Kind.placed g.V.PartialEq.eq) c.args.range ys place) (c.index.ensures ∙ get_or_default xs last c.index.result.now [] l) c.last_touched-place.ensures in
-    let n_is : c.count.result ≡ length (whole (take (last - at) (drop at xs))) = c.count.ensures ∙ ap (λ (ps : List (List (g.row.R.Denot × g.row.V.Denot))). length (whole (take (last - at) (drop at ps)))) c.deref.ensures.value in
-    let more = count_more xs at last order l place found.in_bounds c.count.result n_is in
-    let made = c.change_between.new.chunks.items in
-    let long : length made ≡ length xs = ap length c.in_ok-change_between.ensures.items ∙ set_length (set xs at (get_or made at [])) last (drop (place + 1) (get_or xs last [])) ∙ set_length xs at (get_or made at []) in
-    let after : c.len-after.result ≡ length (get_or made at []) = c.len-after.ensures ∙ ap (λ (ps : List (g.row.R.Denot × g.row.V.Denot)). length ps) (c.index-2.ensures ∙ get_or_default made at c.index-2.result.now [] (omega (arith, long, order, l))) in
-    let less = c.in_ok-change_between.ensures.growth_where_all_are_equal equal in
-    omega (arith, more, after, less)
+pub returns-in_err-change_between-clause-filled : goal.returns-in_err-change_between-clause-filled
+returns-in_err-change_between-clause-filled g c =
+    subst (λ (ps : List (List (g.row.R.Denot × g.row.V.Denot))). AreFilledBut c.args.value c.args.at ps) (sym c.in_err-change_between.ensures.err) (still_filled c.args.value c.args.at c.args.chunks.now.items c.requires.chunked.filled)
+
+pub change_at-requires-clause-behind : goal.change_at-requires-clause-behind
+change_at-requires-clause-behind g c =
+    let k = g.Q.Kind.kind in
+    Every-further (λ (b : g.row.R.Denot × g.row.V.Denot). is_gt (place_cmp k.cmp (g.Q.Kind.end_place c.args.range) (Some (k.start b.0))) ≡ false) c.args.chunks.now.items c.args.end (c.args.at + 1) (omega (arith, c.if-end-at.true)) c.requires.behind
+
+pub change_at-requires-clause-clear : goal.change_at-requires-clause-clear
+change_at-requires-clause-clear g c =
+    let k = g.Q.Kind.kind in
+    if_some_weaker c.args.value (Every-further (λ (b : g.row.R.Denot × g.row.V.Denot). place_cmp k.cmp (g.Q.Kind.end_place c.args.range) (Some (k.start b.0)) ≡ Less) c.args.chunks.now.items c.args.end (c.args.at + 1) (omega (arith, c.if-end-at.true))) c.requires.clear
+
+pub returns-clause-stays : goal.returns-clause-stays
+returns-clause-stays g c = λ out alone none. absurd (omega (arith, c.if-end-at.false, alone))
+
+pub returns-in_err-change_between-clause-stays : goal.returns-in_err-change_between-clause-stays
+returns-in_err-change_between-clause-stays g c = λ out alone none. absurd (omega (arith, c.if-end-at.false, alone))

@@ -9,7 +9,7 @@ abbrev pub invariant-pairs : goal.invariant-pairs
 invariant-pairs g l =
     let took = g.W.Write.write_str_gives in
     let text = g.T.PairText.text in
-    (h : _) → IsPlainFormatter l.fn.f → (IsPlainFormatter l.f → Shows took l.f (others_text text (g.I.LentPairs.left l.rest)) h) → Shows took l.fn.f (others_text text (g.I.LentPairs.left l.fn.pairs)) h
+    (h : _) → IsPlainFormatter l.fn.f → (IsPlainFormatter l.f → Shows took l.f (others_text text (g.C.Cursor.left l.rest)) h) → Shows took l.fn.f (others_text text (g.C.Cursor.left l.fn.pairs)) h
 
 abbrev pub decreases-pairs : goal.decreases-pairs
-decreases-pairs g l = length (g.I.LentPairs.left l.rest)
+decreases-pairs g l = length (g.C.Cursor.left l.rest)

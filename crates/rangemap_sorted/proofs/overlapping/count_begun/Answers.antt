@@ -1,4 +1,4 @@
-use Rattle.std.proofs.Common.{arith, rules, ◌≡◌, ◌∙◌, ◌<◌, get_or, length, sym, false}
+use Rattle.std.proofs.Common.{arith, rules, ◌≡◌, ◌<◌, get_or, length, false}
 use Rattle.std.proofs.lemmas.Fn.{always_returns_same}
 use Rattle.std.proofs.lemmas.List.{get_or_default}
 use Rattle.rangemap_core.proofs.PartitionLemmas.{fails_from}

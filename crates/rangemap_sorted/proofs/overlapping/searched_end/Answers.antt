@@ -6,11 +6,16 @@ use Rattle.rangemap_core.proofs.PartitionLemmas.{one_look}
 use Rattle.rangemap_core.proofs.PlaceLemmas.{S}
 use Rattle.rangemap_sorted.proofs.overlapping.searched_end.Goals as goal
 
-pub returns-then-near-eq0-clause-later : goal.returns-then-near-eq0-clause-later
-returns-then-near-eq0-clause-later g c =
+pub returns-then-near-eq0 : goal.returns-then-near-eq0
+returns-then-near-eq0 g c =
     let near = c.starts_up_to-near in
     let behind = not_begun_behind g.met.Q.Kind.placed g.V.PartialEq.eq c.args.query.now c.known_ends.ensures c.args.pairs.now near.result c.requires.canonical (rw (← (c.end.ensures ∙ g.met.Q.Kind.reads.end c.args.query.now)) near.ensures.point) in
-    λ i d l m. behind i d (omega (arith, c.if-near-eq0.true)) m
+    record {
+      start_le_end = omega arith;
+      in_bounds = c.requires.in_bounds;
+      begun = λ i d l m. absurd (omega (arith, l, m));
+      later = λ i d l m. behind i d (omega (arith, c.if-near-eq0.true)) m;
+    }
 
 pub returns : goal.returns
 returns g c =
@@ -25,8 +30,8 @@ returns g c =
     (λ h. let yes : c.is_before-begins.result ≡ true = c.is_before-begins.ensures ∙ h in let one : c.from.result ≡ 0 = rw yes at c.from.ensures in omega arith)
     (λ h. let no : c.is_before-begins.result ≡ false = c.is_before-begins.ensures ∙ h in let one : c.from.result ≡ 1 = rw no at c.from.ensures in omega arith) in
     record {
-      start = omega arith;
-      bound = omega (arith, found.0, c.requires.in_bounds);
+      start_le_end = omega arith;
+      in_bounds = omega (arith, found.0, c.requires.in_bounds);
       begun = λ i d l m. found.1.0 i d (omega arith) (omega (arith, l, m));
       later = λ i d l m. found.1.1 i d (omega (arith, l)) m;
     }

@@ -1,14 +1,12 @@
-use Rattle.rangemap.proofs.MapLemmas.{canonical, found_non_empty, shown_last}
+use Rattle.std.proofs.Common.{◌∙◌}
+use Rattle.rangemap.proofs.MapLemmas.{canonical, lent_non_empty, range_shown, shown_last}
 use Rattle.rangemap.proofs.range_set.Set.last.Goals as goal
 
-pub returns-in-Some-clause-canonical : goal.returns-in-Some-clause-canonical
-returns-in-Some-clause-canonical g c = canonical g.S.Kind.Kind.kind _ _ c.self.view_is c.known.ensures
+pub returns-clause-found : goal.returns-clause-found
+returns-clause-found g c = c.range_of.ensures ∙ range_shown c.last.result ∙ shown_last g.S.Kind.Kind.kind _ _ c.self.view_is _ c.last.ensures
 
-pub returns-in-None-clause-found : goal.returns-in-None-clause-found
-returns-in-None-clause-found g c = shown_last g.S.Kind.Kind.kind _ _ c.self.view_is _ c.in-None.ensures
+pub returns-clause-canonical : goal.returns-clause-canonical
+returns-clause-canonical g c = canonical g.S.Kind.Kind.kind _ _ c.self.view_is c.known.ensures
 
-pub returns-in-None-clause-canonical : goal.returns-in-None-clause-canonical
-returns-in-None-clause-canonical g c = canonical g.S.Kind.Kind.kind _ _ c.self.view_is c.known.ensures
-
-pub returns-in-Some-clause-non_empty : goal.returns-in-Some-clause-non_empty
-returns-in-Some-clause-non_empty g c = found_non_empty g.S.Kind.Kind.kind _ _ c.self.view_is c.known.ensures _ (c.in-Some.range.now, tt) c.in-Some.ensures
+pub returns-clause-non_empty : goal.returns-clause-non_empty
+returns-clause-non_empty g c = lent_non_empty g.S.Kind.Kind.kind _ _ c.self.view_is c.known.ensures _ _ c.range_of.result c.last.ensures (c.range_of.ensures ∙ range_shown c.last.result)

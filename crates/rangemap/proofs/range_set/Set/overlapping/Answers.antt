@@ -3,9 +3,6 @@ use Rattle.rangemap_core.specs.Sets.{IsCanonicalSet}
 use Rattle.rangemap.proofs.MapLemmas.{overlapping, overlapping_canonical}
 use Rattle.rangemap.proofs.range_set.Set.overlapping.Goals as goal
 
-pub over-requires : goal.over-requires
-over-requires g c = g.met.S.Kind.Kind.canonical_unstepped _ (overlapping_canonical g.S.Kind.Kind.kind _ _ c.self.view_is g.met.S.Kind.Kind.has_places c.args.range.now _ c.overlapping.ensures c.known.ensures)
-
 pub returns-clause-met : goal.returns-clause-met
 returns-clause-met g c = overlapping g.S.Kind.Kind.kind _ _ c.self.view_is c.args.range.now _ _ c.overlapping.ensures c.over.ensures
 

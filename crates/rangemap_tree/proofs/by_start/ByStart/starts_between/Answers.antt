@@ -9,4 +9,4 @@ pub returns : goal.returns
 returns g c =
     let cmp = g.K.Ord.cmp in
     subst (AreStarts cmp (filter (λ p. range_contains cmp (bound_map (λ x. x.now) c.args.from) (Excluded c.args.to.now) p.0.start) c.args.self.now)) (append-nil c.pairs.starts.items)
-    (c.pairs.invariant [] (subst (λ ps. AreStarts cmp ps []) (sym c.in_default.ensures.steps.0) tt))
+    (c.pairs.invariant [] (subst (λ ps. AreStarts cmp ps []) (sym c.in_default.ensures.0) tt))

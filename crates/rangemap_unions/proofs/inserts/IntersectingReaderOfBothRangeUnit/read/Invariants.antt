@@ -9,7 +9,7 @@ abbrev pub invariant-loop-items : goal.invariant-loop-items
 invariant-loop-items g l =
     let k = g.S.Kind.Kind.kind in
     IsGathered k
-    (λ x. covers k (ranges (g.I.LentPairs.left l.fn.left)) x && covers k (ranges (g.I.LentPairs.left l.fn.right)) x)
+    (λ x. covers k (ranges (g.C.Cursor.left l.fn.left)) x && covers k (ranges (g.C.Cursor.left l.fn.right)) x)
     l.items
     (ranges (g.S.Store.pairs l.common))
 

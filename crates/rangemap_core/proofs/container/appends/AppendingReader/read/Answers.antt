@@ -1,39 +1,39 @@
 use Rattle.std.proofs.Common.{rules, arith, ◌≡◌, ◌<◌, ◌∷◌, ◌∙◌, ap, length, subst, take}
-use Rattle.rangemap_core.specs.Lent.{shown}
 use Rattle.rangemap_core.specs.Appends.{AppendsOne}
+use Rattle.rangemap_core.specs.Shown.{shown}
 use Rattle.rangemap_core.proofs.AppendLemmas.{cut_back, next_stored, so_far-all, so_far-next, so_far-none}
 use Rattle.rangemap_core.proofs.container.appends.AppendingReader.read.Goals as goal
 
 pub pairs-init : goal.pairs-init
-pairs-init g c = so_far-none g.Q.Kind.kind g.V.PartialEq.eq (g.I.LentPairs.left c.args.pairs) c.args.out.now.items c.requires.0
+pairs-init g c = so_far-none g.Q.Kind.kind g.V.PartialEq.eq (g.C.Cursor.left c.args.pairs) c.args.out.now.items c.requires.0
 
 pub append_clone-requires-clause-stored : goal.append_clone-requires-clause-stored
 append_clone-requires-clause-stored g c =
-    let taken : g.I.LentPairs.left c.pairs.rest ≡ (shown g.I.LentPairs.range g.I.PairIter.value) c.in-Some.pair ∷ g.I.LentPairs.left c.next.new.self = rw c.in-Some.is at (g.met.I.PairIter.ends.takes _ _ _ c.next.ensures.steps) in
-    rw c.range_of-range.ensures
-    (next_stored g.Q.Kind.kind g.V.PartialEq.eq (g.I.LentPairs.left c.args.pairs) (g.I.LentPairs.left c.pairs.rest) c.args.out.now.items c.pairs.out.items ((shown g.I.LentPairs.range g.I.PairIter.value) c.in-Some.pair) (g.I.LentPairs.left c.next.new.self) c.pairs.invariant taken)
+    let taken : g.C.Cursor.left c.pairs.rest ≡ shown g.C.Cursor.given g.C.Cursor.given_value c.in-Some.pair ∷ g.C.Cursor.left c.take_first.new.self = rw c.in-Some.is at c.take_first.ensures in
+    rw c.parts.ensures.range
+    (next_stored g.Q.Kind.kind g.V.PartialEq.eq (g.C.Cursor.left c.args.pairs) (g.C.Cursor.left c.pairs.rest) c.args.out.now.items c.pairs.out.items (shown g.C.Cursor.given g.C.Cursor.given_value c.in-Some.pair) (g.C.Cursor.left c.take_first.new.self) c.pairs.invariant taken)
 
 pub pairs-smaller : goal.pairs-smaller
 pairs-smaller g c =
-    let taken : g.I.LentPairs.left c.pairs.rest ≡ (shown g.I.LentPairs.range g.I.PairIter.value) c.in-Some.pair ∷ g.I.LentPairs.left c.next.new.self = rw c.in-Some.is at (g.met.I.PairIter.ends.takes _ _ _ c.next.ensures.steps) in
-    let fewer : length (g.I.LentPairs.left c.next.new.self) < length (g.I.LentPairs.left c.pairs.rest) = omega (arith, ap length taken) in
+    let taken : g.C.Cursor.left c.pairs.rest ≡ shown g.C.Cursor.given g.C.Cursor.given_value c.in-Some.pair ∷ g.C.Cursor.left c.take_first.new.self = rw c.in-Some.is at c.take_first.ensures in
+    let fewer : length (g.C.Cursor.left c.take_first.new.self) < length (g.C.Cursor.left c.pairs.rest) = omega (arith, ap length taken) in
     fewer
 
 pub pairs-preserved : goal.pairs-preserved
 pairs-preserved g c =
     let k = g.Q.Kind.kind in
     let eq = g.V.PartialEq.eq in
-    let pair = (shown g.I.LentPairs.range g.I.PairIter.value) c.in-Some.pair in
-    let taken : g.I.LentPairs.left c.pairs.rest ≡ pair ∷ g.I.LentPairs.left c.next.new.self = rw c.in-Some.is at (g.met.I.PairIter.ends.takes _ _ _ c.next.ensures.steps) in
-    let one : AppendsOne k eq (c.range_of-range.result.now, c.value_of-value.result.now) c.pairs.out.items c.append_clone.new.out.items = search rules in
+    let pair = shown g.C.Cursor.given g.C.Cursor.given_value c.in-Some.pair in
+    let taken : g.C.Cursor.left c.pairs.rest ≡ pair ∷ g.C.Cursor.left c.take_first.new.self = rw c.in-Some.is at c.take_first.ensures in
+    let one : AppendsOne k eq (c.parts.result.0.now, c.parts.result.1.now) c.pairs.out.items c.append_clone.new.out.items = search rules in
     let same : AppendsOne k eq pair c.pairs.out.items c.append_clone.new.out.items =
-    subst (λ (p : g.row.R.Denot × g.row.V.Denot). AppendsOne k eq p c.pairs.out.items c.append_clone.new.out.items) (λ i. (c.range_of-range.ensures i, c.value_of-value.ensures i)) one in
-    so_far-next k eq (g.I.LentPairs.left c.args.pairs) (g.I.LentPairs.left c.pairs.rest) c.args.out.now.items c.pairs.out.items c.append_clone.new.out.items pair (g.I.LentPairs.left c.next.new.self) c.pairs.invariant taken same
+    subst (λ (p : g.row.R.Denot × g.row.V.Denot). AppendsOne k eq p c.pairs.out.items c.append_clone.new.out.items) (λ i. (c.parts.ensures.range i, c.parts.ensures.value i)) one in
+    so_far-next k eq (g.C.Cursor.left c.args.pairs) (g.C.Cursor.left c.pairs.rest) c.args.out.now.items c.pairs.out.items c.append_clone.new.out.items pair (g.C.Cursor.left c.take_first.new.self) c.pairs.invariant taken same
 
 pub returns : goal.returns
 returns g c =
-    let ended = rw c.in_default.is at (g.met.I.PairIter.ends.takes _ _ _ c.next.ensures.steps) in
-    (so_far-all g.Q.Kind.kind g.V.PartialEq.eq (g.I.LentPairs.left c.args.pairs) (g.I.LentPairs.left c.pairs.rest) c.args.out.now.items c.pairs.out.items c.pairs.invariant ended.0, tt)
+    let ended = rw c.in_default.is at c.take_first.ensures in
+    (so_far-all g.Q.Kind.kind g.V.PartialEq.eq (g.C.Cursor.left c.args.pairs) (g.C.Cursor.left c.pairs.rest) c.args.out.now.items c.pairs.out.items c.pairs.invariant ended.0, tt)
 
 pub returns-in-Err : goal.returns-in-Err
 returns-in-Err g c =

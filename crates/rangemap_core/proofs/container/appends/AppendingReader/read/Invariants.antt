@@ -4,7 +4,7 @@ use Rattle.rangemap_core.proofs.container.appends.AppendingReader.read.Given as 
 
 -- clones of the pairs that were taken stand behind the old ones
 abbrev pub invariant-pairs : goal.invariant-pairs
-invariant-pairs g l = AppendsSoFar g.Q.Kind.kind g.V.PartialEq.eq (g.I.LentPairs.left l.fn.pairs) (g.I.LentPairs.left l.rest) l.fn.out.items l.out.items
+invariant-pairs g l = AppendsSoFar g.Q.Kind.kind g.V.PartialEq.eq (g.C.Cursor.left l.fn.pairs) (g.C.Cursor.left l.rest) l.fn.out.items l.out.items
 
 abbrev pub decreases-pairs : goal.decreases-pairs
-decreases-pairs g l = length (g.I.LentPairs.left l.rest)
+decreases-pairs g l = length (g.C.Cursor.left l.rest)

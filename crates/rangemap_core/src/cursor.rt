@@ -1,0 +1,54 @@
+//! What goes over the pairs of a store, lent or handed over.
+ghost use Rattle.std.specs.Prelude.{◌≡◌, ◌∷◌, [], List, MatchOption};
+ghost use Rattle.std.specs.Map.Iter.{TakesFirst, TakesLast};
+ghost use Rattle.rangemap_core.specs.Shown.{shown};
+
+use crate::key_range::KeyRange;
+
+/// What takes the pairs of a store one after another, from both ends.
+///
+/// It is what an iterator is made of, with nothing of std's `Iterator` in it: who is handed one pays,
+/// in the check, for three methods. It names no lifetime, so that a struct may hold any.
+pub trait Cursor: Drop {
+    /// A stored range.
+    type Range;
+
+    /// What a range is mapped to.
+    type Value;
+
+    /// What is there of a range that is taken: the range itself, or a reference to it.
+    type Given;
+
+    /// What is there of its value.
+    type GivenValue;
+
+    /// The pairs that are still to come.
+    ghost left: { Self → List (Self.Range × Self.Value) };
+
+    /// The range that what is there of it is, or to which it leads.
+    ghost given: { Self.Given → Self.Range };
+
+    /// The value.
+    ghost given_value: { Self.GivenValue → Self.Value };
+
+    /// Takes the first pair that is still to come.
+    fn take_first(&mut self) -> Option<(Self::Given, Self::GivenValue)>
+        ensures { TakesFirst (shown given given_value) (left self.old) result (left self.new) };
+
+    /// Takes the last one.
+    fn take_last(&mut self) -> Option<(Self::Given, Self::GivenValue)>
+        ensures { TakesLast (shown given given_value) (left self.old) result (left self.new) };
+
+    /// Returns the range and the value of a pair that was taken.
+    fn parts<'a>(pair: &'a (Self::Given, Self::GivenValue)) -> (&'a Self::Range, &'a Self::Value)
+        ensures range { result.0.now ≡ given pair.now.0 }
+        ensures value { result.1.now ≡ given_value pair.now.1 };
+}
+
+/// A cursor that shows the next pair without taking it, as unions and intersections ask of it.
+pub trait Peek: Cursor<Range: KeyRange, Given: Drop, GivenValue: Drop> {
+    /// Returns the first pair that is still to come.
+    fn peek(&mut self) -> Option<(Self::Given, Self::GivenValue)>
+        ensures same { Self.left self.new ≡ Self.left self.old }
+        ensures first { MatchOption result (Self.left self.old ≡ []) (λ pair. (rest : List (Self.Range × Self.Value)) × (Self.left self.old ≡ shown Self.given Self.given_value pair ∷ rest)) };
+}
