@@ -10,7 +10,7 @@ use Rattle.std.specs.List.{All, AllByRecursion}
 use Rattle.std.proofs.lemmas.List.Elements.{recursion_from_All}
 use Rattle.std.specs.declared.alloc.AllocError.{AllocError}
 use Rattle.rangemap_core.specs.Ranges.{RangeKind, AreGaps, IsCanonical, IsStorable, covering, covers, unit_eq, value_at, with_unit}
-use Rattle.rangemap_replay.specs.Histories.{IsUndefinedOn}
+use Rattle.rangemap_containers.specs.Histories.{IsUndefinedOn}
 use Rattle.rangemap_core.specs.MadeRanges.{AreSame, IsSame, GivesRange, TakesRange}
 use Rattle.rangemap_core.specs.engine.Endpoints.{IsPlaced, EndpointOf}
 use Rattle.rangemap_core.specs.engine.Places.{place_cmp}

@@ -11,7 +11,7 @@ use Rattle.rangemap_core.proofs.OperatorLemmas.{common_alike, either_alike}
 use Rattle.rangemap_core.proofs.SetLemmas.{all_inserted, all_made, intersected, united}
 use Rattle.rangemap_core.proofs.ZipLemmas.{added, as_long, changed, found}
 use Rattle.rangemap.specs.declared.range_set.calls.SetCall.TheVariants.{FromIter, Extend}
-use Rattle.rangemap_replay.specs.Histories.{Makes}
+use Rattle.rangemap_containers.specs.Histories.{Makes}
 use Rattle.rangemap.specs.SetHistories.{SetStep}
 use Rattle.rangemap.specs.Joined.{joined, joining}
 use Rattle.rangemap.specs.declared.operator.Operator.{Operator}

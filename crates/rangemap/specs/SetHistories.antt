@@ -1,8 +1,8 @@
 -- What calls on a list of sets make of the point functions that the sets stand for.
 use Rattle.std.specs.Prelude.{◌≡◌, ℕ, ◌≤◌, ⊤, ◌⊎◌, Bool, true, false, List, ◌∷◌, [], ◌++◌, length, take, Option, Some, slice_get}
-use Rattle.rangemap_replay.specs.Histories.{ChangeStep, Changes}
+use Rattle.rangemap_containers.specs.Histories.{ChangeStep, Changes}
 use Rattle.rangemap_core.specs.Operators.{common, either}
-use Rattle.rangemap_replay.specs.declared.calls.Change.TheVariants.{New as MakeEmpty, Insert as InsertPair, Remove as RemoveRange, Clear as ClearMap, Clone as CloneMap}
+use Rattle.rangemap_containers.specs.declared.calls.Change.TheVariants.{New as MakeEmpty, Insert as InsertPair, Remove as RemoveRange, Clear as ClearMap, Clone as CloneMap}
 use Rattle.rangemap.specs.declared.range_set.calls.SetCall.{SetCall}
 use Rattle.rangemap.specs.declared.range_set.calls.SetCall.TheVariants.{New, Insert, Remove, Clear, Clone, FromIter, Extend, Union, Intersection}
 use Rattle.rangemap_core.specs.Ranges.{RangeKind, nothing, override_all, with_unit}

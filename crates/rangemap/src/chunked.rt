@@ -8,14 +8,14 @@
 use crate::range_set::{Set, calls as set_calls};
 use rangemap_chunked::chunks::{Chunks, SIZE};
 use rangemap_chunked::{into_iter, iter};
+use rangemap_containers::calls;
+pub use rangemap_containers::replay::{replay, replay as replay_with_step_fns};
 use rangemap_core::closed::Closed;
 use rangemap_core::gaps;
 use rangemap_core::half_open::HalfOpen;
 use rangemap_core::pair_iter::{OverlappingPairs, PairIter};
 pub use rangemap_maps::range_map::Map;
 use rangemap_maps::range_map::calls as map_calls;
-use rangemap_replay::calls;
-pub use rangemap_replay::replay::{replay, replay as replay_with_step_fns};
 use rangemap_unions::{self as unions, OverlappingRanges, Ranges};
 use std::alloc::Global;
 use std::ops::{Range, RangeInclusive};

@@ -1,4 +1,4 @@
 //! What every container of the library does, for code that is written once for all of them.
 
 pub use crate::segments::segments;
-pub use rangemap_core::container::{Container, collect_gaps, insert_pairs};
+pub use rangemap_containers::container::{Container, collect_gaps, insert_pairs};

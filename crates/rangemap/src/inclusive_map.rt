@@ -1,12 +1,12 @@
 //! The map over closed ranges, and the runs of any calls that make or change such maps.
 
+use rangemap_containers::calls;
+pub use rangemap_containers::replay::{replay, replay as replay_with_step_fns};
 use rangemap_core::closed::Closed;
 use rangemap_core::gaps;
 use rangemap_core::pair_iter::{OverlappingPairs, PairIter};
 pub use rangemap_maps::range_map::Map;
 use rangemap_maps::range_map::calls as map_calls;
-use rangemap_replay::calls;
-pub use rangemap_replay::replay::{replay, replay as replay_with_step_fns};
 use rangemap_sorted::{SortedVec, overlapping};
 use std::alloc::Global;
 use std::ops::RangeInclusive;

@@ -2,10 +2,10 @@
 
 use crate::range_set::Set;
 use crate::range_set::calls::SetCall;
+use rangemap_containers::calls;
+pub use rangemap_containers::replay::{replay, replay as replay_with_step_fns};
 use rangemap_core::closed::Closed;
 use rangemap_core::gaps;
-use rangemap_replay::calls;
-pub use rangemap_replay::replay::{replay, replay as replay_with_step_fns};
 use rangemap_sorted::{SortedVec, overlapping};
 use rangemap_unions::{self as unions, OverlappingRanges, Ranges};
 use std::alloc::Global;

@@ -1,12 +1,12 @@
 //! The map over half-open ranges, and the run of any calls that make or change such maps.
 
+use rangemap_containers::calls;
+pub use rangemap_containers::replay::replay;
 use rangemap_core::gaps;
 use rangemap_core::half_open::HalfOpen;
 use rangemap_core::pair_iter::{OverlappingPairs, PairIter};
 pub use rangemap_maps::range_map::Map;
 use rangemap_maps::range_map::calls as map_calls;
-use rangemap_replay::calls;
-pub use rangemap_replay::replay::replay;
 use rangemap_sorted::{SortedVec, overlapping};
 use std::alloc::Global;
 use std::ops::Range;

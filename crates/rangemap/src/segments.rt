@@ -4,8 +4,8 @@ ghost use Rattle.rangemap_core.specs.Clones.{KeysCloneFaithfully, ValuesCloneFai
 ghost use Rattle.rangemap_core.specs.Ranges.{IsCanonOf, value_at};
 ghost use Rattle.rangemap_core.specs.Segments.{segments_of};
 
+use rangemap_containers::container::Container;
 use rangemap_core::common::common;
-use rangemap_core::container::Container;
 use rangemap_core::kind::known_ends;
 use rangemap_maps::range_map::Map;
 use rangemap_sorted::SortedVec;

@@ -2,9 +2,9 @@
 
 use crate::range_set::Set;
 use crate::range_set::calls::SetCall;
+pub use rangemap_containers::replay::replay;
 use rangemap_core::gaps;
 use rangemap_core::half_open::HalfOpen;
-pub use rangemap_replay::replay::replay;
 use rangemap_sorted::{SortedVec, overlapping};
 use rangemap_unions::{self as unions, OverlappingRanges, Ranges};
 use std::alloc::Global;

@@ -2,14 +2,14 @@
 //! change such maps, and the run of commands on any map, in a tree or not.
 
 pub use crate::container::Container;
+use rangemap_containers::calls;
+pub use rangemap_containers::replay::replay;
 use rangemap_core::gaps;
 use rangemap_core::half_open::HalfOpen;
 use rangemap_core::pair_iter::{OverlappingPairs, PairIter};
 pub use rangemap_laws::commands::{Answer, Command, Outcome, run};
 pub use rangemap_maps::range_map::Map;
 use rangemap_maps::range_map::calls as map_calls;
-use rangemap_replay::calls;
-pub use rangemap_replay::replay::replay;
 use rangemap_tree::{Tree, into_iter, iter, overlapping};
 use std::alloc::Global;
 use std::ops::Range;

@@ -7,7 +7,7 @@ use crate::into_iter::IntoIter;
 use crate::iter::Iter;
 use crate::overlapping::overlapping;
 use crate::search::chunk_with;
-use rangemap_core::container::append_gaps;
+use rangemap_core::gaps::append_gaps;
 use rangemap_core::key_range::KeyRange;
 use rangemap_core::kind::{Kind, known_ends};
 use rangemap_core::reader::{Reader, ReaderOfBoth};

@@ -7,8 +7,8 @@ use crate::key_range::KeyRange;
 
 /// What takes the pairs of a store one after another, from both ends.
 ///
-/// It is what an iterator is made of, with nothing of std's `Iterator` in it: who is handed one pays,
-/// in the check, for three methods. It names no lifetime, so that a struct may hold any.
+/// The public iterators are made of one, so that a store writes no impl of std's `Iterator`. It names
+/// no lifetime, so that a struct may hold any.
 pub trait Cursor: Drop {
     /// A stored range.
     type Range;

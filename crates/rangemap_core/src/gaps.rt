@@ -1,6 +1,6 @@
 //! The parts of a range that no stored range covers, whatever keeps the ranges.
-ghost use Rattle.std.specs.Prelude.{◌≡◌, ◌≢◌, [], false, true, IfOk, IfSome, MatchOption, None as NoneWord, OnErr, length, map};
-ghost use Rattle.std.specs.Iterator.{UpTo, at_most};
+ghost use Rattle.std.specs.Prelude.{◌≡◌, ◌≢◌, ◌++◌, [], false, true, IfOk, IfSome, List, MatchOption, None as NoneWord, Ok as OkWord, OnErr, OnOk, length, map};
+ghost use Rattle.std.specs.Iterator.{Drains, IsFinite, UpTo, at_most};
 ghost use Rattle.std.specs.Iterator.SizeHint.{IsWithinCount};
 ghost use Rattle.std.specs.Option.{option_map};
 ghost use Rattle.rangemap_core.specs.Clones.{KeysCloneFaithfully};
@@ -14,7 +14,7 @@ use crate::cursor::Cursor;
 use crate::key_range::KeyRange;
 use crate::kind::{Endpoint, Kind, known_ends};
 use crate::store::Lends;
-use std::alloc::AllocError;
+use std::alloc::{AllocError, Allocator};
 use std::iter::Iterator;
 use std::marker::{Model, PhantomData};
 
@@ -138,6 +138,50 @@ where
     known_ends::<S::Kind, S::Range>(outer_range);
     stored.known();
     Gaps::over(stored.overlapping(outer_range), outer_range)
+}
+
+/// Appends the gaps that pairs leave in `outer_range`, where they are those that overlap it.
+///
+/// # Errors
+///
+/// A clone of a key, or the growth of the vector, was refused: then the vector is as it was. What was
+/// put there before the refusal is taken off again.
+pub fn append_gaps<
+    Q: Kind<R>,
+    R: KeyRange,
+    C: Cursor<Range = R, Given: Drop, GivenValue: Drop>,
+    B: Allocator,
+>(pairs: C, outer_range: &R, out: &mut Vec<R, B>) -> Result<(), AllocError>
+    requires { KeysCloneFaithfully R.Key.is_clone R.Key.cmp }
+    ensures ok { OnOk result ((gaps : List _) × Drains (GivesRange Q.kind) (gaps_from Q.kind Q.end_place Q.part_of (AtStart outer_range.now) outer_range.now (C.left pairs)) (map OkWord gaps) × (out.new.items ≡ out.old.items ++ gaps)) }
+    ensures err { OnErr result (out.new.items ≡ out.old.items) }
+{
+    append_items(Gaps::<Q, R, C>::over(pairs, outer_range), out)
+}
+
+// Appends the ranges that are still to come. Where one, or the growth of the vector, is refused, the
+// vector is as it was.
+fn append_items<R: Drop, I: Iterator<Item = Result<R, AllocError>> + Drop, B: Allocator>(
+    gaps: I,
+    out: &mut Vec<R, B>,
+) -> Result<(), AllocError>
+    requires can { I.can_next gaps }
+    requires ends { IsFinite (I.remaining gaps) }
+    ensures ok { OnOk result ((items : List _) × Drains I.next_gives gaps (map OkWord items) × (out.new.items ≡ out.old.items ++ items)) }
+    ensures err { OnErr result (out.new.items ≡ out.old.items) }
+{
+    let start = out.len();
+    for gap in gaps {
+        let is_pushed = match gap {
+            Ok(gap) => out.push(gap).is_ok(),
+            Err(_) => false,
+        };
+        if !is_pushed {
+            out.truncate(start);
+            return Err(AllocError);
+        }
+    }
+    Ok(())
 }
 
 // Where the next gap may start.

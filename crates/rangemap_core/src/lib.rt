@@ -1,5 +1,5 @@
-//! What every map and set with ranges as keys stands on: ranges and their kinds, and the traits of
-//! stores and of containers.
+//! What every map and set with ranges as keys stands on: ranges and their kinds, what a store has to
+//! do, and the iterators over what it keeps.
 //!
 //! Users name the crate `rangemap`, which exports the containers. What a list of ranges with values
 //! means is said in `specs/Ranges.antt`; every public contract is in its words.
@@ -7,7 +7,6 @@
 
 pub mod closed;
 pub mod common;
-pub mod container;
 pub mod cursor;
 pub mod gaps;
 pub mod half_open;

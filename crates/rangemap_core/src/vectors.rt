@@ -23,7 +23,6 @@ impl<'a, R, V> Cursor for slice::Iter<'a, (R, V)> {
 
     ghost given_value = { deref };
 
-    #[inline(always)]
     fn take_first(&mut self) -> Option<(&'a R, &'a V)> {
         match self.next() {
             Some(pair) => Some((&pair.0, &pair.1)),
@@ -31,7 +30,6 @@ impl<'a, R, V> Cursor for slice::Iter<'a, (R, V)> {
         }
     }
 
-    #[inline(always)]
     fn take_last(&mut self) -> Option<(&'a R, &'a V)> {
         match self.next_back() {
             Some(pair) => Some((&pair.0, &pair.1)),

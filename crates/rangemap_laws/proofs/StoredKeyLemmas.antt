@@ -5,7 +5,7 @@ use Rattle.std.proofs.lemmas.Bool.Decides.{nat_tests}
 use Rattle.std.specs.Option.{option_eq}
 use Rattle.std.specs.Cmp.{IsTotalOrder}
 use Rattle.rangemap_core.specs.Ranges.{RangeKind, IsCanonical, IsStorable, covering, covers, overlapped, value_at}
-use Rattle.rangemap_replay.specs.Histories.{IsUndefinedOn}
+use Rattle.rangemap_containers.specs.Histories.{IsUndefinedOn}
 use Rattle.rangemap_core.specs.engine.Endpoints.{IsPlaced, EndpointOf, asked}
 use Rattle.rangemap_core.specs.engine.Places.{place_cmp}
 use Rattle.rangemap_core.specs.laws.Orders.{eq_eq, eq_lt, eq_turn, itself, le_Equal, le_Less, le_lt, lt_eq, lt_le, lt_lt, lt_not_le, turn}

@@ -25,7 +25,7 @@ pub mod runs;
 pub mod texts;
 
 use clones::{insert_clone, remove_clone};
-use rangemap_core::container::{Container, collect_gaps};
+use rangemap_containers::container::{Container, collect_gaps};
 use rangemap_core::key_range::KeyRange;
 use rangemap_core::kind::Kind;
 use std::alloc::{AllocError, Allocator};

@@ -5,7 +5,7 @@ use Rattle.std.specs.declared.alloc.AllocError.{AllocError}
 use Rattle.rangemap_core.specs.Ranges.{RangeKind, IsCanonOf, Overrides, nothing, override_all}
 use Rattle.rangemap_core.proofs.CanonLemmas.{override_all_of}
 use Rattle.rangemap_core.proofs.ZipLemmas.{added, as_long, changed}
-use Rattle.rangemap_replay.specs.Histories.{Makes}
+use Rattle.rangemap_containers.specs.Histories.{Makes}
 use Rattle.rangemap_maps.specs.MapHistories.{Step}
 use Rattle.rangemap_maps.specs.declared.range_map.calls.Call.TheVariants.{FromIter, Extend}
 

@@ -1,6 +1,6 @@
 -- What calls on a list of maps make of the point functions that the maps stand for, also those that take pairs.
 use Rattle.std.specs.Prelude.{◌≡◌, ℕ, ◌≤◌, ◌⊎◌, Bool, true, false, List, [], ◌∷◌, ◌++◌, length, take, Option}
-use Rattle.rangemap_replay.specs.Histories.{ChangeStep, Changes, HasNonEmptyRange}
+use Rattle.rangemap_containers.specs.Histories.{ChangeStep, Changes, HasNonEmptyRange}
 use Rattle.rangemap_core.specs.Ranges.{RangeKind, AreNonEmpty, nothing, override_all}
 use Rattle.rangemap_maps.specs.declared.range_map.calls.Call.{Call}
 use Rattle.rangemap_maps.specs.declared.range_map.calls.Call.TheVariants.{Change as Changing, FromIter, Extend}

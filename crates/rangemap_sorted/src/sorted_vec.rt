@@ -2,7 +2,7 @@
 
 use crate::entries::{changes, covering};
 use crate::overlapping::Overlapping;
-use rangemap_core::container::append_gaps;
+use rangemap_core::gaps::append_gaps;
 use rangemap_core::key_range::KeyRange;
 use rangemap_core::kind::{Kind, known_ends};
 use rangemap_core::pairs::clone_pair;

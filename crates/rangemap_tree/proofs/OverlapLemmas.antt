@@ -63,10 +63,9 @@ module _ {K : Type 0} {cmp : K → K → Ordering} (o : IsTotalOrder cmp) where
   not_lt : (x y : K) → is_gt (cmp x y) ≡ false → is_lt (cmp y x) ≡ false
   not_lt x y h = ap is_lt (o.antisymm y x) ∙ not_lt_of_le (cmp x y) h
 
-module _ {K V : Type 0} {cmp : K → K → Ordering} (o : IsTotalOrder cmp) where
-  -- bounds that leave no room
-  pub no_room : (lo : Bound K) (x t : K) → ((y : K) → is_from_start cmp lo y ≡ true → is_gt (cmp x y) ≡ false) → is_lt (cmp x t) ≡ false → (ps : List (Range K × V)) → filter (λ (p : Range K × V). range_contains cmp (Included t) (Excluded t) p.0.start) ps ≡ filter (λ (p : Range K × V). range_contains cmp lo (Excluded t) p.0.start) ps
-  no_room lo x t above h ps = λ i. filter (λ (p : Range K × V). (no_and (is_le (cmp t p.0.start)) (is_le (cmp t p.0.start)) (λ q. q) ∙ sym (no_and (is_from_start cmp lo p.0.start) (is_le (cmp t p.0.start)) (λ q. below p.0.start (is_from_start cmp lo p.0.start) refl q))) i) ps
+  -- bounds that leave no room: nothing is from x on and before t where x is not below t
+  pub no_room : (lo : Bound K) (x t : K) → ((y : K) → is_from_start cmp lo y ≡ true → is_gt (cmp x y) ≡ false) → is_lt (cmp x t) ≡ false → (y : K) → range_contains cmp (Included t) (Excluded t) y ≡ range_contains cmp lo (Excluded t) y
+  no_room lo x t above h y = no_and (is_le (cmp t y)) (is_le (cmp t y)) (λ q. q) ∙ sym (no_and (is_from_start cmp lo y) (is_le (cmp t y)) (λ q. below y (is_from_start cmp lo y) refl q))
     where
       below : (y : K) (b : Bool) → is_from_start cmp lo y ≡ b → is_le (cmp t y) ≡ false → is_from_start cmp lo y ≡ false
       below y false e q = e

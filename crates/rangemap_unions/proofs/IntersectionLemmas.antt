@@ -4,10 +4,10 @@ use Rattle.std.specs.Bool.{⊤}
 use Rattle.rangemap_core.specs.operations.PlaceLaws.{HasPlaces, lt_true}
 use Rattle.rangemap_unions.specs.Items.{reaches, earlier_end, later_start, with_common, intersection_items}
 use Rattle.rangemap_core.specs.operations.Places.{RangePlaces}
-use Rattle.rangemap_core.specs.laws.Orders.{le_Less, le_Equal, lt_le, lt_lt, itself, not_lt, lt_not_le}
+use Rattle.rangemap_core.specs.laws.Orders.{le_Less, le_Equal, le_lt, lt_le, lt_lt, itself, not_lt, lt_not_le}
 use Rattle.rangemap_core.specs.Ranges.{RangeKind, IsStorable, IsCanonical, IsFollowedBy, covers, unit_eq, with_unit}
 use Rattle.rangemap_core.specs.Sets.{AreCommon}
-use Rattle.rangemap_unions.proofs.PlaceLemmas.{chosen, decided, covers_cons, le_le, reached, unreached}
+use Rattle.rangemap_unions.proofs.PlaceLemmas.{and_first, and_second, and_true, chosen, decided, covers_cons, le_le, reached, unreached}
 
 -- p and q hold the key, or one of what follows them, and no later q where p does
 common_left : (p ps q qs : Bool) → (p ≡ true → qs ≡ false) → ((p && q) || (ps && (q || qs))) ≡ ((p || ps) && (q || qs))
@@ -69,6 +69,18 @@ module _ {K X P : Type 0} {k : RangeKind K X} {l : RangePlaces P X} {at cut : K 
   up_to_earlier a b q = decided (λ c. is_lt (l.order q (l.end_place c)) ≡ (is_lt (l.order q (l.end_place a)) && is_lt (l.order q (l.end_place b)))) (is_lt (l.order (l.end_place a) (l.end_place b)))
       (λ e. sym (and_implied (is_lt (l.order q (l.end_place a))) (is_lt (l.order q (l.end_place b))) (λ h. ap is_lt (lt_le p.total (lt_true _ h) (le_Less (lt_true _ e))))))
       (λ e. sym (implied_and (is_lt (l.order q (l.end_place a))) (is_lt (l.order q (l.end_place b))) (λ h. ap is_lt (lt_le p.total (lt_true _ h) (not_lt p.total (l.end_place a) (l.end_place b) e)))))
+
+  -- ranges of which the later start comes before the earlier end reach one another
+  pub both_reached : (a b first last : X) → first ≡ later_start l a b → last ≡ earlier_end l a b → reaches l last first ≡ true → (reaches l a b && reaches l b a) ≡ true
+  both_reached a b first last starts ends h =
+      let q = l.start_place (later_start l a b) in
+      let apart : is_lt (l.order q (l.end_place (earlier_end l a b))) ≡ true =
+      sym (ap (λ r. reaches l r first) ends ∙ ap (λ r. reaches l (earlier_end l a b) r) starts) ∙ h in
+      let behind : (is_le (l.order (l.start_place a) q) && is_le (l.order (l.start_place b) q)) ≡ true = sym (from_later a b q) ∙ le_Equal (itself p.total q) in
+      let before : (is_lt (l.order q (l.end_place a)) && is_lt (l.order q (l.end_place b))) ≡ true = sym (up_to_earlier a b q) ∙ apart in
+      and_true
+      (ap is_lt (le_lt p.total (and_second _ _ behind) (lt_true _ (and_first _ _ before))))
+      (ap is_lt (le_lt p.total (and_first _ _ behind) (lt_true _ (and_second _ _ before))))
 
   both_hold : (a b : X) (x : K) → (k.holds a x && k.holds b x) ≡ ((is_le (l.order (l.start_place a) (at x)) && is_lt (l.order (at x) (l.end_place a))) && (is_le (l.order (l.start_place b) (at x)) && is_lt (l.order (at x) (l.end_place b))))
   both_hold a b x = ap (λ c. c && k.holds b x) (p.holds a x) ∙ ap (λ c. (is_le (l.order (l.start_place a) (at x)) && is_lt (l.order (at x) (l.end_place a))) && c) (p.holds b x)

@@ -9,7 +9,7 @@ ghost use Rattle.rangemap_core.specs.MadeRanges.{GivesRange, TakesRange};
 ghost use Rattle.rangemap_core.specs.Sets.{AreCommon, AreNonEmptyRanges, IsCanonicalSet, ranges};
 ghost use Rattle.rangemap_unions.specs.Items.{earlier_end, intersection_items, later_start, reaches, with_common};
 
-use crate::item::{between, compare_ends, compare_starts, overlap};
+use crate::item::{between, compare_ends, compare_starts, is_reached};
 use crate::ranges::Ranges;
 use crate::side::take;
 use rangemap_core::cursor::{Cursor, Peek};
@@ -115,7 +115,8 @@ impl<C: Peek> Iterator for Intersection<C> {
     }
 }
 
-// What two ranges have in common, if anything.
+// What two ranges have in common, if anything: from the later start up to the earlier end, where it
+// comes before that.
 fn common<R: KeyRange>(left: &R, right: &R, left_ends_first: bool) -> Result<Option<R>, AllocError>
     requires ends { left_ends_first ≡ is_lt (R.places.order (R.places.end_place left.now) (R.places.end_place right.now)) }
     requires in_order { (reaches R.places left.now right.now && reaches R.places right.now left.now) ≡ true → R.places.order (R.places.start_place (later_start R.places left.now right.now)) (R.places.end_place (earlier_end R.places left.now right.now)) ≡ Less }
@@ -125,16 +126,18 @@ fn common<R: KeyRange>(left: &R, right: &R, left_ends_first: bool) -> Result<Opt
         (λ range. TakesRange R.read (with_common R.places left.now right.now rest) (SomeWord range) rest)) }
     ensures refused { OnErr result ((reaches R.places left.now right.now && reaches R.places right.now left.now) ≡ true) }
 {
-    if !overlap(left, right) {
-        return Ok(None);
-    }
     let first = if compare_starts(left, right).is_lt() {
         right
     } else {
         left
     };
     let last = if left_ends_first { left } else { right };
-    between(first, last)
+    let overlap = is_reached(last, first);
+    if overlap {
+        between(first, last)
+    } else {
+        Ok(None)
+    }
 }
 
 // What is left of both lists.

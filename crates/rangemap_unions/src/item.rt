@@ -1,5 +1,5 @@
 //! One item of a union or an intersection, before it is made.
-ghost use Rattle.std.specs.Prelude.{◌≡◌, ◌&&◌, ◌∷◌, List, IfOk};
+ghost use Rattle.std.specs.Prelude.{◌≡◌, ◌∷◌, List, IfOk};
 ghost use Rattle.std.specs.declared.cmp.Ordering.TheVariants.{Less};
 ghost use Rattle.rangemap_core.specs.Clones.{KeysCloneFaithfully};
 ghost use Rattle.rangemap_core.specs.MadeRanges.{TakesRange};
@@ -28,13 +28,6 @@ pub fn is_reached<R: KeyRange>(first: &R, second: &R) -> bool
     ensures { result ≡ reaches R.places first.now second.now }
 {
     first.reaches(second.start())
-}
-
-/// Returns whether two ranges overlap.
-pub fn overlap<R: KeyRange>(left: &R, right: &R) -> bool
-    ensures { result ≡ (reaches R.places left.now right.now && reaches R.places right.now left.now) }
-{
-    is_reached(left, right) && is_reached(right, left)
 }
 
 /// Makes the item from the start of the first range up to the end of the last, of clones.

@@ -3,7 +3,7 @@
 ghost use Rattle.rangemap.specs.Clones.{KeysCloneFaithfully, ValuesCloneFaithfully};
 
 use crate::row::{Answer, Row};
-use rangemap_replay::calls::Change;
+use rangemap_containers::calls::Change;
 use std::alloc::AllocError;
 use std::test::Fail;
 use tests_support::{Heap, InRows, MANY, check_row, check_that, made_of, make, read_change};

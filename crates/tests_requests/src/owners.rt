@@ -2,7 +2,7 @@
 ghost use Rattle.std.specs.List.{AllByRecursion};
 ghost use Rattle.rangemap.specs.Clones.{KeysCloneFaithfully, ValuesCloneFaithfully};
 
-use rangemap_replay::replay::{CallOn, replay};
+use rangemap_containers::replay::{CallOn, replay};
 use std::test::Fail;
 use tests_support::{Heap, InRows, check_that, made_of, parts, two_lists};
 

@@ -5,7 +5,7 @@ ghost use Rattle.rangemap.specs.Clones.{KeysCloneFaithfully, ValuesCloneFaithful
 
 use crate::row::{Answer, Row};
 use rangemap::map::replay;
-use rangemap_replay::replay::CallOn;
+use rangemap_containers::replay::CallOn;
 use std::alloc::AllocError;
 use std::test::Fail;
 use tests_support::{Heap, InRows, changes_of, check_that};

@@ -4,9 +4,9 @@ ghost use Rattle.rangemap.specs.Clones.{KeysCloneFaithfully, ValuesCloneFaithful
 use crate::in_rows::InRows;
 use rangemap::map::Map;
 use rangemap::range_set::Set;
+use rangemap_containers::calls::Change;
 use rangemap_core::key_range::KeyRange;
 use rangemap_core::store::StoreMut;
-use rangemap_replay::calls::Change;
 use std::alloc::Global;
 use std::test::Fail;
 use tests_words::{Word, pair_of, range_of, read_change};

@@ -3,17 +3,17 @@
 //! Before a call may stand the place of the container that it is made on, as in `1: clear`.
 ghost use Rattle.std.specs.Prelude.{IfOk};
 ghost use Rattle.std.specs.List.{AllByRecursion};
-ghost use Rattle.rangemap_replay.specs.Histories.{HasNonEmptyRange};
+ghost use Rattle.rangemap_containers.specs.Histories.{HasNonEmptyRange};
 ghost use Rattle.rangemap_maps.specs.MapHistories.{HasNonEmptyRanges};
 
 use crate::grammar::first_word;
 use crate::pairs::{pair_of, pairs_of};
 use crate::ranges::range_of;
 use crate::words::Word;
+use rangemap_containers::calls::Change;
 use rangemap_core::key_range::KeyRange;
 use rangemap_core::kind::Kind;
 use rangemap_maps::range_map::calls::Call;
-use rangemap_replay::calls::Change;
 use std::alloc::Allocator;
 use std::test::Fail;
 

@@ -8,11 +8,11 @@ ghost use Rattle.rangemap.specs.SetHistories.{SetStep};
 
 use super::Set;
 use crate::operator::Operator;
+use rangemap_containers::calls::Change;
+use rangemap_containers::replay::{CallOn, add};
 use rangemap_core::key_range::KeyRange;
 use rangemap_core::kind::Kind;
 use rangemap_core::store::StoreMut;
-use rangemap_replay::calls::Change;
-use rangemap_replay::replay::{CallOn, add};
 use std::alloc::Allocator;
 use std::vec::Vec;
 

@@ -4,7 +4,7 @@
 //! hand the pairs and gaps of its store on. All other methods are the set's own calls.
 
 use super::Set;
-use rangemap_core::container::{Appending, Container};
+use rangemap_containers::container::{Appending, Container};
 use rangemap_core::key_range::KeyRange;
 use rangemap_core::kind::Kind;
 use rangemap_core::store::StoreMut;

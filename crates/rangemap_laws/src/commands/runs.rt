@@ -6,7 +6,7 @@ ghost use Rattle.rangemap_laws.specs.Runs.{CommandStep, IsAllowed, Ran};
 
 use super::answers::answer;
 use super::command::{Answer, Command};
-use rangemap_core::container::Container;
+use rangemap_containers::container::Container;
 use rangemap_core::key_range::KeyRange;
 use std::alloc::{AllocError, Allocator};
 

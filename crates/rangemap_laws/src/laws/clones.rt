@@ -4,7 +4,7 @@ ghost use Rattle.rangemap_core.specs.MadeRanges.{IsSame};
 ghost use Rattle.rangemap_core.specs.Clones.{KeysCloneFaithfully, ValuesCloneFaithfully};
 ghost use Rattle.rangemap_core.specs.Ranges.{IsCanonOf, IsCanonical, IsStorable, erase, override, value_at};
 
-use rangemap_core::container::Container;
+use rangemap_containers::container::Container;
 use rangemap_core::kind::{Endpoint, Kind, known_ends};
 use std::alloc::AllocError;
 

@@ -3,7 +3,7 @@ ghost use Rattle.std.specs.Prelude.{◌≡◌, ◌↔◌, fold, IsTrue};
 ghost use Rattle.std.specs.declared.cmp.Ordering.TheVariants.{Equal as EqualWord};
 ghost use Rattle.rangemap_core.specs.Ranges.{same_pairs};
 
-use rangemap_core::container::Container;
+use rangemap_containers::container::Container;
 use std::cmp::Ordering;
 use std::hash::{Hash, Hasher};
 

@@ -1,10 +1,10 @@
 //! What `overlaps` and `overlapping` tell of the keys of a range.
 ghost use Rattle.std.specs.Prelude.{◌≡◌, ◌<◌, ◌↔◌, [], IsTrue, length, nat_lt};
 ghost use Rattle.rangemap_laws.specs.DefinedIn.{IsDefinedIn};
-ghost use Rattle.rangemap_replay.specs.Histories.{IsUndefinedOn};
+ghost use Rattle.rangemap_containers.specs.Histories.{IsUndefinedOn};
 ghost use Rattle.rangemap_core.specs.Ranges.{overlapped, value_at};
 
-use rangemap_core::container::Container;
+use rangemap_containers::container::Container;
 use rangemap_core::kind::known_ends;
 
 /// Of a range that isn't empty, `overlaps` is true exactly where some key of it is covered, and

@@ -1,11 +1,11 @@
 //! Calls on a list of maps, as values, each made by the public call of the map at its place.
 
 use super::Map;
+use rangemap_containers::calls::Change;
+use rangemap_containers::replay::{CallOn, add};
 use rangemap_core::key_range::KeyRange;
 use rangemap_core::kind::Kind;
 use rangemap_core::store::StoreMut;
-use rangemap_replay::calls::Change;
-use rangemap_replay::replay::{CallOn, add};
 use std::alloc::Allocator;
 use std::vec::Vec;
 

@@ -3,7 +3,7 @@
 ghost use Rattle.std.specs.Prelude.{◌≡◌};
 
 use super::Map;
-use rangemap_core::container::{Appending, Container};
+use rangemap_containers::container::{Appending, Container};
 use rangemap_core::key_range::KeyRange;
 use rangemap_core::store::StoreMut;
 use std::alloc::{AllocError, Allocator};

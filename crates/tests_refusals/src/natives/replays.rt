@@ -6,9 +6,9 @@ ghost use Rattle.rangemap.specs.Clones.{KeysCloneFaithfully, ValuesCloneFaithful
 use rangemap::map::Map;
 use rangemap::range_set::Set;
 use rangemap_chunked::Chunks;
+use rangemap_containers::replay::CallOn;
 use rangemap_core::half_open::HalfOpen;
 use rangemap_core::kind::Kind;
-use rangemap_replay::replay::CallOn;
 use rangemap_sorted::SortedVec;
 use rangemap_tree::Tree;
 use std::marker::PhantomData;

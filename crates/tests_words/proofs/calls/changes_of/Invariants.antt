@@ -1,5 +1,5 @@
 use Rattle.std.specs.List.{AllByRecursion}
-use Rattle.rangemap_replay.specs.Histories.{HasNonEmptyRange}
+use Rattle.rangemap_containers.specs.Histories.{HasNonEmptyRange}
 use Rattle.tests_words.proofs.calls.changes_of.Given as goal
 
 abbrev pub invariant-loop-call : goal.invariant-loop-call

@@ -6,10 +6,10 @@ use Rattle.rangemap_core.specs.Ranges.{IsCanonOfPoints, covers, unit_eq, with_un
 use Rattle.rangemap_core.specs.Sets.{Adds}
 use Rattle.rangemap_core.proofs.IncomingRangeLemmas.{listed}
 use Rattle.rangemap_core.proofs.IncomingLemmas.{taken_front}
-use Rattle.rangemap_replay.specs.Histories.{Makes}
+use Rattle.rangemap_containers.specs.Histories.{Makes}
 use Rattle.rangemap.specs.SetHistories.{SetHasNonEmptyRanges, SetStep}
 use Rattle.rangemap.specs.declared.range_set.calls.SetCall.TheVariants.{FromIter}
-use Rattle.rangemap_replay.proofs.ReplayLemmas.{added_or_not, new_made}
+use Rattle.rangemap_containers.proofs.ReplayLemmas.{added_or_not, new_made}
 use Rattle.rangemap.proofs.SetReplayLemmas.{extend_here, extend_past, from_iter_made}
 use Rattle.rangemap.proofs.SetRoundTripLemmas.{unit_equiv}
 use Rattle.rangemap.proofs.range_set.calls.SetCallRangeAllocCallOnSet.make.Goals as goal

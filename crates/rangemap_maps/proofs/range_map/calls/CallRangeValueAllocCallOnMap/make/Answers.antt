@@ -4,8 +4,8 @@ use Rattle.std.proofs.lemmas.Result.{IfOk-weaker, MatchResult-weaker}
 use Rattle.std.specs.Vec.Iter.{into_iter_items}
 use Rattle.rangemap_core.specs.Ranges.{IsCanonOf, nothing, override_all}
 use Rattle.rangemap_core.proofs.IncomingLemmas.{listed, taken_front}
-use Rattle.rangemap_replay.specs.Histories.{Makes}
-use Rattle.rangemap_replay.proofs.ReplayLemmas.{added_or_not, new_made}
+use Rattle.rangemap_containers.specs.Histories.{Makes}
+use Rattle.rangemap_containers.proofs.ReplayLemmas.{added_or_not, new_made}
 use Rattle.rangemap_maps.specs.MapHistories.{HasNonEmptyRanges, Step}
 use Rattle.rangemap_maps.specs.declared.range_map.calls.Call.TheVariants.{FromIter}
 use Rattle.rangemap_maps.proofs.MapReplayLemmas.{extend_here, extend_past, from_iter_made}

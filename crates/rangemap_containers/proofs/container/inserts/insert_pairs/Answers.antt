@@ -1,0 +1,23 @@
+use Rattle.std.proofs.Common.{subst, sym}
+use Rattle.rangemap_core.specs.Ranges.{Overrides}
+use Rattle.rangemap_core.proofs.CanonLemmas.{Overrides-last, Overrides-none}
+use Rattle.rangemap_core.proofs.IncomingLemmas.{at_turn, where_refused}
+use Rattle.rangemap_containers.proofs.container.inserts.insert_pairs.Goals as goal
+
+pub loop-range-init : goal.loop-range-init
+loop-range-init g c = Overrides-none g.M.Kind.Kind.kind g.met.M.Value.Eq.laws _ c.known.ensures
+
+pub insert-requires-clause-non_empty : goal.insert-requires-clause-non_empty
+insert-requires-clause-non_empty g c =
+    let it = c.into_iter-range-iterator in
+    at_turn g.M.Kind.Kind.kind it.result c.loop-range.yielded c.loop-range.range-iterator (c.in-Some.range, c.in-Some.value) c.next.new.self (c.requires.non_empty it.result it.ensures.into_iter_gives) c.loop-range.yielded_by c.in-Some.ensures.steps
+
+pub loop-range-preserved : goal.loop-range-preserved
+loop-range-preserved g c =
+    Overrides-last g.M.Kind.Kind.kind g.met.M.Value.Eq.laws (g.M.Container.pairs c.args.map.now) (g.M.Container.pairs c.loop-range.map) (g.M.Container.pairs c.insert.new.self) c.loop-range.yielded (c.in-Some.range, c.in-Some.value) c.loop-range.invariant c.in_ok-insert.ensures.ok
+
+pub returns-in_err-insert : goal.returns-in_err-insert
+returns-in_err-insert g c =
+    let it = c.into_iter-range-iterator in
+    let kept = subst (Overrides g.M.Kind.Kind.kind g.M.Value.PartialEq.eq (g.M.Container.pairs c.args.map.now) c.loop-range.yielded) (sym c.in_err-insert.ensures.err) c.loop-range.invariant in
+    (it.result, c.loop-range.yielded, it.ensures.into_iter_gives, kept, where_refused _ c.from_residual.result c.from_residual.ensures.0 (c.loop-range.range-iterator, c.loop-range.yielded_by))

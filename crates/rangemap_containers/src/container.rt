@@ -1,0 +1,186 @@
+//! What every container of the library does, for code that is written once for all of them.
+//!
+//! A container says what it is (its keys, its ranges, their kind, its values, its allocator) and
+//! makes its public calls. Contracts see it as the list of its pairs, in the words of
+//! `Ranges.antt` of `rangemap_core`; of a set the values are `()`. The JSON form, the laws, the replays, the
+//! program and the tests ask for no more.
+//!
+//! A call that every container has is added here, and in the file `container.rt` of the map and of
+//! the set.
+ghost use Rattle.std.specs.Prelude.{◌≡◌, ◌-◌, List, [], IfOk, IsOk, OnErr, OnOk, is_some, length, map, nat_eq, nat_lt, slice_get, true};
+ghost use Rattle.std.specs.Option.{option_copied, option_map};
+ghost use Rattle.rangemap_core.specs.Appends.{Appends, AppendsGaps};
+ghost use Rattle.rangemap_core.specs.Clones.{KeysCloneFaithfully, ValuesCloneFaithfully};
+ghost use Rattle.rangemap_core.specs.Ranges.{AreGaps, IsCanonOf, IsCanonical, covering, erase, overlapped, override, same_pairs, value_at};
+
+use rangemap_core::key_range::KeyRange;
+use rangemap_core::kind::Kind;
+use std::alloc::{AllocError, Allocator};
+
+mod appends;
+mod inserts;
+
+pub use appends::Appending;
+pub use inserts::insert_pairs;
+
+/// A container of disjoint ranges to values, two of which are equal where their pairs are.
+///
+/// A method that bears the name of a public call makes that call, at its cost; of sets those that
+/// speak of values or pairs make `contains`, `get`, `first` and `last`. So code that is generic over
+/// containers, as the replay and the laws, is proved of the calls that users make. The appends give
+/// clones of what `iter`, `overlapping` and `gaps` lend or make.
+pub trait Container: PartialEq + Drop {
+    /// A stored range.
+    type Range: KeyRange;
+
+    /// What a range is mapped to.
+    type Value: Eq + Clone;
+
+    /// What the memory comes from.
+    type Alloc: Allocator;
+
+    /// The kind of the ranges.
+    type Kind: Kind<Self::Range>;
+
+    /// The stored pairs, in order.
+    ghost pairs: { Self → List (Self.Range × Self.Value) };
+
+    /// Does nothing, and tells that the list of a container at hand is canonical.
+    fn known(&self)
+        ensures { IsCanonical Self.Kind.kind Self.Value.eq (pairs self.now) };
+
+    /// Makes an empty container over the steps of its kind, whose memory will come from `alloc`. Half-open
+    /// ranges have no steps.
+    fn new_with_step_fns(alloc: Self::Alloc) -> Self
+        ensures { pairs result ≡ [] };
+
+    /// Gives every key of `range`, which is not empty, the `value`, whatever it had before. The
+    /// caller sees to it that a clone of a key or value equals its original. `Err` says that memory
+    /// or a clone was refused: then the container is as it was.
+    fn insert(&mut self, range: Self::Range, value: Self::Value) -> Result<(), AllocError>
+        requires non_empty { Self.Kind.kind.IsNonEmpty range }
+        requires faithful_keys { KeysCloneFaithfully Self.Range.Key.is_clone Self.Range.Key.cmp }
+        requires faithful_values { ValuesCloneFaithfully Self.Value.is_clone Self.Value.eq }
+        ensures ok { OnOk result (IsCanonOf Self.Kind.kind Self.Value.eq (override Self.Kind.kind (value_at Self.Kind.kind (pairs self.old)) range value) (pairs self.new)) }
+        ensures err { OnErr result (pairs self.new ≡ pairs self.old) };
+
+    /// Takes every key of `range` out. The conditions, and what `Err` says, are those of `insert`.
+    /// Where nothing stored overlaps the range, nothing is refused and nothing changes.
+    fn remove(&mut self, range: Self::Range) -> Result<(), AllocError>
+        requires non_empty { Self.Kind.kind.IsNonEmpty range }
+        requires faithful_keys { KeysCloneFaithfully Self.Range.Key.is_clone Self.Range.Key.cmp }
+        requires faithful_values { ValuesCloneFaithfully Self.Value.is_clone Self.Value.eq }
+        ensures ok { OnOk result (IsCanonOf Self.Kind.kind Self.Value.eq (erase Self.Kind.kind (value_at Self.Kind.kind (pairs self.old)) range) (pairs self.new)) }
+        ensures err { OnErr result (pairs self.new ≡ pairs self.old) }
+        ensures meets_nothing { overlapped Self.Kind.kind (pairs self.old) range ≡ [] → IsOk result × (pairs self.new ≡ pairs self.old) };
+
+    /// Takes every key out. It takes no memory.
+    fn clear(&mut self)
+        ensures { pairs self.new ≡ [] };
+
+    /// Makes an equal container out of clones, in memory of a clone of this one's allocator. The
+    /// conditions are those of `insert`.
+    ///
+    /// # Errors
+    ///
+    /// `Err` says that memory or a clone was refused.
+    fn clone(&self) -> Result<Self, AllocError>
+        requires faithful_keys { KeysCloneFaithfully Self.Range.Key.is_clone Self.Range.Key.cmp }
+        requires faithful_values { ValuesCloneFaithfully Self.Value.is_clone Self.Value.eq }
+        ensures same { IfOk result (λ copy. same_pairs Self.Kind.kind Self.Value.eq (pairs self.now) (pairs copy) ≡ true) }
+        ensures canon { IfOk result (λ copy. IsCanonOf Self.Kind.kind Self.Value.eq (value_at Self.Kind.kind (pairs self.now)) (pairs copy)) };
+
+    /// Returns the number of stored ranges.
+    fn len(&self) -> usize
+        ensures { result ≡ length (pairs self.now) };
+
+    /// Whether no range is stored.
+    fn is_empty(&self) -> bool
+        ensures { result ≡ nat_eq (length (pairs self.now)) 0 };
+
+    /// Returns the value of the stored range that has the key.
+    fn get(&self, key: &<Self::Range as KeyRange>::Key) -> Option<&Self::Value>
+        ensures { option_copied result ≡ value_at Self.Kind.kind (pairs self.now) key.now };
+
+    /// Returns the stored range that has the key, and its value.
+    fn get_key_value(
+        &self,
+        key: &<Self::Range as KeyRange>::Key,
+    ) -> Option<(&Self::Range, &Self::Value)>
+        ensures { option_map (λ pair. (pair.0.now, pair.1.now)) result ≡ covering Self.Kind.kind (pairs self.now) key.now };
+
+    /// Whether a stored range has the key.
+    fn contains_key(&self, key: &<Self::Range as KeyRange>::Key) -> bool
+        ensures { result ≡ is_some (covering Self.Kind.kind (pairs self.now) key.now) };
+
+    /// Returns the first stored range and its value.
+    fn first_range_value(&self) -> Option<(&Self::Range, &Self::Value)>
+        ensures { option_map (λ pair. (pair.0.now, pair.1.now)) result ≡ slice_get (pairs self.now) 0 };
+
+    /// Returns the last stored range and its value.
+    fn last_range_value(&self) -> Option<(&Self::Range, &Self::Value)>
+        ensures { option_map (λ pair. (pair.0.now, pair.1.now)) result ≡ slice_get (pairs self.now) (length (pairs self.now) - 1) };
+
+    /// Whether a stored range overlaps `range`, of which nothing is asked.
+    fn overlaps(&self, range: &Self::Range) -> bool
+        ensures { result ≡ nat_lt 0 (length (overlapped Self.Kind.kind (pairs self.now) range.now)) };
+
+    /// Appends clones of all pairs, in order, so that they outlive the container. The caller sees to
+    /// it that a clone of a key or value equals its original. `Err` says that a clone, or the growth
+    /// of `out`, was refused: then `out` is as it was.
+    fn append_all<B: Allocator>(
+        &self,
+        out: &mut Vec<(Self::Range, Self::Value), B>,
+    ) -> Result<(), AllocError>
+        requires faithful_keys { KeysCloneFaithfully Self.Range.Key.is_clone Self.Range.Key.cmp }
+        requires faithful_values { ValuesCloneFaithfully Self.Value.is_clone Self.Value.eq }
+        ensures ok { OnOk result (Appends Self.Kind.kind Self.Value.eq (pairs self.now) out.old.items out.new.items) }
+        ensures err { OnErr result (out.new.items ≡ out.old.items) };
+
+    /// Appends clones of the pairs that overlap `range`, in order. Nothing is asked of `range`; the
+    /// other conditions, and what `Err` says, are those of `append_all`.
+    fn append_overlapping<B: Allocator>(
+        &self,
+        range: &Self::Range,
+        out: &mut Vec<(Self::Range, Self::Value), B>,
+    ) -> Result<(), AllocError>
+        requires faithful_keys { KeysCloneFaithfully Self.Range.Key.is_clone Self.Range.Key.cmp }
+        requires faithful_values { ValuesCloneFaithfully Self.Value.is_clone Self.Value.eq }
+        ensures ok { OnOk result (Appends Self.Kind.kind Self.Value.eq (overlapped Self.Kind.kind (pairs self.now) range.now) out.old.items out.new.items) }
+        ensures err { OnErr result (out.new.items ≡ out.old.items) };
+
+    /// Appends the parts of `outer_range` that no stored range covers, in order. Nothing is asked of
+    /// `outer_range`; the caller sees to it that a clone of a key equals its original, and `Err`
+    /// says what it says of `append_all`.
+    fn append_gaps<B: Allocator>(
+        &self,
+        outer_range: &Self::Range,
+        out: &mut Vec<Self::Range, B>,
+    ) -> Result<(), AllocError>
+        requires faithful_keys { KeysCloneFaithfully Self.Range.Key.is_clone Self.Range.Key.cmp }
+        ensures ok { OnOk result (AppendsGaps Self.Kind.kind (map (λ pair. pair.0) (pairs self.now)) outer_range.now out.old.items out.new.items) }
+        ensures err { OnErr result (out.new.items ≡ out.old.items) };
+
+    /// Maps are equal where their pairs are.
+    ghost equal: { (left right : Self) → Self.eq left right ≡ same_pairs Self.Kind.kind Self.Value.eq (pairs left) (pairs right) };
+}
+
+/// Collects the gaps of `outer_range` into a vector, with memory of `alloc`: the parts of it that no
+/// stored range covers, in order. It takes *O*(log *n* + *k*), with *k* stored ranges that
+/// `outer_range` overlaps.
+///
+/// # Errors
+///
+/// `Err` says that the memory of the vector, or a clone of a key, was refused.
+pub fn collect_gaps<M: Container, B: Allocator>(
+    alloc: B,
+    stored: &M,
+    outer_range: &M::Range,
+) -> Result<Vec<M::Range, B>, AllocError>
+    requires { KeysCloneFaithfully M.Range.Key.is_clone M.Range.Key.cmp }
+    ensures { IfOk result (λ gaps. AreGaps M.Kind.kind (map (λ pair. pair.0) (M.pairs stored.now)) outer_range.now gaps.items) }
+{
+    let mut gaps = Vec::new(alloc);
+    stored.append_gaps(outer_range, &mut gaps)?;
+    Ok(gaps)
+}

@@ -1,0 +1,124 @@
+//! The run of any calls on a list of containers, written once for all of them and for every sort of
+//! call.
+//!
+//! A sort of call is a type with the trait `CallOn`: `Change` for every container, `Call` for maps
+//! and `SetCall` for sets, of which each stands beside the container that it is for. Each container's
+//! module gives users the runs under its own name.
+ghost use Rattle.std.specs.Prelude.{◌≡◌, ◌+◌, ◌<◌, ◌≤◌, [], Bool, IfOk, List, OnErr, Option, vec_len, vec_capacity};
+ghost use Rattle.std.specs.List.{AllByRecursion};
+ghost use Rattle.rangemap_core.specs.Clones.{KeysCloneFaithfully, ValuesCloneFaithfully};
+ghost use Rattle.rangemap_containers.specs.Histories.{Makes, MakesAll, Run};
+
+use crate::container::Container;
+use std::alloc::{AllocError, Allocator};
+
+mod changes;
+
+pub use changes::add;
+
+/// A call on a list of containers of type `M`.
+pub trait CallOn<M: Container>: Drop {
+    /// That no range that the call is given is empty.
+    ghost has_non_empty: { Self → Type 0 };
+
+    /// What the call makes of the functions that the containers stand for, by its answer.
+    ghost step: { List (M.Range.Key → Option M.Value) → Self → Bool → List (M.Range.Key → Option M.Value) → Type 0 };
+
+    /// Makes the call, with `alloc` for a container that it adds at the end, and answers whether it
+    /// was accepted. For that one there is room in the list, so that the call alone can be refused.
+    fn make(self, alloc: M::Alloc, maps: &mut Vec<M, M::Alloc>) -> bool
+        requires room { vec_len maps.old < vec_capacity maps.old }
+        requires non_empty { has_non_empty self }
+        requires faithful_keys { KeysCloneFaithfully M.Range.Key.is_clone M.Range.Key.cmp }
+        requires faithful_values { ValuesCloneFaithfully M.Value.is_clone M.Value.eq }
+        ensures made { Makes M.Kind.kind M.Value.eq M.pairs step maps.old.items self result maps.new.items }
+        ensures len { vec_len maps.new ≤ vec_len maps.old + 1 }
+        ensures capacity { vec_capacity maps.old ≤ vec_capacity maps.new };
+}
+
+/// Makes any list of calls, in order, on a list of containers, and answers of each whether it was
+/// accepted.
+///
+/// Each container's module gives it under its own path, with its sorts of call: `map::replay` takes
+/// a `map::Call` or a `map::Change`. A `Change::New` makes its container by `new_with_step_fns`, and
+/// that of a `Call` by `new`. So over steps of another type than the key's there is `Change` alone,
+/// and `replay_with_step_fns` is a name for the replay of these.
+///
+/// A call names a container by its place in the list; an operator of sets names two. A call that
+/// makes a container adds it at the end; where it is refused none is added. A call that names a
+/// place at which none is isn't made, and counts as refused.
+///
+/// The contract, in `MakesAll`, is what this function is for. Whatever point functions the
+/// containers stood for, they then stand for the functions that the accepted calls give by
+/// overriding and erasing, and by what the operators make of two; and each container's list is the
+/// canonical list of its function. A refused call changes no function, but that a refused `Extend`
+/// counts for some beginning of its items. A `New` is accepted; so is a `Clear`, and a `Remove` of a
+/// range at no point of which the function is defined, where they name a container.
+///
+/// # Requires
+///
+/// No range is empty, or was iterated to its end, and clones are faithful, as for `insert`.
+///
+/// # Errors
+///
+/// The memory for the answers, for the containers to come or for the allocators to hand to them, one
+/// for each call, or a clone of `alloc`, was refused. Then no call was made, and the containers are
+/// as they were.
+///
+/// # Examples
+///
+/// ```text
+/// let mut maps = Vec::new(alloc);
+/// let insert = Call::Change(Change::Insert { at: 0, range: 0..10, value: 'a' });
+/// let clear = Call::Change(Change::Clear { at: 7 });
+/// let calls = [Call::Change(Change::New), insert, clear];
+/// let answers = replay(alloc, &mut maps, Vec::from_array(alloc, calls)?)?; // true, true, false
+/// ```
+pub fn replay<M: Container, C: CallOn<M>>(
+    alloc: M::Alloc,
+    maps: &mut Vec<M, M::Alloc>,
+    calls: Vec<C, M::Alloc>,
+) -> Result<Vec<bool, M::Alloc>, AllocError>
+where
+    M::Alloc: Clone,
+    requires non_empty { AllByRecursion C.has_non_empty calls.items }
+    requires faithful_keys { KeysCloneFaithfully M.Range.Key.is_clone M.Range.Key.cmp }
+    requires faithful_values { ValuesCloneFaithfully M.Value.is_clone M.Value.eq }
+    ensures ok { IfOk result (λ answers. MakesAll M.Kind.kind M.Value.eq M.pairs C.step maps.old.items calls.items answers.items maps.new.items) }
+    ensures err { OnErr result (maps.new.items ≡ maps.old.items) }
+{
+    let count = calls.len();
+    maps.reserve(count)?;
+    let mut answers = Vec::with_capacity(alloc.clone()?, count)?;
+    let mut allocators = Vec::with_capacity(alloc.clone()?, count)?;
+    for _ in 0..count {
+        allocators.push(alloc.clone()?)?;
+    }
+    make_all(allocators, maps, calls, &mut answers);
+    Ok(answers)
+}
+
+// Makes the calls, for which there is room, with an allocator for each.
+fn make_all<M: Container, C: CallOn<M>>(
+    mut allocators: Vec<M::Alloc, M::Alloc>,
+    maps: &mut Vec<M, M::Alloc>,
+    calls: Vec<C, M::Alloc>,
+    answers: &mut Vec<bool, M::Alloc>,
+)
+    requires allocators { vec_len allocators ≡ vec_len calls }
+    requires room { vec_len maps.old + vec_len calls ≤ vec_capacity maps.old }
+    requires room_for_answers { vec_len calls ≤ vec_capacity answers.old }
+    requires no_answers { answers.old.items ≡ [] }
+    requires non_empty { AllByRecursion C.has_non_empty calls.items }
+    requires faithful_keys { KeysCloneFaithfully M.Range.Key.is_clone M.Range.Key.cmp }
+    requires faithful_values { ValuesCloneFaithfully M.Value.is_clone M.Value.eq }
+    ensures { Run (Makes M.Kind.kind M.Value.eq M.pairs C.step) maps.old.items calls.items answers.new.items maps.new.items }
+{
+    for call in calls {
+        let accepted = match allocators.pop() {
+            Some(alloc) => call.make(alloc, maps),
+            None => unreachable!(),
+        };
+        answers.push_reserved(accepted);
+    }
+}

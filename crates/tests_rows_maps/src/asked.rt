@@ -1,0 +1,156 @@
+//! What maps hand over, and what the text of rows asks of them.
+ghost use Rattle.rangemap.specs.Clones.{KeysCloneFaithfully, ValuesCloneFaithfully};
+
+use rangemap::container::{Container, segments};
+use rangemap::map::Map;
+use rangemap_core::key_range::KeyRange;
+use rangemap_core::kind::Kind;
+use rangemap_core::store::{HandsOver, StoreMut};
+use std::alloc::Global;
+use std::fmt::Debug;
+use std::test::Fail;
+use tests_row_checks::{
+    check_both_ends, check_counted_back, check_replay, check_rows, check_three,
+};
+use tests_support::{
+    FromEnds, InRows, Word, changes_of, check_text, lists, map_of, parts, query_of, three_lists,
+};
+
+/// What text asks of maps over any steps.
+#[derive(Drop)]
+pub enum Rows<'t> {
+    /// What each row of a table says is answered.
+    Table(&'t str),
+    /// A replay of changes: which of them are accepted, and what each map holds then.
+    Changes(&'t str),
+}
+
+/// Compares what containers answer.
+pub fn check_answers<M: InRows<Alloc = Global>>(alloc: Global, asked: &Rows<'_>) -> Result<(), Fail>
+    requires faithful_keys { KeysCloneFaithfully M.Range.Key.is_clone M.Range.Key.cmp }
+    requires faithful_values { ValuesCloneFaithfully M.Value.is_clone M.Value.eq }
+{
+    match asked {
+        Rows::Table(table) => check_rows::<M>(alloc, *table),
+        Rows::Changes(row) => {
+            let (calls, accepted, lists) = parts(*row)?;
+            let changes = changes_of::<M::Kind, M::Range, M::Value, Global>(alloc, calls)?;
+            check_replay::<M, _>(alloc, changes, accepted, lists)
+        }
+    }
+}
+
+/// What a test asks of maps whose keys have steps of their own, or none.
+#[derive(Drop)]
+pub enum Asked<'t> {
+    /// The three pairs of a list are handed over, in order. Their texts have semicolons between them.
+    HandedOver(&'t str, &'t str),
+    /// The one pair of a list is handed over, and none behind it at either end.
+    OneHandedOver(&'t str),
+    /// The text of the stretches of a map, for each query.
+    Stretches {
+        pairs: &'t str,
+        queries: &'t str,
+        text: &'t str,
+    },
+}
+
+/// Compares what maps over a store answer.
+pub fn check_asked<
+    S: HandsOver<Range: FromEnds + Debug, Value: Debug, Alloc = Global> + StoreMut + Drop,
+>(alloc: Global, asked: &Asked<'_>) -> Result<(), Fail>
+where
+    <S::Range as KeyRange>::Key: Word<Global> + Debug,
+    S::Value: Word<Global>,
+    S::Kind: Kind<S::Range, Steps = <S::Range as KeyRange>::Key>,
+    requires faithful_keys { KeysCloneFaithfully S.Range.Key.is_clone S.Range.Key.cmp }
+    requires faithful_values { ValuesCloneFaithfully S.Value.is_clone S.Value.eq }
+{
+    match asked {
+        Asked::HandedOver(pairs, texts) => check_handed_over::<S>(alloc, *pairs, *texts),
+        Asked::OneHandedOver(pair) => {
+            let map = map_of::<S>(alloc, *pair)?;
+            let copy = map.clone()?;
+            check_both_ends(map.into_iter(), copy.into_iter())
+        }
+        Asked::Stretches {
+            pairs,
+            queries,
+            text,
+        } => {
+            let map = map_of::<S>(alloc, *pairs)?;
+            check_stretches(alloc, &map, *queries, *text)
+        }
+    }
+}
+
+/// Compares the three pairs that a map hands over: to a loop, and from both ends.
+fn check_handed_over<S: HandsOver<Range: Debug, Value: Debug, Alloc = Global> + StoreMut + Drop>(
+    alloc: Global,
+    pairs: &str,
+    texts: &str,
+) -> Result<(), Fail>
+where
+    <S::Range as KeyRange>::Key: Word<Global>,
+    S::Value: Word<Global>,
+    S::Kind: Kind<S::Range, Steps = <S::Range as KeyRange>::Key>,
+    requires faithful_keys { KeysCloneFaithfully S.Range.Key.is_clone S.Range.Key.cmp }
+    requires faithful_values { ValuesCloneFaithfully S.Value.is_clone S.Value.eq }
+{
+    let map = map_of::<S>(alloc, pairs)?;
+    check_loop(alloc, map.clone()?, texts)?;
+    let copy = map.clone()?;
+    check_three_handed(alloc, map.into_iter(), copy.into_iter(), texts)
+}
+
+/// Compares the three pairs over which a loop goes.
+fn check_loop<S: HandsOver<Range: Debug, Value: Debug>>(
+    alloc: Global,
+    map: Map<S>,
+    texts: &str,
+) -> Result<(), Fail>
+where
+    S::Kind: Kind<S::Range, Steps = <S::Range as KeyRange>::Key>,
+{
+    let mut handed = Vec::new(alloc);
+    for pair in map {
+        handed.push(pair)?;
+    }
+    let (first, middle, last) = three_lists(texts)?;
+    let text = format!(in alloc; "[{first}, {middle}, {last}]")?;
+    check_text(alloc, &handed, text.as_str())
+}
+
+/// Compares the three pairs that two iterators hand over which are alike, from both ends.
+fn check_three_handed<I: DoubleEndedIterator<Item: Debug + Drop>>(
+    alloc: Global,
+    pairs: I,
+    again: I,
+    texts: &str,
+) -> Result<(), Fail>
+    requires { (it : I) → I.can_next it × I.can_next_back it }
+{
+    let (first, middle, last) = three_lists(texts)?;
+    check_three(alloc, pairs, [first, middle, last], true)?;
+    check_counted_back(alloc, again, [first, middle, last])
+}
+
+/// Compares the stretches of a container, for each query.
+fn check_stretches<M: Container<Range: FromEnds + Debug, Value: Debug>>(
+    alloc: Global,
+    stored: &M,
+    queries: &str,
+    text: &str,
+) -> Result<(), Fail>
+where
+    <M::Range as KeyRange>::Key: Word<Global> + Debug,
+    M::Kind: Kind<M::Range, Steps = <M::Range as KeyRange>::Key>,
+    requires faithful_keys { KeysCloneFaithfully M.Range.Key.is_clone M.Range.Key.cmp }
+    requires faithful_values { ValuesCloneFaithfully M.Value.is_clone M.Value.eq }
+{
+    let mut found = Vec::new(alloc);
+    for query in lists(alloc, queries)? {
+        found.push(segments(alloc, stored, &query_of(alloc, query)?)?)?;
+    }
+    check_text(alloc, &found, text)
+}

@@ -1,0 +1,107 @@
+//! What maps lend: their pairs, and the gaps between them.
+ghost use Rattle.rangemap.specs.Clones.{KeysCloneFaithfully};
+
+use rangemap::map::Map;
+use rangemap_core::cursor::Cursor;
+use rangemap_core::gaps::Gaps;
+use rangemap_core::key_range::KeyRange;
+use rangemap_core::kind::Kind;
+use rangemap_core::store::Lends;
+use std::alloc::Global;
+use std::fmt::Debug;
+use std::test::Fail;
+use tests_row_checks::{check_both_ends, check_three, check_tries};
+use tests_support::three_lists;
+
+/// What a test asks of a map that lends its pairs.
+#[derive(Drop)]
+pub enum Lent<R> {
+    /// What it lends of all pairs.
+    All(All),
+    /// What it lends in a range.
+    In(R, In),
+}
+
+/// What a test asks of all pairs. The answer is a text, where three have semicolons between them.
+#[derive(Drop)]
+pub enum All {
+    /// The pairs, of which there are three.
+    Three,
+    /// There is one pair, and none behind it at either end. No text tells of it.
+    One,
+}
+
+/// What a test asks in a range.
+#[derive(Drop)]
+pub enum In {
+    /// The pairs that overlap it, of which there are three.
+    Three,
+    /// One pair overlaps it, and there is none behind it at either end.
+    One,
+    /// The one gap.
+    OneGap,
+}
+
+/// Compares what a map lends of all its pairs.
+pub fn check_all<'a, S: Lends<'a, Range: Debug, Value: Debug>>(
+    alloc: Global,
+    map: &'a Map<S>,
+    asked: &All,
+    answer: &str,
+) -> Result<(), Fail>
+where
+    S::Range: 'a,
+    S::Value: 'a,
+{
+    match asked {
+        All::Three => check_three_pairs(alloc, map.iter(), answer, true),
+        All::One => check_both_ends(map.iter(), map.iter()),
+    }
+}
+
+/// Compares what a map lends in a range.
+pub fn check_in_range<'a, S: Lends<'a, Range: Debug, Value: Debug>>(
+    alloc: Global,
+    map: &'a Map<S>,
+    range: &'a S::Range,
+    asked: &In,
+    answer: &str,
+) -> Result<(), Fail>
+where
+    S::Range: 'a,
+    S::Value: 'a,
+    requires { KeysCloneFaithfully S.Range.Key.is_clone S.Range.Key.cmp }
+{
+    match asked {
+        In::Three => check_three_pairs(alloc, map.overlapping(range), answer, false),
+        In::One => check_both_ends(map.overlapping(range), map.overlapping(range)),
+        In::OneGap => {
+            let gaps = (map.gaps(range), map.gaps(range), map.gaps(range));
+            check_gap(alloc, gaps, answer)
+        }
+    }
+}
+
+/// Compares the three pairs that are lent.
+fn check_three_pairs<I: DoubleEndedIterator<Item: Debug + Drop>>(
+    alloc: Global,
+    pairs: I,
+    texts: &str,
+    is_counted: bool,
+) -> Result<(), Fail>
+    requires { (it : I) → I.can_next it × I.can_next_back it }
+{
+    let (first, middle, last) = three_lists(texts)?;
+    check_three(alloc, pairs, [first, middle, last], is_counted)
+}
+
+/// Compares the one gap of three iterators that are alike, and asks on.
+fn check_gap<Q: Kind<R>, R: KeyRange + Debug, C: Cursor<Range = R, Given: Drop, GivenValue: Drop>>(
+    alloc: Global,
+    gaps: (Gaps<'_, Q, R, C>, Gaps<'_, Q, R, C>, Gaps<'_, Q, R, C>),
+    gap: &str,
+) -> Result<(), Fail>
+    requires { KeysCloneFaithfully R.Key.is_clone R.Key.cmp }
+{
+    check_tries(alloc, gaps, Gaps::try_next, gap)
+}

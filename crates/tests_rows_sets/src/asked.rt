@@ -1,0 +1,119 @@
+//! What sets make and hand over, and what the text of rows asks of them.
+ghost use Rattle.rangemap.specs.Clones.{KeysCloneFaithfully};
+
+use crate::laws::{Laws, check_laws};
+use rangemap::range_set::Set;
+use rangemap_core::key_range::KeyRange;
+use rangemap_core::kind::Kind;
+use rangemap_core::store::{HandsOver, StoreMut};
+use std::alloc::Global;
+use std::fmt::Debug;
+use std::test::Fail;
+use tests_row_checks::{
+    check_both_ends, check_counted_back, check_replay, check_rows, check_three,
+};
+use tests_support::{
+    FromEnds, InRows, Word, changes_of, check_row, parts, set_of, three_lists, two_lists,
+};
+
+/// What a test asks of sets, which are made of text.
+#[derive(Drop)]
+pub enum Asked<'t> {
+    /// What each row of a table says is answered.
+    Rows(&'t str),
+    /// A replay of changes: which of them are accepted, and what each set holds then.
+    Changes(&'t str),
+    /// The three ranges of a list are handed over, in order. Their texts have semicolons between them.
+    HandedOver(&'t str, &'t str),
+    /// The one range of a list is handed over, and none behind it at either end.
+    OneHandedOver(&'t str),
+    /// Of two sets, with a semicolon between them, `|` makes a set, and `&` another.
+    Joined {
+        sets: &'t str,
+        either: &'t str,
+        common: &'t str,
+    },
+    /// The operators keep their laws.
+    Laws(Laws<'t>),
+}
+
+/// Compares what sets over a store answer.
+pub fn check_asked<
+    S: HandsOver<Range: FromEnds + Debug, Value = (), Alloc = Global> + StoreMut + Drop,
+>(alloc: Global, asked: &Asked<'_>) -> Result<(), Fail>
+where
+    <S::Range as KeyRange>::Key: Word<Global> + Debug,
+    S::Kind: Kind<S::Range, Steps = <S::Range as KeyRange>::Key>,
+    Set<S>: InRows<Range = S::Range, Value = (), Alloc = Global, Kind = S::Kind>,
+    requires { KeysCloneFaithfully S.Range.Key.is_clone S.Range.Key.cmp }
+{
+    match asked {
+        Asked::Rows(table) => check_rows::<Set<S>>(alloc, *table),
+        Asked::Changes(row) => check_changes::<S>(alloc, *row),
+        Asked::HandedOver(ranges, texts) => check_handed_over::<S>(alloc, *ranges, *texts),
+        Asked::OneHandedOver(range) => {
+            let set = set_of::<S>(alloc, *range)?;
+            let copy = set.clone()?;
+            check_both_ends(set.into_iter(), copy.into_iter())
+        }
+        Asked::Joined {
+            sets,
+            either,
+            common,
+        } => check_joined::<S>(alloc, *sets, *either, *common),
+        Asked::Laws(laws) => check_laws::<S>(alloc, laws),
+    }
+}
+
+/// Compares a replay of changes.
+fn check_changes<S: HandsOver<Range: FromEnds, Value = (), Alloc = Global> + StoreMut + Drop>(
+    alloc: Global,
+    row: &str,
+) -> Result<(), Fail>
+where
+    <S::Range as KeyRange>::Key: Word<Global>,
+    Set<S>: InRows<Range = S::Range, Value = (), Alloc = Global, Kind = S::Kind>,
+    requires { KeysCloneFaithfully S.Range.Key.is_clone S.Range.Key.cmp }
+{
+    let (calls, accepted, lists) = parts(row)?;
+    let changes = changes_of::<S::Kind, S::Range, (), Global>(alloc, calls)?;
+    check_replay::<Set<S>, _>(alloc, changes, accepted, lists)
+}
+
+/// Compares the three ranges that a set hands over, and its clone.
+fn check_handed_over<S: HandsOver<Range: Debug, Value = (), Alloc = Global> + StoreMut + Drop>(
+    alloc: Global,
+    ranges: &str,
+    texts: &str,
+) -> Result<(), Fail>
+where
+    <S::Range as KeyRange>::Key: Word<Global>,
+    S::Kind: Kind<S::Range, Steps = <S::Range as KeyRange>::Key>,
+    requires { KeysCloneFaithfully S.Range.Key.is_clone S.Range.Key.cmp }
+{
+    let (first, middle, last) = three_lists(texts)?;
+    let three = [first, middle, last];
+    let set = set_of::<S>(alloc, ranges)?;
+    check_three(alloc, set.clone()?.into_iter(), three, true)?;
+    check_counted_back(alloc, set.into_iter(), three)
+}
+
+/// Compares what the operators make of two sets.
+fn check_joined<S: HandsOver<Range: FromEnds, Value = (), Alloc = Global> + StoreMut + Drop>(
+    alloc: Global,
+    sets: &str,
+    either: &str,
+    common: &str,
+) -> Result<(), Fail>
+where
+    <S::Range as KeyRange>::Key: Word<Global>,
+    S::Kind: Kind<S::Range, Steps = <S::Range as KeyRange>::Key>,
+    Set<S>: InRows<Range = S::Range, Value = (), Alloc = Global, Kind = S::Kind>,
+    requires { KeysCloneFaithfully S.Range.Key.is_clone S.Range.Key.cmp }
+{
+    let (left, right) = two_lists(sets)?;
+    let left = set_of::<S>(alloc, left)?;
+    let right = set_of::<S>(alloc, right)?;
+    check_row(&(&left | &right)?, either)?;
+    check_row(&(&left & &right)?, common)
+}
