@@ -16,9 +16,9 @@ use std::{slice, vec};
 /// values: those that touch have no key between. `StepFnsT` is the type whose steps tell that,
 /// mostly `K` itself. It keeps them in one sorted vector.
 ///
-/// Those calls that take or give whole pairs and the texts exist where `StepFnsT` is `K`, and so does
-/// `new`. The range of an `insert` or a `remove` is not empty, `range.start() <= range.end()`, and was
-/// not iterated to its end.
+/// `new`, `from`, `from_iter`, `extend`, `into_iter`, `to_value`, `from_value` and `{:?}` exist where
+/// `StepFnsT` is `K`. The range of an `insert` or a `remove` is not empty,
+/// `range.start() <= range.end()`, and was not iterated to its end.
 ///
 /// # Examples
 ///

@@ -15,9 +15,9 @@ use std::{slice, vec};
 /// A set of keys in disjoint closed ranges, `a..=b`, which joins ranges that overlap or touch: those
 /// that touch have no key between. `StepFnsT` is the type whose steps tell that, mostly `T` itself.
 ///
-/// Those calls that take or give whole ranges, the texts and the operators exist where `StepFnsT` is
-/// `T`. The range of an `insert` or a `remove` is not empty, `range.start() <= range.end()`, and was
-/// not iterated to its end.
+/// `new`, `from`, `from_iter`, `extend`, `into_iter`, `|`, `&`, `to_value`, `from_value` and `{:?}`
+/// exist where `StepFnsT` is `T`. The range of an `insert` or a `remove` is not empty,
+/// `range.start() <= range.end()`, and was not iterated to its end.
 ///
 /// # Examples
 ///

@@ -39,7 +39,7 @@
 //! |---|---|
 //! | `RangeMap::new()` | `RangeMap::new(alloc)`: the allocator is handed over, and is the last type parameter |
 //! | a panic at an empty range | a condition on the caller, `non_empty` |
-//! | an abort where memory is wanting | `Result<_, AllocError>`; a refused call changes nothing |
+//! | an abort where memory is wanting | `Result<_, AllocError>`; a refused call changes nothing, a refused `extend` keeps a beginning |
 //! | `Clone`, `Extend`, `FromIterator`, `From` | the calls `clone`, `extend`, `from_iter`, `from` |
 //! | items of `gaps`, `union`, `intersection` | they are `Result`s, since their ends are clones |
 //! | `serde` | `to_value`, `from_value` |
@@ -55,7 +55,6 @@ pub mod inclusive_set;
 pub mod laws;
 mod macros;
 pub mod map;
-mod operator;
 pub mod range_set;
 mod segments;
 pub mod set;

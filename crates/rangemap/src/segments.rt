@@ -6,10 +6,12 @@ ghost use Rattle.rangemap_core.specs.Segments.{segments_of};
 
 use rangemap_containers::container::Container;
 use rangemap_core::common::common;
+use rangemap_core::cursor::Cursor;
 use rangemap_core::kind::known_ends;
 use rangemap_maps::range_map::Map;
 use rangemap_sorted::SortedVec;
 use std::alloc::{AllocError, Allocator};
+use std::iter::IntoIterator;
 
 /// Returns the keys of `query` as a map of their own, in memory of `alloc`: each stretch of them
 /// with its value, or with none; of a set the value is `()`.
@@ -49,12 +51,11 @@ pub fn segments<M: Container, B: Allocator + Clone>(
     if let Some(whole) = common::<M::Kind, M::Range>(query, query)? {
         all.insert(whole, None)?;
     }
-    let mut rest = found.as_slice();
-    'pairs: while let Some((pair, others)) = rest.split_first() {
-        if let Some(shared) = common::<M::Kind, M::Range>(query, &pair.0)? {
-            all.insert(shared, Some(pair.1.clone()?))?;
+    let mut rest = found.into_iter();
+    'pairs: while let Some((range, value)) = rest.take_first() {
+        if let Some(shared) = common::<M::Kind, M::Range>(query, &range)? {
+            all.insert(shared, Some(value))?;
         }
-        rest = others;
     }
     all.known();
     Ok(all)

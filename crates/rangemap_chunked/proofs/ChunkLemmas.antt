@@ -129,8 +129,8 @@ module _ {G P V : Type 0} (s : Shape G P V) (o : IsTotalOrder s.order) (e : IsEq
         pairs_of Q rises (get_or chunks at d) (spaced_at at d m) a.0 a.1 a.2 (from a.0 (passed_first test (get_or chunks at d) a.0 a.1 false a.2 (failed at d l m)))))
 
     -- chunks that start behind a place
-    pub clear_behind : (q : P) → PassesUpTo (chunk_by s q) chunks n → Every (λ b. s.order q (s.start_place b.0) ≡ Less) (whole (drop n chunks))
-    clear_behind q point = all_behind (starts_by s q) (λ b. s.order q (s.start_place b.0) ≡ Less) (λ a b rise h. lt_le_trans o _ _ _ h rise) (λ a h. grind (arith, h)) point.1
+    pub clear_behind : (q : P) → AllWithin (λ xs. chunk_by s q xs ≡ false) chunks n (length chunks) → Every (λ b. s.order q (s.start_place b.0) ≡ Less) (whole (drop n chunks))
+    clear_behind q failed = all_behind (starts_by s q) (λ b. s.order q (s.start_place b.0) ≡ Less) (λ a b rise h. lt_le_trans o _ _ _ h rise) (λ a h. grind (arith, h)) failed
 
     -- chunks that start there or behind it
     pub past_behind : (q : P) → AllWithin (λ xs. chunk_below s q xs ≡ false) chunks n (length chunks) → Every (λ b. is_gt (s.order q (s.start_place b.0)) ≡ false) (whole (drop n chunks))
@@ -158,10 +158,10 @@ module _ {G P V : Type 0} (s : Shape G P V) (o : IsTotalOrder s.order) (e : IsEq
         behind at is l = elim (cases_lt 0 n) [
           | inl some ↦
               let next : suc at ≡ n = omega arith in
-              covering_before (get_or chunks at d) (whole (drop (suc at) chunks)) q (covering_below s o (whole (drop (suc at) chunks)) q (subst (λ m. Every (λ b. s.order q (s.start_place b.0) ≡ Less) (whole (drop m chunks))) (sym next) (clear_behind q point)))
+              covering_before (get_or chunks at d) (whole (drop (suc at) chunks)) q (covering_below s o (whole (drop (suc at) chunks)) q (subst (λ m. Every (λ b. s.order q (s.start_place b.0) ≡ Less) (whole (drop m chunks))) (sym next) (clear_behind q point.1)))
           | inr none ↦
               let zero_n : n ≡ 0 = omega arith in
-              let all : Every (λ b. s.order q (s.start_place b.0) ≡ Less) (whole chunks) = subst (λ m. Every (λ b. s.order q (s.start_place b.0) ≡ Less) (whole (drop m chunks))) zero_n (clear_behind q point) in
+              let all : Every (λ b. s.order q (s.start_place b.0) ≡ Less) (whole chunks) = subst (λ m. Every (λ b. s.order q (s.start_place b.0) ≡ Less) (whole (drop m chunks))) zero_n (clear_behind q point.1) in
               let rest : Every (λ b. s.order q (s.start_place b.0) ≡ Less) (get_or chunks at d ++ whole (drop (suc at) chunks)) = Every-right _ (whole (take at chunks)) (get_or chunks at d ++ whole (drop (suc at) chunks)) (subst (Every (λ b. s.order q (s.start_place b.0) ≡ Less)) (whole_around chunks at d l) all) in
               covering_below s o (get_or chunks at d ++ whole (drop (suc at) chunks)) q rest
               ∙ sym (covering_below s o (get_or chunks at d) q (Every-left _ (get_or chunks at d) (whole (drop (suc at) chunks)) rest))
@@ -204,8 +204,8 @@ module _ {K X V : Type 0} {k : RangeKind K X} {end_place : X → Option K} {chun
     pub starts_past : PassesUpTo (chunk_below (S p eq) (Some (k.start r))) chunks n → (at : ℕ) → at ≡ n - 1 → IsPastStart (S p eq) chunks r (at + 1)
     starts_past point at is = Every-further (λ b. is_gt (place_cmp k.cmp (Some (k.start r)) (Some (k.start b.0))) ≡ false) chunks n (at + 1) (omega arith) (past_behind (S p eq) (places p eq) e chunks spaced_whole h.filled n bound (Some (k.start r)) point.1)
 
-    pub ends_clear : PassesUpTo (chunk_by (S p eq) (end_place r)) chunks n → IsClearBehind (S p eq) chunks r n
-    ends_clear point = clear_behind (S p eq) (places p eq) e chunks spaced_whole h.filled n bound (end_place r) point
+    pub ends_clear : AllWithin (λ xs. chunk_by (S p eq) (end_place r) xs ≡ false) chunks n (length chunks) → IsClearBehind (S p eq) chunks r n
+    ends_clear failed = clear_behind (S p eq) (places p eq) e chunks spaced_whole h.filled n bound (end_place r) failed
 
     pub ends_past : AllWithin (λ xs. chunk_below (S p eq) (end_place r) xs ≡ false) chunks n (length chunks) → IsPastBehind (S p eq) chunks r n
     ends_past failed = past_behind (S p eq) (places p eq) e chunks spaced_whole h.filled n bound (end_place r) failed

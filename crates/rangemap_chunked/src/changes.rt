@@ -8,7 +8,7 @@ ghost use Rattle.rangemap_chunked.specs.Chunks.{AreChunks, AreFilled, AreFilledB
 
 use crate::chunk::Chunk;
 use crate::joins::settle;
-use crate::search::{begins_by_end, end_from, is_refused, start_of};
+use crate::search::{begins_by_end, end_from, first_failing, is_refused, start_of};
 use crate::wide::change_over;
 use rangemap_core::key_range::KeyRange;
 use rangemap_core::kind::{Kind, known_ends};
@@ -43,9 +43,13 @@ pub fn insert_into<Q: Kind<R>, R: KeyRange, V: Eq + Clone, A: Allocator + Clone,
         return insert_first::<Q, R, V, A>(chunks, range, value);
     }
     let at = start_of::<Q, R, V, A>(chunks, &range);
-    let end = chunks.partition_point(|chunk| begins_by_end::<Q, R, V, A>(chunk, &range));
+    let end = first_failing(
+        chunks,
+        at,
+        |chunk| begins_by_end::<Q, R, V, A>(chunk, &range),
+    );
     let change = change_over::<Q, R, V, A>(chunks, at, end, range, Some(value))?;
-    settle::<R, V, A, N>(chunks, at);
+    settle::<R, V, A, N>(chunks, at, true);
     Ok(change)
 }
 
@@ -101,7 +105,9 @@ pub fn remove_from<Q: Kind<R>, R: KeyRange, V: Eq + Clone, A: Allocator + Clone,
         return Err(AllocError);
     }
     let change = change_over::<Q, R, V, A>(chunks, at, end, range, None)?;
-    settle::<R, V, A, N>(chunks, at);
+    // A removal that meets nothing asks for no memory: it changes no chunk's size.
+    let is_resized = at + 1 < end || change.before != change.after;
+    settle::<R, V, A, N>(chunks, at, is_resized);
     Ok(change)
 }
 

@@ -12,8 +12,8 @@ ghost use Rattle.rangemap_sorted.specs.Changes.{IsChanged, grown};
 use crate::moves::{drop_first, move_back, move_one};
 use rangemap_core::key_range::KeyRange;
 use rangemap_core::kind::Kind;
-use rangemap_core::pairs::clone_pair;
 use rangemap_sorted::entries::changes;
+use rangemap_sorted::entries::clones::clone_pairs;
 use std::alloc::{AllocError, Allocator};
 use std::marker::Model;
 use std::vec;
@@ -114,9 +114,10 @@ impl<R, V, A: Allocator> Chunk<R, V, A> {
         self.pairs.append(&mut other.pairs)
     }
 
-    /// Gives memory back where half of the room is unused, as after a growth, which doubles the room,
-    /// or after removals. Room for a third more pairs than there are stays then, but for no fewer than
-    /// `least` and for no more than `most`. Where that is refused all room stays.
+    /// Gives memory back where not more than half of the room and one pair are used, as after a growth,
+    /// which doubles the room, or after removals. Room for a third more pairs than there are stays then,
+    /// but for no fewer than `least`, and for no more than `most` unless there are more pairs. Where that
+    /// is refused all room stays.
     pub fn give_back(&mut self, least: usize, most: usize)
         ensures { self.new ≡ self.old }
     {
@@ -199,10 +200,7 @@ impl<R: KeyRange, V: Eq + Clone, A: Allocator> Chunk<R, V, A> {
         ensures same { IfOk result (λ copy. same_pairs Q.kind V.eq self.now copy ≡ true) }
         ensures canon { IfOk result (λ copy. IsCanonOf Q.kind V.eq (value_at Q.kind self.now) copy) }
     {
-        let mut pairs = Vec::with_capacity(alloc, self.pairs.len())?;
-        for pair in &self.pairs {
-            pairs.push_reserved(clone_pair::<Q, R, V>(&pair.0, &pair.1)?);
-        }
+        let pairs = clone_pairs::<Q, R, V, A>(alloc, &self.pairs)?;
         Ok(Chunk { pairs })
     }
 }

@@ -14,7 +14,6 @@ use rangemap_core::reader::{Reader, ReaderOfBoth};
 use rangemap_core::store::{HandsOver, Lends, Store, StoreMut};
 use rangemap_sorted::entries::covering;
 use std::alloc::{AllocError, Allocator};
-use std::iter::{DoubleEndedIterator, Iterator};
 use std::marker::{Model, PhantomData};
 
 /// How many pairs a chunk has at most, in the containers that users name.
@@ -24,7 +23,8 @@ use std::marker::{Model, PhantomData};
 /// 1,730, 1,581 and 1,684 ns among 1,000,000; lookups, queries and iteration go with it.
 pub const SIZE: usize = 512;
 
-/// Pairs of a range and a value in chunks, each a sorted vector of up to `N` pairs.
+/// Pairs of a range and a value in chunks, each a sorted vector of up to `N` pairs, or of more where
+/// memory was refused for another one.
 ///
 /// A change moves pairs within one chunk alone, so it is the store for many thousands of ranges
 /// that change at random places. Each chunk owns a handle of the allocator, so that has to be one
@@ -42,8 +42,8 @@ pub const SIZE: usize = 512;
 /// | `copy` | *O*(*n*) | the chunks, clones |
 ///
 /// A change of a wide range drops whole chunks and moves none of their pairs. No chunk is ever
-/// empty, and two neighbours that have no more than half of `N` together become one, unless memory
-/// is refused for that.
+/// empty, and one that a change leaves small becomes one with a neighbour, where the two have no more
+/// than half of `N` together and memory is not refused for that.
 #[derive(Drop)]
 pub struct Chunks<Q: Kind<R>, R: KeyRange, V: Eq + Clone, A: Allocator, const N: usize> {
     chunks: Vec<Chunk<R, V, A>, A>,

@@ -198,11 +198,13 @@ fn put_in<R: Drop, V: Drop, A: Allocator>(
     chunks[at..].rotate_right(1);
 }
 
-/// Takes a chunk out that is empty, cuts one that is long, joins one that is small with its
-/// neighbours, and gives room back that is unused. They stay as they are where memory is refused.
+/// Takes a chunk out that is empty. One that has another size than before is cut where it is long,
+/// joined with its neighbours where it is small, and gives room back that is unused; it stays as it is
+/// where memory is refused.
 pub fn settle<R: Drop, V: Drop, A: Allocator + Clone, const N: usize>(
     chunks: &mut Vec<Chunk<R, V, A>, A>,
     at: usize,
+    is_resized: bool,
 )
     requires in_bounds { at < length chunks.old.items }
     requires before { AreFilled (take at chunks.old.items) }
@@ -213,6 +215,9 @@ pub fn settle<R: Drop, V: Drop, A: Allocator + Clone, const N: usize>(
     let chunk = &chunks[at];
     if chunk.len() == 0 {
         take_out(chunks, at);
+        return;
+    }
+    if !is_resized {
         return;
     }
     split::<R, V, A, N>(chunks, at);

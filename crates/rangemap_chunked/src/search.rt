@@ -1,12 +1,14 @@
 //! Where a key or a range lies among the chunks.
 //!
 //! No chunk is empty, and their lists, one after the other, are canonical.
-ghost use Rattle.std.specs.Prelude.{◌≡◌, ◌⊎◌, true, false, ◌+◌, ◌<◌, ◌≤◌, [], length, slice_index_or, nat_lt, IfSome, Some as SomeWord, None as NoneWord, MatchOption};
+ghost use Rattle.std.specs.Prelude.{◌≡◌, ◌⊎◌, Bool, List, true, false, ◌+◌, ◌<◌, ◌≤◌, [], length, slice_index_or, nat_lt, IfSome, Some as SomeWord, None as NoneWord, MatchOption};
+ghost use Rattle.std.specs.Fn.{ComputesKey};
 ghost use Rattle.std.specs.List.{AllWithin};
+ghost use Rattle.std.specs.List.Sorted.{IsPartitionedBy};
 ghost use Rattle.rangemap_core.specs.Ranges.{IsCanonical, covering, overlapped};
 ghost use Rattle.rangemap_core.specs.engine.Endpoints.{endpoint_of, place_of};
 ghost use Rattle.rangemap_core.specs.engine.Shape.{shape_of, starts_by};
-ghost use Rattle.rangemap_chunked.specs.Chunks.{IsClearBefore, IsLastTouched, AreChunks, IsPastBehind, IsPastStart, chunk_below, chunk_by, whole};
+ghost use Rattle.rangemap_chunked.specs.Chunks.{AreChunks, IsClearBefore, IsLastTouched, IsPastBehind, IsPastStart, chunk_below, chunk_by, whole};
 
 use crate::chunk::Chunk;
 use rangemap_core::cursor::Cursor;
@@ -81,7 +83,7 @@ pub fn chunk_with<'a, Q: Kind<R>, R: KeyRange, V: Eq, A: Allocator>(
     }
 }
 
-/// Returns the chunk from which on pairs may overlap the range or touch it.
+/// Returns the place of the chunk from which on pairs may overlap the range or touch it.
 pub fn start_of<Q: Kind<R>, R: KeyRange, V: Eq, A: Allocator>(
     chunks: &[Chunk<R, V, A>],
     range: &R,
@@ -99,8 +101,24 @@ pub fn start_of<Q: Kind<R>, R: KeyRange, V: Eq, A: Allocator>(
     count.saturating_sub(1)
 }
 
-/// Returns a chunk from which on no pair overlaps the range, where none before the chunk `at` does: the
-/// next one where that is so, for which one look suffices.
+/// Returns the place of the first item that fails the test, of a list whose first part passes it; the
+/// one behind `at` where that fails it, for which one look suffices.
+pub fn first_failing<T, P: Fn(&T) -> bool>(items: &[T], at: usize, passes: P) -> usize
+    requires in_bounds { at < length items.now }
+    requires callable { P.IsAlwaysCallable passes }
+    ensures bound { result ≤ length items.now }
+    ensures failing { (test : T → Bool) → ComputesKey P.FnMut test passes → IsPartitionedBy test items.now → AllWithin (λ item. test item ≡ false) items.now result (length items.now) }
+    ensures passing { (test : T → Bool) → ComputesKey P.FnMut test passes → IsPartitionedBy test items.now → at + 1 < result → AllWithin (λ item. test item ≡ true) items.now 0 result }
+{
+    let next = at + 1;
+    if next < items.len() && passes(&items[next]) {
+        return items.partition_point(passes);
+    }
+    next
+}
+
+/// Returns the place of a chunk from which on no pair overlaps the range, where none before the chunk
+/// `at` does.
 pub fn end_from<Q: Kind<R>, R: KeyRange, V: Eq, A: Allocator>(
     chunks: &[Chunk<R, V, A>],
     range: &R,
@@ -112,17 +130,11 @@ pub fn end_from<Q: Kind<R>, R: KeyRange, V: Eq, A: Allocator>(
     ensures clear { IsPastBehind (shape_of Q.kind Q.end_place V.eq) chunks.now range.now result }
     ensures begun { at + 1 < result → AllWithin (λ chunk. chunk_below (shape_of Q.kind Q.end_place V.eq) (Q.end_place range.now) chunk ≡ true) chunks.now 0 result }
 {
-    let next = at + 1;
-    if next == chunks.len() {
-        return next;
-    }
-    if starts_before::<Q, R, V, A>(&chunks[next], Endpoint::End(range)) {
-        return chunks.partition_point(|chunk| starts_before::<Q, R, V, A>(
-            chunk,
-            Endpoint::End(range),
-        ));
-    }
-    next
+    first_failing(
+        chunks,
+        at,
+        |chunk| starts_before::<Q, R, V, A>(chunk, Endpoint::End(range)),
+    )
 }
 
 // Whether the pair starts before the range ends, or there.

@@ -2,11 +2,11 @@
 //!
 //! A container says what it is (its keys, its ranges, their kind, its values, its allocator) and
 //! makes its public calls. Contracts see it as the list of its pairs, in the words of
-//! `Ranges.antt` of `rangemap_core`; of a set the values are `()`. The JSON form, the laws, the replays, the
-//! program and the tests ask for no more.
+//! `Ranges.antt` of `rangemap_core`; of a set the values are `()`. The laws, the replays, the program
+//! and the tests ask for no more.
 //!
-//! A call that every container has is added here, and in the file `container.rt` of the map and of
-//! the set.
+//! Where these ask for another call that every container has, it is added here, and in the file
+//! `container.rt` of the map and of the set.
 ghost use Rattle.std.specs.Prelude.{◌≡◌, ◌-◌, List, [], IfOk, IsOk, OnErr, OnOk, is_some, length, map, nat_eq, nat_lt, slice_get, true};
 ghost use Rattle.std.specs.Option.{option_copied, option_map};
 ghost use Rattle.rangemap_core.specs.Appends.{Appends, AppendsGaps};

@@ -10,7 +10,7 @@ ghost use Rattle.rangemap_core.specs.Clones.{KeysCloneFaithfully, ValuesCloneFai
 ghost use Rattle.rangemap_containers.specs.Histories.{Makes, MakesAll, Run};
 
 use crate::container::Container;
-use std::alloc::{AllocError, Allocator};
+use std::alloc::AllocError;
 
 mod changes;
 

@@ -12,7 +12,6 @@ ghost use Rattle.rangemap_core.specs.Touch.{IsTouch};
 use crate::key_range::KeyRange;
 use crate::std_ext::Touch;
 use std::alloc::AllocError;
-use std::cmp::Ordering;
 
 /// An endpoint of a range.
 #[derive(Drop)]
@@ -35,8 +34,9 @@ impl<'a, R> Copy for Endpoint<'a, R> {}
 
 /// A kind of range that may be stored: what the steps of keys decide.
 pub trait Kind<R: KeyRange> {
-    /// The type whose steps the keys take: the key type, where the ranges have no steps. `new`, and
-    /// what takes or gives whole ranges one after another, exist where it is the key type.
+    /// The type whose steps the keys take: the key type, where the ranges have no steps. `new`, `from`,
+    /// `from_iter`, `extend`, `into_iter`, `to_value`, `from_value`, `{:?}`, and of sets `|` and `&` exist
+    /// where it is the key type.
     type Steps;
 
     /// What contracts know of the ranges.

@@ -7,7 +7,7 @@ use crate::key_range::KeyRange;
 /// What reads pairs, one after another: it changes a state and gives an answer.
 ///
 /// A store hands its pairs to a reader (`Store::read`), since code over any store can't name the
-/// iterators that it lends: order, hash, texts and the JSON form are readers.
+/// iterators that it lends: hash, texts and the JSON form are readers.
 pub trait Reader<R: KeyRange, V> {
     /// What it changes.
     type State;

@@ -1,7 +1,8 @@
 //! What keeps the pairs of a map or a set: a sorted vector, a tree, chunks.
 //!
-//! `Store` and `StoreMut` are all that a representation has to do. `Map` and `Set` make every public
-//! call of them, so a store has no `extend`, no comparison, no text and no JSON form of its own.
+//! `Store`, `StoreMut`, `HandsOver` and `Lends` are all that a representation has to do. `Map` and
+//! `Set` make every public call of them, so a store has no `extend`, no comparison, no text and no
+//! JSON form of its own.
 ghost use Rattle.std.specs.Prelude.{◌≡◌, ◌-◌, ◌+◌, ◌≤◌, List, [], IfOk, IsOk, OnErr, OnOk, length, map, slice_get, true};
 ghost use Rattle.std.specs.Map.Iter.{deref_pair};
 ghost use Rattle.std.specs.Option.{option_map};
@@ -15,7 +16,6 @@ use crate::key_range::KeyRange;
 use crate::kind::Kind;
 use crate::reader::{Reader, ReaderOfBoth};
 use std::alloc::{AllocError, Allocator};
-use std::iter::Iterator;
 
 /// What keeps pairs of a range and a value, as a canonical list.
 ///

@@ -11,7 +11,6 @@ use rangemap_core::pairs::is_same;
 use rangemap_core::reader::ReaderOfBoth;
 use rangemap_core::store::Store;
 use std::cmp::Ordering;
-use std::iter::Iterator;
 use std::marker::PhantomData;
 
 /// Returns whether two stores hold equal pairs. It compares their numbers first, and stops at the

@@ -8,7 +8,6 @@ use rangemap_core::kind::Kind;
 use rangemap_core::reader::Reader;
 use rangemap_core::store::Store;
 use std::hash::{Hash, Hasher};
-use std::iter::Iterator;
 use std::marker::PhantomData;
 
 /// Feeds the hasher how many pairs there are, and then each pair's start, end and value.

@@ -3,7 +3,7 @@
 //!
 //! Keys and values are written and read by functions that the caller hands in. `writing` goes over
 //! the pairs of a store, and `reading` makes one; both leave to `entries` how an entry is laid out
-//! and what is called for its parts. A set is here the map to the unit that it wraps.
+//! and what is called for its parts. A set is here a store whose values are `()`.
 ghost use Rattle.std.specs.Prelude.{◌≡◌, IfErr, IfOk};
 ghost use Rattle.std.specs.Fn.{FnReturnsAt};
 ghost use Rattle.rangemap_core.specs.Clones.{KeysCloneFaithfully, ValuesCloneFaithfully};

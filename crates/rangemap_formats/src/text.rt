@@ -14,7 +14,6 @@ use rangemap_core::reader::Reader;
 use rangemap_core::store::Store;
 use std::fmt;
 use std::fmt::{Debug, Formatter};
-use std::iter::Iterator;
 use std::marker::PhantomData;
 
 /// Writes the pairs as `{0..100: "abc", 200..300: "ghi"}`. Under `{:#?}` each pair has a line of its

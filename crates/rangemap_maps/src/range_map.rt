@@ -171,7 +171,8 @@ where
         PairIter::over(self.stored.iter(), self.stored.len())
     }
 
-    /// Returns the pairs that end after the start of `range` and start before its end, in order.
+    /// Returns the pairs that end after the start of `range` and start before its end, of closed ranges
+    /// also those that end or start just there, in order.
     ///
     /// Nothing is asked of `range`. An empty one strictly inside a stored range meets it, and so
     /// does a reversed one whose ends lie inside.

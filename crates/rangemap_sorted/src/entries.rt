@@ -16,6 +16,7 @@ use rangemap_core::key_range::KeyRange;
 use rangemap_core::kind::Kind;
 
 pub mod changes;
+pub mod clones;
 pub mod stretch;
 
 /// Returns the pair whose range has the key, if there is one, and how many starts were asked

@@ -1,7 +1,7 @@
 //! The pairs of a map or a set in one sorted vector.
 //!
 //! The engine goes over slices of pairs, for any kind of range: the search by halving, what a query
-//! meets, gaps, and the changes, which make every clone and all room that they need first.
+//! meets, and the changes, which make every clone and all room that they need first.
 //! `SortedVec` is the store that `Map` and `Set` stand on.
 #![tactic(auto)]
 

@@ -1,8 +1,8 @@
 //! The pairs that overlap a range: for queries an iterator over them, for changes their places.
 //!
-//! Where they begin, and where those of a change end, is searched for among the starts, as a lookup
-//! does. Where those of a query end, the next few pairs are looked at one by one, and where it meets
-//! more it is searched for over whole pairs, by std's `partition_point`: the iterator knows how its
+//! Where they begin is searched for among the starts, as a lookup does. Where they end the next few
+//! pairs are looked at one by one, and where more are met it is searched for: of a change among the
+//! starts, of a query over whole pairs, by std's `partition_point`, since the iterator knows how its
 //! ranges are read, and no kind of range that the search among starts asks for.
 ghost use Rattle.std.specs.Prelude.{◌≡◌, ◌<◌, ◌≤◌, true, false, length, take_while};
 ghost use Rattle.std.specs.List.Sorted.{IsPartitionedBy};

@@ -1,11 +1,11 @@
 //! The store in one sorted vector.
 
+use crate::entries::clones::clone_pairs;
 use crate::entries::{changes, covering};
 use crate::overlapping::Overlapping;
 use rangemap_core::gaps::append_gaps;
 use rangemap_core::key_range::KeyRange;
 use rangemap_core::kind::{Kind, known_ends};
-use rangemap_core::pairs::clone_pair;
 use rangemap_core::reader::{Reader, ReaderOfBoth};
 use rangemap_core::store::{HandsOver, Lends, Store, StoreMut};
 use std::alloc::{AllocError, Allocator};
@@ -115,12 +115,8 @@ impl<Q: Kind<R>, R: KeyRange, V: Eq + Clone, A: Allocator> StoreMut for SortedVe
     }
 
     fn copy(&self, alloc: A) -> Result<Self, AllocError> {
-        let mut pairs = Vec::with_capacity(alloc, self.pairs.len())?;
-        for pair in &self.pairs {
-            pairs.push_reserved(clone_pair::<Q, R, V>(&pair.0, &pair.1)?);
-        }
         Ok(SortedVec {
-            pairs,
+            pairs: clone_pairs::<Q, R, V, A>(alloc, &self.pairs)?,
             kind: PhantomData,
         })
     }

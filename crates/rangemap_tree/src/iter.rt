@@ -1,6 +1,6 @@
 //! The pairs of a tree, one after another.
 ghost use Rattle.std.specs.Prelude.{◌≡◌, [], unwrap_or};
-ghost use Rattle.std.specs.Map.Iter.{TakesFirst, TakesLast, deref_pair};
+ghost use Rattle.std.specs.Map.Iter.{TakesFirst, deref_pair};
 
 use rangemap_core::cursor::{Cursor, Peek};
 use std::collections::btree_map;
@@ -62,12 +62,12 @@ impl<'a, K, V> Cursor for Iter<'a, K, V> {
     }
 
     fn take_last(&mut self) -> Option<(&'a Range<K>, &'a V)> {
-        if let Some(pair) = last_of(&mut self.pairs) {
-            return Some(pair);
+        if let Some(pairs) = &mut self.pairs {
+            if let Some(pair) = pairs.next_back() {
+                return Some((&pair.0, &pair.1));
+            }
         }
-        let pair = self.ahead?;
-        self.ahead = None;
-        Some(pair)
+        self.ahead.take()
     }
 
     fn parts<'b>(pair: &'b (&'a Range<K>, &'a V)) -> (&'b Range<K>, &'b V) {
@@ -91,15 +91,5 @@ fn first_of<'a, K, V>(
     ensures { TakesFirst deref_pair (unwrap_or pairs.old []) result (unwrap_or pairs.new []) }
 {
     let pair = pairs.as_mut()?.next()?;
-    Some((&pair.0, &pair.1))
-}
-
-// Takes the last pair out.
-fn last_of<'a, K, V>(
-    pairs: &mut Option<btree_map::Values<'a, K, (Range<K>, V)>>,
-) -> Option<(&'a Range<K>, &'a V)>
-    ensures { TakesLast deref_pair (unwrap_or pairs.old []) result (unwrap_or pairs.new []) }
-{
-    let pair = pairs.as_mut()?.next_back()?;
     Some((&pair.0, &pair.1))
 }

@@ -1,7 +1,7 @@
 //! The pairs of a map or a set in a B-tree.
 //!
 //! `ByStart` keeps half-open ranges by their starts, in std's tree. The engine goes over it: what a
-//! query meets, gaps, and the changes, which make every clone first. `Tree` is the store that `Map`
+//! query meets, and the changes, which make every clone first. `Tree` is the store that `Map`
 //! and `Set` stand on.
 #![tactic(auto)]
 

@@ -1,8 +1,12 @@
 //! Rows about calls on maps in chunks that are refused memory.
 
 use crate::containers::{chunked_inclusive_map, chunked_map};
+use rangemap::map::Map;
+use rangemap_chunked::Chunks;
+use rangemap_core::half_open::HalfOpen;
+use std::ops::Range;
 use std::test::Fail;
-use tests_support::{Costly, MANY, Refusing, Text};
+use tests_support::{Costly, Heap, MANY, Refusing, Text, check_that};
 
 // The first pair takes a list, as a sorted vector does, and the list of chunks another; then what is
 // changed within a chunk takes what it takes there. A chunk of five pairs is cut in two, and the new
@@ -60,5 +64,26 @@ fn each_clone_of_a_key_may_be_refused(rt: HostRuntime) -> Result<(), Fail> {
         0..=3 a, 4..=7 b, 8..=11 c, 12..=13 d, 16..=17 e | gaps 0..=19 | 14..=15, 18..=19 | 0
         0..=2 a, 5..=10 a | append 1..=6 0..=2 a + 5..=10 a \
             | 0..=2 a, 5..=10 a, 0..=2 a, 5..=10 a | 4",
+    )
+}
+
+/// A map in chunks of up to 128 pairs.
+type LongChunks<'a> = Map<Chunks<HalfOpen, Range<u32>, char, &'a Heap, 128>>;
+
+// A hundred pairs, twenty and twenty lie in three chunks. The two small ones would become one, for
+// which the first has no room, at a change of either; a removal that meets nothing is none.
+#[test]
+fn a_removal_that_meets_nothing_takes_nothing(rt: HostRuntime) -> Result<(), Fail> {
+    let heap = Refusing::new(rt.alloc(), MANY);
+    let mut map: LongChunks<'_> = Map::new(&heap);
+    for at in 0..276u32 {
+        map.insert(4 * at..4 * at + 2, 'a')?;
+    }
+    map.remove(400..944)?;
+    heap.refuse_after(0);
+    map.remove(962..964)?;
+    check_that(
+        !heap.has_refused() && map.len() == 140,
+        "memory was asked for",
     )
 }

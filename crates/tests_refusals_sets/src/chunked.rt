@@ -1,8 +1,12 @@
 //! Rows about calls on sets in chunks that are refused memory.
 
 use crate::containers::{chunked_inclusive_set, chunked_set};
+use rangemap::range_set::Set;
+use rangemap_chunked::Chunks;
+use rangemap_core::half_open::HalfOpen;
+use std::ops::Range;
 use std::test::Fail;
-use tests_support::{Costly, MANY, Refusing};
+use tests_support::{Costly, Heap, MANY, Refusing, check_that};
 
 // A set takes what a map with equal values takes. Of an item of two sets both ends are cloned; a set
 // of them asks for two lists. A chunk of up to 512 ranges grows as a sorted vector does, from room for
@@ -62,5 +66,26 @@ fn each_request_of_a_set_may_be_refused(rt: HostRuntime) -> Result<(), Fail> {
             230..=234, 240..=244, 250..=254, 260..=264, 270..=274, 280..=284, 290..=294, \
             300..=304, 310..=314, 320..=324, 330..=334, 340..=344, 350..=354, 360..=364, \
             370..=374, 380..=384, 390..=394 | 0",
+    )
+}
+
+/// A set in chunks of up to 128 ranges.
+type LongChunks<'a> = Set<Chunks<HalfOpen, Range<u32>, (), &'a Heap, 128>>;
+
+// A hundred ranges, twenty and twenty lie in three chunks. The two small ones would become one, for
+// which the first has no room, at a change of either; a removal that meets nothing is none.
+#[test]
+fn a_removal_that_meets_nothing_takes_nothing(rt: HostRuntime) -> Result<(), Fail> {
+    let heap = Refusing::new(rt.alloc(), MANY);
+    let mut set: LongChunks<'_> = Set::new(&heap);
+    for at in 0..276u32 {
+        set.insert(4 * at..4 * at + 2)?;
+    }
+    set.remove(400..944)?;
+    heap.refuse_after(0);
+    set.remove(962..964)?;
+    check_that(
+        !heap.has_refused() && set.len() == 140,
+        "memory was asked for",
     )
 }

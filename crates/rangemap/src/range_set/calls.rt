@@ -7,7 +7,7 @@ ghost use Rattle.rangemap.specs.Ranges.{unit_eq, with_unit};
 ghost use Rattle.rangemap.specs.SetHistories.{SetStep};
 
 use super::Set;
-use crate::operator::Operator;
+use crate::laws::sets::Operator;
 use rangemap_containers::calls::Change;
 use rangemap_containers::replay::{CallOn, add};
 use rangemap_core::key_range::KeyRange;

@@ -69,7 +69,7 @@ impl<S: StoreMut<Value = ()>> Set<S> {
         self.stored.remove(range)
     }
 
-    /// Takes every key out, and keeps the memory for later inserts.
+    /// Takes every key out. It takes no memory; a vector keeps its own for later inserts.
     pub fn clear(&mut self)
         ensures { self.new ≡ [] }
     {

@@ -1,7 +1,7 @@
 //! How an entry of a map is laid out and how one of a set is, each with the functions of a caller.
 ghost use Rattle.std.specs.Prelude.{◌≡◌, IfOk, MatchOption, Some as SomeWord, ◌∷◌, []};
 ghost use Rattle.serde_json.specs.declared.value.Value.{Value as Json};
-ghost use Rattle.rangemap_formats.specs.Json.{list_of, map_entry};
+ghost use Rattle.rangemap_formats.specs.Json.{list_of};
 
 use super::WriteError;
 use super::reading::{ReadsParts, items};

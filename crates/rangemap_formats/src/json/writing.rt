@@ -11,7 +11,6 @@ use rangemap_core::reader::Reader;
 use rangemap_core::store::Store;
 use serde_json::Value;
 use std::alloc::Global;
-use std::iter::Iterator;
 use std::marker::PhantomData;
 
 /// What writes the parts of an entry of a store, with faults of type `E`.

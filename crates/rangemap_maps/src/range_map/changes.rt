@@ -18,8 +18,8 @@ impl<S: StoreMut> Map<S> {
     ///
     /// # Requires
     ///
-    /// The range is not empty (`range.start < range.end`). A clone of a key or value equals its
-    /// original, which holds for std's types.
+    /// The range is not empty: `start < end` of `a..b`, `start <= end` of `a..=b`, which was not iterated
+    /// to its end. A clone of a key or value equals its original, which holds for std's types.
     ///
     /// # Errors
     ///
@@ -81,7 +81,7 @@ impl<S: StoreMut> Map<S> {
         self.stored.remove(range)
     }
 
-    /// Takes every key out. The memory is kept for later inserts.
+    /// Takes every key out. It takes no memory; a vector keeps its own for later inserts.
     pub fn clear(&mut self)
         ensures { self.new ≡ [] }
     {

@@ -20,7 +20,7 @@ where
 {
     /// Returns an equal map, made of clones, in memory of a clone of this one's allocator.
     ///
-    /// For each stored range it clones two keys and a value.
+    /// For each stored range it clones two keys and a value, in a tree three keys.
     ///
     /// # Requires
     ///

@@ -1,5 +1,6 @@
 use Rattle.std.proofs.Common.{length}
 use Rattle.std.specs.Option.{option_eq}
+use Rattle.std.specs.Vec.Iter.{into_iter_items}
 use Rattle.rangemap_core.specs.Ranges.{Alike, value_at}
 use Rattle.rangemap_core.specs.Segments.{segments_of}
 use Rattle.rangemap_core.proofs.SegmentLemmas.{clipped}
@@ -9,7 +10,7 @@ use Rattle.rangemap.proofs.segments.segments.Given as goal
 abbrev pub invariant-pairs : goal.invariant-pairs
 invariant-pairs g l =
     let k = g.M.Kind.Kind.kind in
-    Alike k (option_eq g.M.Value.PartialEq.eq) (clipped k l.query l.rest (value_at k l.all)) (segments_of k (value_at k (g.M.Container.pairs l.stored)) l.query)
+    Alike k (option_eq g.M.Value.PartialEq.eq) (clipped k l.query (into_iter_items l.rest) (value_at k l.all)) (segments_of k (value_at k (g.M.Container.pairs l.stored)) l.query)
 
 abbrev pub decreases-pairs : goal.decreases-pairs
-decreases-pairs g l = length l.rest
+decreases-pairs g l = length (into_iter_items l.rest)

@@ -11,3 +11,8 @@ pub split-requires-clause-filled : goal.split-requires-clause-filled
 split-requires-clause-filled g c =
     let some : 0 < length c.index-chunk.result.now = grind (arith, c.len.ensures, c.if-len-eq0.false) in
     filled_around c.args.chunks.now.items c.args.at c.index-chunk.result.now c.requires.in_bounds c.index-chunk.ensures some c.requires.before c.requires.behind
+
+pub returns-then-not-is_resized-clause-filled : goal.returns-then-not-is_resized-clause-filled
+returns-then-not-is_resized-clause-filled g c =
+    let some : 0 < length c.index-chunk.result.now = grind (arith, c.len.ensures, c.if-len-eq0.false) in
+    filled_around c.args.chunks.now.items c.args.at c.index-chunk.result.now c.requires.in_bounds c.index-chunk.ensures some c.requires.before c.requires.behind
