@@ -6,14 +6,25 @@ use std::alloc::{AllocError, Allocator};
 use std::iter::{DoubleEndedIterator, Iterator};
 use std::ops::{Range, RangeInclusive};
 
-// items `T` are lent, and items `G` given away
+// items `T` are lent, and items `G` given away; each may be asked at any time, from either end
 fn both_ends<
     T: Drop,
     G: Drop,
     Iter: DoubleEndedIterator<Item = T> + Drop,
     IntoIter: DoubleEndedIterator<Item = G> + Drop,
     Overlapping: DoubleEndedIterator<Item = T> + Drop,
->(_iter: Iter, _into_iter: IntoIter, _overlapping: Overlapping) {}
+>(mut iter: Iter, mut into_iter: IntoIter, mut overlapping: Overlapping)
+    requires iter_front { (it : Iter) → Iter.can_next it }
+    requires iter_back { (it : Iter) → Iter.can_next_back it }
+    requires into_iter_front { (it : IntoIter) → IntoIter.can_next it }
+    requires into_iter_back { (it : IntoIter) → IntoIter.can_next_back it }
+    requires overlapping_front { (it : Overlapping) → Overlapping.can_next it }
+    requires overlapping_back { (it : Overlapping) → Overlapping.can_next_back it }
+{
+    let _: (Option<T>, Option<T>) = (iter.next(), iter.next_back());
+    let _: (Option<G>, Option<G>) = (into_iter.next(), into_iter.next_back());
+    let _: (Option<T>, Option<T>) = (overlapping.next(), overlapping.next_back());
+}
 
 fn front<T: Drop, I: Iterator<Item = T> + Drop>(_items: I) {}
 

@@ -4,6 +4,7 @@
 mod arrays;
 mod json;
 mod macros;
+mod made;
 mod replays;
 mod steps;
 

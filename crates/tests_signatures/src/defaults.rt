@@ -1,12 +1,13 @@
 //! Each alias with its defaults, as users write it: the steps are those of the keys, and the
 //! allocator is the global one.
 
+use crate::{inclusive_maps, inclusive_sets, maps, sets, tree_sets, trees};
 use rangemap::{
     RangeInclusiveMap, RangeInclusiveSet, RangeMap, RangeSet, inclusive_map, inclusive_set, map,
     set, tree_map, tree_set,
 };
 use std::alloc::{AllocError, Global};
-use std::ops::{Range, RangeInclusive};
+use std::ops::Range;
 
 /// A struct that names each alias.
 #[derive(Drop)]
@@ -58,31 +59,23 @@ pub fn hand_over_maps(
     inclusive_map::IntoIter<u64, char>,
     tree_map::IntoIter<usize, char>,
 ) {
-    (map.into_iter(), closed.into_iter(), tree.into_iter())
+    (
+        maps::hand_over(map),
+        inclusive_maps::hand_over(closed),
+        trees::hand_over(tree),
+    )
 }
 
 pub fn hand_over_set(set: RangeSet<u32>) -> set::IntoIter<u32> {
-    set.into_iter()
+    sets::hand_over(set)
 }
 
 pub fn hand_over_closed_set(set: RangeInclusiveSet<i64>) -> inclusive_set::IntoIter<i64> {
-    set.into_iter()
+    inclusive_sets::hand_over(set)
 }
 
 pub fn hand_over_tree_set(set: tree_set::RangeSet<u128>) -> tree_set::IntoIter<u128> {
-    set.into_iter()
-}
-
-pub fn closed_gaps<'a>(
-    map: &'a RangeInclusiveMap<u64, char>,
-    outer_range: &'a RangeInclusive<u64>,
-    set: &'a RangeInclusiveSet<i64>,
-    other: &'a RangeInclusive<i64>,
-) -> (
-    inclusive_map::Gaps<'a, u64, char>,
-    inclusive_set::Gaps<'a, i64>,
-) {
-    (map.gaps(outer_range), set.gaps(other))
+    tree_sets::hand_over(set)
 }
 
 pub fn of_lists(alloc: Global) -> Result<(RangeMap<u32, char>, RangeSet<u32>), AllocError> {

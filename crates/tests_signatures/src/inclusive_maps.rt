@@ -33,12 +33,24 @@ pub fn ask<'a, K: Ord + Clone, V: Eq + Clone, S: StepFns<K>, A: Allocator>(
     let _: &'a A = map.allocator();
 }
 
-pub fn change<K: Ord + Clone, V: Eq + Clone, S: StepFns<K>, A: Allocator>(
+pub fn empty<K: StepLite + Clone, V: Eq + Clone, A: Allocator>(
     alloc: A,
+) -> RangeInclusiveMap<K, V, K, A> {
+    RangeInclusiveMap::new(alloc)
+}
+
+pub fn by_step_fns<K: Ord + Clone, V: Eq + Clone, S: StepFns<K>, A: Allocator>(
+    alloc: A,
+) -> RangeInclusiveMap<K, V, S, A> {
+    RangeInclusiveMap::new_with_step_fns(alloc)
+}
+
+pub fn change<K: Ord + Clone, V: Eq + Clone, S: StepFns<K>, A: Allocator>(
+    map: &mut RangeInclusiveMap<K, V, S, A>,
     given: RangeInclusive<K>,
     value: V,
     taken: RangeInclusive<K>,
-) -> Result<RangeInclusiveMap<K, V, S, A>, AllocError>
+) -> Result<(), AllocError>
     requires given_non_empty { IsTrue (is_le (K.cmp (range_inclusive_start given) (range_inclusive_end given))) }
     requires given_not_exhausted { range_inclusive_exhausted given ≡ false }
     requires taken_non_empty { IsTrue (is_le (K.cmp (range_inclusive_start taken) (range_inclusive_end taken))) }
@@ -46,11 +58,10 @@ pub fn change<K: Ord + Clone, V: Eq + Clone, S: StepFns<K>, A: Allocator>(
     requires faithful_keys { KeysCloneFaithfully K.is_clone K.cmp }
     requires faithful_values { ValuesCloneFaithfully V.is_clone V.eq }
 {
-    let mut map: RangeInclusiveMap<K, V, S, A> = RangeInclusiveMap::new_with_step_fns(alloc);
     map.insert(given, value)?;
     map.remove(taken)?;
     map.clear();
-    Ok(map)
+    Ok(())
 }
 
 pub fn collect<
@@ -60,10 +71,10 @@ pub fn collect<
     I: IntoIterator<Item = (RangeInclusive<K>, V)>,
 >(
     alloc: A,
-    other: A,
     iter: I,
+    extended: &mut RangeInclusiveMap<K, V, K, A>,
     more: I,
-) -> Result<(IntoIter<K, V, A>, RangeInclusiveMap<K, V, K, A>), AllocError>
+) -> Result<RangeInclusiveMap<K, V, K, A>, AllocError>
     requires ends { IsFiniteIterable I.into_iter_gives I.IntoIter.can_next I.IntoIter.remaining iter }
     requires non_empty { (it : I.IntoIter) → I.into_iter_gives iter it → GivesNonEmpty (closed K.StepLite.is_key K.cmp) I.IntoIter.next_gives it }
     requires more_ends { IsFiniteIterable I.into_iter_gives I.IntoIter.can_next I.IntoIter.remaining more }
@@ -71,9 +82,14 @@ pub fn collect<
     requires faithful_keys { KeysCloneFaithfully K.is_clone K.cmp }
     requires faithful_values { ValuesCloneFaithfully V.is_clone V.eq }
 {
-    let mut extended: RangeInclusiveMap<K, V, K, A> = RangeInclusiveMap::new(other);
     let answer = extended.extend(more);
     let collected = RangeInclusiveMap::from_iter(alloc, iter)?;
     answer?;
-    Ok((collected.into_iter(), extended))
+    Ok(collected)
+}
+
+pub fn hand_over<K: StepLite + Clone, V: Eq + Clone, A: Allocator>(
+    map: RangeInclusiveMap<K, V, K, A>,
+) -> IntoIter<K, V, A> {
+    map.into_iter()
 }

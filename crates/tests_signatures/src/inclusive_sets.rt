@@ -38,39 +38,53 @@ pub fn ask<'a, T: Ord + Clone, S: StepFns<T>, A: Allocator>(
     let _: Intersection<'a, T> = Intersection::new(set.iter(), other.iter());
 }
 
-pub fn change<T: Ord + Clone, S: StepFns<T>, A: Allocator>(
+pub fn empty<T: StepLite + Clone, A: Allocator>(alloc: A) -> RangeInclusiveSet<T, T, A> {
+    RangeInclusiveSet::new(alloc)
+}
+
+pub fn by_step_fns<T: Ord + Clone, S: StepFns<T>, A: Allocator>(
     alloc: A,
+) -> RangeInclusiveSet<T, S, A> {
+    RangeInclusiveSet::new_with_step_fns(alloc)
+}
+
+pub fn change<T: Ord + Clone, S: StepFns<T>, A: Allocator>(
+    set: &mut RangeInclusiveSet<T, S, A>,
     given: RangeInclusive<T>,
     taken: RangeInclusive<T>,
-) -> Result<RangeInclusiveSet<T, S, A>, AllocError>
+) -> Result<(), AllocError>
     requires given_non_empty { IsTrue (is_le (T.cmp (range_inclusive_start given) (range_inclusive_end given))) }
     requires given_not_exhausted { range_inclusive_exhausted given ≡ false }
     requires taken_non_empty { IsTrue (is_le (T.cmp (range_inclusive_start taken) (range_inclusive_end taken))) }
     requires taken_not_exhausted { range_inclusive_exhausted taken ≡ false }
     requires faithful_keys { KeysCloneFaithfully T.is_clone T.cmp }
 {
-    let mut set: RangeInclusiveSet<T, S, A> = RangeInclusiveSet::new_with_step_fns(alloc);
     set.insert(given)?;
     set.remove(taken)?;
     set.clear();
-    Ok(set)
+    Ok(())
 }
 
 pub fn collect<T: StepLite + Clone, A: Allocator, I: IntoIterator<Item = RangeInclusive<T>>>(
     alloc: A,
-    other: A,
     iter: I,
+    extended: &mut RangeInclusiveSet<T, T, A>,
     more: I,
-) -> Result<(IntoIter<T, A>, RangeInclusiveSet<T, T, A>), AllocError>
+) -> Result<RangeInclusiveSet<T, T, A>, AllocError>
     requires ends { IsFiniteIterable I.into_iter_gives I.IntoIter.can_next I.IntoIter.remaining iter }
     requires non_empty { (it : I.IntoIter) → I.into_iter_gives iter it → GivesNonEmptyRanges (closed T.StepLite.is_key T.cmp) I.IntoIter.next_gives it }
     requires more_ends { IsFiniteIterable I.into_iter_gives I.IntoIter.can_next I.IntoIter.remaining more }
     requires more_non_empty { (it : I.IntoIter) → I.into_iter_gives more it → GivesNonEmptyRanges (closed T.StepLite.is_key T.cmp) I.IntoIter.next_gives it }
     requires faithful_keys { KeysCloneFaithfully T.is_clone T.cmp }
 {
-    let mut extended: RangeInclusiveSet<T, T, A> = RangeInclusiveSet::new(other);
     let answer = extended.extend(more);
     let collected = RangeInclusiveSet::from_iter(alloc, iter)?;
     answer?;
-    Ok((collected.into_iter(), extended))
+    Ok(collected)
+}
+
+pub fn hand_over<T: StepLite + Clone, A: Allocator>(
+    set: RangeInclusiveSet<T, T, A>,
+) -> IntoIter<T, A> {
+    set.into_iter()
 }

@@ -1,12 +1,8 @@
 //! Each container at each type of keys, by functions over any keys. Texts have no steps, so no closed
 //! container has them as keys.
-ghost use Rattle.rangemap.specs.Clones.{KeysCloneFaithfully};
-ghost use Rattle.rangemap.specs.Ranges.{closed, half_open};
 
 use crate::{inclusive_maps, inclusive_sets, maps, sets, tree_sets, trees};
-use rangemap::{
-    RangeInclusiveMap, RangeInclusiveSet, RangeMap, RangeSet, StepLite, tree_map, tree_set,
-};
+use rangemap::{RangeInclusiveMap, RangeInclusiveSet, RangeMap, RangeSet, tree_map, tree_set};
 use std::alloc::AllocError;
 use std::ops::{Range, RangeInclusive};
 
@@ -31,19 +27,6 @@ pub fn ask_maps(
     maps::ask(texts.0, texts.1, texts.2);
 }
 
-fn change_map<K: Ord + Clone>(
-    map: &mut RangeMap<K, u8>,
-    given: Range<K>,
-    taken: Range<K>,
-) -> Result<(), AllocError>
-    requires given_non_empty { (half_open K.cmp).IsNonEmpty given }
-    requires taken_non_empty { (half_open K.cmp).IsNonEmpty taken }
-    requires faithful_keys { KeysCloneFaithfully K.is_clone K.cmp }
-{
-    map.insert(given, 1)?;
-    map.remove(taken)
-}
-
 pub fn change_maps(
     u32s: &mut RangeMap<u32, u8>,
     u64s: &mut RangeMap<u64, u8>,
@@ -52,12 +35,12 @@ pub fn change_maps(
     u128s: &mut RangeMap<u128, u8>,
     chars: &mut RangeMap<char, u8>,
 ) -> Result<(), AllocError> {
-    change_map(u32s, 0..5, 2..3)?;
-    change_map(u64s, 0..5, 2..3)?;
-    change_map(usizes, 0..5, 2..3)?;
-    change_map(i64s, -5..5, -2..2)?;
-    change_map(u128s, 0..5, 2..3)?;
-    change_map(chars, 'a'..'f', 'c'..'d')
+    maps::change(u32s, 0..5, 1, 2..3)?;
+    maps::change(u64s, 0..5, 1, 2..3)?;
+    maps::change(usizes, 0..5, 1, 2..3)?;
+    maps::change(i64s, -5..5, 1, -2..2)?;
+    maps::change(u128s, 0..5, 1, 2..3)?;
+    maps::change(chars, 'a'..'f', 1, 'c'..'d')
 }
 
 /// A container, a key, and a range.
@@ -79,19 +62,6 @@ pub fn ask_closed_maps(
     inclusive_maps::ask(chars.0, chars.1, chars.2);
 }
 
-fn change_closed_map<K: StepLite + Clone>(
-    map: &mut RangeInclusiveMap<K, u8>,
-    given: RangeInclusive<K>,
-    taken: RangeInclusive<K>,
-) -> Result<(), AllocError>
-    requires given_non_empty { (closed K.StepLite.is_key K.cmp).IsNonEmpty given }
-    requires taken_non_empty { (closed K.StepLite.is_key K.cmp).IsNonEmpty taken }
-    requires faithful_keys { KeysCloneFaithfully K.is_clone K.cmp }
-{
-    map.insert(given, 1)?;
-    map.remove(taken)
-}
-
 pub fn change_closed_maps(
     u32s: &mut RangeInclusiveMap<u32, u8>,
     u64s: &mut RangeInclusiveMap<u64, u8>,
@@ -100,12 +70,12 @@ pub fn change_closed_maps(
     u128s: &mut RangeInclusiveMap<u128, u8>,
     chars: &mut RangeInclusiveMap<char, u8>,
 ) -> Result<(), AllocError> {
-    change_closed_map(u32s, 0..=5, 2..=3)?;
-    change_closed_map(u64s, 0..=5, 2..=3)?;
-    change_closed_map(usizes, 0..=5, 2..=3)?;
-    change_closed_map(i64s, -5..=5, -2..=2)?;
-    change_closed_map(u128s, 0..=5, 2..=3)?;
-    change_closed_map(chars, 'a'..='f', 'c'..='d')
+    inclusive_maps::change(u32s, 0..=5, 1, 2..=3)?;
+    inclusive_maps::change(u64s, 0..=5, 1, 2..=3)?;
+    inclusive_maps::change(usizes, 0..=5, 1, 2..=3)?;
+    inclusive_maps::change(i64s, -5..=5, 1, -2..=2)?;
+    inclusive_maps::change(u128s, 0..=5, 1, 2..=3)?;
+    inclusive_maps::change(chars, 'a'..='f', 1, 'c'..='d')
 }
 
 /// A container, a key, and a range.
@@ -129,19 +99,6 @@ pub fn ask_trees(
     trees::ask(texts.0, texts.1, texts.2);
 }
 
-fn change_tree<K: Ord + Clone>(
-    map: &mut tree_map::RangeMap<K, u8>,
-    given: Range<K>,
-    taken: Range<K>,
-) -> Result<(), AllocError>
-    requires given_non_empty { (half_open K.cmp).IsNonEmpty given }
-    requires taken_non_empty { (half_open K.cmp).IsNonEmpty taken }
-    requires faithful_keys { KeysCloneFaithfully K.is_clone K.cmp }
-{
-    map.insert(given, 1)?;
-    map.remove(taken)
-}
-
 pub fn change_trees(
     u32s: &mut tree_map::RangeMap<u32, u8>,
     u64s: &mut tree_map::RangeMap<u64, u8>,
@@ -150,12 +107,12 @@ pub fn change_trees(
     u128s: &mut tree_map::RangeMap<u128, u8>,
     chars: &mut tree_map::RangeMap<char, u8>,
 ) -> Result<(), AllocError> {
-    change_tree(u32s, 0..5, 2..3)?;
-    change_tree(u64s, 0..5, 2..3)?;
-    change_tree(usizes, 0..5, 2..3)?;
-    change_tree(i64s, -5..5, -2..2)?;
-    change_tree(u128s, 0..5, 2..3)?;
-    change_tree(chars, 'a'..'f', 'c'..'d')
+    trees::change(u32s, 0..5, 1, 2..3)?;
+    trees::change(u64s, 0..5, 1, 2..3)?;
+    trees::change(usizes, 0..5, 1, 2..3)?;
+    trees::change(i64s, -5..5, 1, -2..2)?;
+    trees::change(u128s, 0..5, 1, 2..3)?;
+    trees::change(chars, 'a'..'f', 1, 'c'..'d')
 }
 
 /// A container, a key, and a range.
@@ -179,19 +136,6 @@ pub fn ask_sets(
     sets::ask(texts.0, texts.1, texts.2, texts.0);
 }
 
-fn change_set<T: Ord + Clone>(
-    set: &mut RangeSet<T>,
-    given: Range<T>,
-    taken: Range<T>,
-) -> Result<(), AllocError>
-    requires given_non_empty { (half_open T.cmp).IsNonEmpty given }
-    requires taken_non_empty { (half_open T.cmp).IsNonEmpty taken }
-    requires faithful_keys { KeysCloneFaithfully T.is_clone T.cmp }
-{
-    set.insert(given)?;
-    set.remove(taken)
-}
-
 pub fn change_sets(
     u32s: &mut RangeSet<u32>,
     u64s: &mut RangeSet<u64>,
@@ -200,12 +144,12 @@ pub fn change_sets(
     u128s: &mut RangeSet<u128>,
     chars: &mut RangeSet<char>,
 ) -> Result<(), AllocError> {
-    change_set(u32s, 0..5, 2..3)?;
-    change_set(u64s, 0..5, 2..3)?;
-    change_set(usizes, 0..5, 2..3)?;
-    change_set(i64s, -5..5, -2..2)?;
-    change_set(u128s, 0..5, 2..3)?;
-    change_set(chars, 'a'..'f', 'c'..'d')
+    sets::change(u32s, 0..5, 2..3)?;
+    sets::change(u64s, 0..5, 2..3)?;
+    sets::change(usizes, 0..5, 2..3)?;
+    sets::change(i64s, -5..5, -2..2)?;
+    sets::change(u128s, 0..5, 2..3)?;
+    sets::change(chars, 'a'..'f', 'c'..'d')
 }
 
 /// A container, a key, and a range.
@@ -227,19 +171,6 @@ pub fn ask_closed_sets(
     inclusive_sets::ask(chars.0, chars.1, chars.2, chars.0);
 }
 
-fn change_closed_set<T: StepLite + Clone>(
-    set: &mut RangeInclusiveSet<T>,
-    given: RangeInclusive<T>,
-    taken: RangeInclusive<T>,
-) -> Result<(), AllocError>
-    requires given_non_empty { (closed T.StepLite.is_key T.cmp).IsNonEmpty given }
-    requires taken_non_empty { (closed T.StepLite.is_key T.cmp).IsNonEmpty taken }
-    requires faithful_keys { KeysCloneFaithfully T.is_clone T.cmp }
-{
-    set.insert(given)?;
-    set.remove(taken)
-}
-
 pub fn change_closed_sets(
     u32s: &mut RangeInclusiveSet<u32>,
     u64s: &mut RangeInclusiveSet<u64>,
@@ -248,12 +179,12 @@ pub fn change_closed_sets(
     u128s: &mut RangeInclusiveSet<u128>,
     chars: &mut RangeInclusiveSet<char>,
 ) -> Result<(), AllocError> {
-    change_closed_set(u32s, 0..=5, 2..=3)?;
-    change_closed_set(u64s, 0..=5, 2..=3)?;
-    change_closed_set(usizes, 0..=5, 2..=3)?;
-    change_closed_set(i64s, -5..=5, -2..=2)?;
-    change_closed_set(u128s, 0..=5, 2..=3)?;
-    change_closed_set(chars, 'a'..='f', 'c'..='d')
+    inclusive_sets::change(u32s, 0..=5, 2..=3)?;
+    inclusive_sets::change(u64s, 0..=5, 2..=3)?;
+    inclusive_sets::change(usizes, 0..=5, 2..=3)?;
+    inclusive_sets::change(i64s, -5..=5, -2..=2)?;
+    inclusive_sets::change(u128s, 0..=5, 2..=3)?;
+    inclusive_sets::change(chars, 'a'..='f', 'c'..='d')
 }
 
 /// A container, a key, and a range.
@@ -277,19 +208,6 @@ pub fn ask_sets_in_trees(
     tree_sets::ask(texts.0, texts.1, texts.2, texts.0);
 }
 
-fn change_set_in_tree<T: Ord + Clone>(
-    set: &mut tree_set::RangeSet<T>,
-    given: Range<T>,
-    taken: Range<T>,
-) -> Result<(), AllocError>
-    requires given_non_empty { (half_open T.cmp).IsNonEmpty given }
-    requires taken_non_empty { (half_open T.cmp).IsNonEmpty taken }
-    requires faithful_keys { KeysCloneFaithfully T.is_clone T.cmp }
-{
-    set.insert(given)?;
-    set.remove(taken)
-}
-
 pub fn change_sets_in_trees(
     u32s: &mut tree_set::RangeSet<u32>,
     u64s: &mut tree_set::RangeSet<u64>,
@@ -298,50 +216,54 @@ pub fn change_sets_in_trees(
     u128s: &mut tree_set::RangeSet<u128>,
     chars: &mut tree_set::RangeSet<char>,
 ) -> Result<(), AllocError> {
-    change_set_in_tree(u32s, 0..5, 2..3)?;
-    change_set_in_tree(u64s, 0..5, 2..3)?;
-    change_set_in_tree(usizes, 0..5, 2..3)?;
-    change_set_in_tree(i64s, -5..5, -2..2)?;
-    change_set_in_tree(u128s, 0..5, 2..3)?;
-    change_set_in_tree(chars, 'a'..'f', 'c'..'d')
+    tree_sets::change(u32s, 0..5, 2..3)?;
+    tree_sets::change(u64s, 0..5, 2..3)?;
+    tree_sets::change(usizes, 0..5, 2..3)?;
+    tree_sets::change(i64s, -5..5, -2..2)?;
+    tree_sets::change(u128s, 0..5, 2..3)?;
+    tree_sets::change(chars, 'a'..'f', 'c'..'d')
 }
 
-pub fn insert_texts_in_map(
+pub fn change_texts_in_map(
     map: &mut RangeMap<String, u8>,
-    range: Range<String>,
+    given: Range<String>,
+    taken: Range<String>,
 ) -> Result<(), AllocError> {
-    if range.is_empty() {
+    if given.is_empty() || taken.is_empty() {
         return Ok(());
     }
-    map.insert(range, 1)
+    maps::change(map, given, 1, taken)
 }
 
-pub fn insert_texts_in_tree(
+pub fn change_texts_in_tree(
     tree: &mut tree_map::RangeMap<String, u8>,
-    range: Range<String>,
+    given: Range<String>,
+    taken: Range<String>,
 ) -> Result<(), AllocError> {
-    if range.is_empty() {
+    if given.is_empty() || taken.is_empty() {
         return Ok(());
     }
-    tree.insert(range, 1)
+    trees::change(tree, given, 1, taken)
 }
 
-pub fn insert_texts_in_set(
+pub fn change_texts_in_set(
     set: &mut RangeSet<String>,
-    range: Range<String>,
+    given: Range<String>,
+    taken: Range<String>,
 ) -> Result<(), AllocError> {
-    if range.is_empty() {
+    if given.is_empty() || taken.is_empty() {
         return Ok(());
     }
-    set.insert(range)
+    sets::change(set, given, taken)
 }
 
-pub fn insert_texts_in_tree_set(
+pub fn change_texts_in_tree_set(
     tree_set: &mut tree_set::RangeSet<String>,
-    range: Range<String>,
+    given: Range<String>,
+    taken: Range<String>,
 ) -> Result<(), AllocError> {
-    if range.is_empty() {
+    if given.is_empty() || taken.is_empty() {
         return Ok(());
     }
-    tree_set.insert(range)
+    tree_sets::change(tree_set, given, taken)
 }

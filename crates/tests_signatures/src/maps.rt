@@ -46,22 +46,16 @@ pub fn from<K: Ord + Clone, V: Eq + Clone, A: Allocator + Clone, const N: usize>
     Ok((map, copy))
 }
 
-pub fn collect_and_change<
-    K: Ord + Clone,
-    V: Eq + Clone,
-    A: Allocator,
-    I: IntoIterator<Item = (Range<K>, V)>,
->(
+pub fn empty<K: Ord + Clone, V: Eq + Clone, A: Allocator>(alloc: A) -> RangeMap<K, V, A> {
+    RangeMap::new(alloc)
+}
+
+pub fn collect<K: Ord + Clone, V: Eq + Clone, A: Allocator, I: IntoIterator<Item = (Range<K>, V)>>(
     alloc: A,
-    other: A,
     iter: I,
+    extended: &mut RangeMap<K, V, A>,
     more: I,
-    given: Range<K>,
-    value: V,
-    taken: Range<K>,
-) -> Result<(IntoIter<K, V, A>, RangeMap<K, V, A>), AllocError>
-    requires given_non_empty { (half_open K.cmp).IsNonEmpty given }
-    requires taken_non_empty { (half_open K.cmp).IsNonEmpty taken }
+) -> Result<RangeMap<K, V, A>, AllocError>
     requires ends { IsFiniteIterable I.into_iter_gives I.IntoIter.can_next I.IntoIter.remaining iter }
     requires non_empty { (it : I.IntoIter) → I.into_iter_gives iter it → GivesNonEmpty (half_open K.cmp) I.IntoIter.next_gives it }
     requires more_ends { IsFiniteIterable I.into_iter_gives I.IntoIter.can_next I.IntoIter.remaining more }
@@ -69,14 +63,33 @@ pub fn collect_and_change<
     requires faithful_keys { KeysCloneFaithfully K.is_clone K.cmp }
     requires faithful_values { ValuesCloneFaithfully V.is_clone V.eq }
 {
-    let mut changed: RangeMap<K, V, A> = RangeMap::new(other);
-    let answer = changed.extend(more);
+    let answer = extended.extend(more);
     let collected = RangeMap::from_iter(alloc, iter)?;
     answer?;
-    changed.insert(given, value)?;
-    changed.remove(taken)?;
-    changed.clear();
-    Ok((collected.into_iter(), changed))
+    Ok(collected)
+}
+
+pub fn change<K: Ord + Clone, V: Eq + Clone, A: Allocator>(
+    map: &mut RangeMap<K, V, A>,
+    given: Range<K>,
+    value: V,
+    taken: Range<K>,
+) -> Result<(), AllocError>
+    requires given_non_empty { (half_open K.cmp).IsNonEmpty given }
+    requires taken_non_empty { (half_open K.cmp).IsNonEmpty taken }
+    requires faithful_keys { KeysCloneFaithfully K.is_clone K.cmp }
+    requires faithful_values { ValuesCloneFaithfully V.is_clone V.eq }
+{
+    map.insert(given, value)?;
+    map.remove(taken)?;
+    map.clear();
+    Ok(())
+}
+
+pub fn hand_over<K: Ord + Clone, V: Eq + Clone, A: Allocator>(
+    map: RangeMap<K, V, A>,
+) -> IntoIter<K, V, A> {
+    map.into_iter()
 }
 
 pub fn compare_and_print<
@@ -90,8 +103,7 @@ pub fn compare_and_print<
     right: &RangeMap<K, V, A>,
     state: &mut H,
 ) -> Result<(bool, String), AllocError> {
-    let answer = root::compare(left, right, state);
-    Ok((answer, root::text(alloc, left)?))
+    root::compare_and_print(alloc, left, right, state)
 }
 
 pub fn write_and_read<

@@ -67,8 +67,18 @@ pub fn compare<C: Ord + Hash, H: Hasher>(left: &C, right: &C, state: &mut H) -> 
     left == right || left < right
 }
 
-pub fn text<C: Debug>(alloc: Global, container: &C) -> Result<String, AllocError> {
+fn text<C: Debug>(alloc: Global, container: &C) -> Result<String, AllocError> {
     format!(in alloc; "{container:?}")
+}
+
+pub fn compare_and_print<C: Ord + Hash + Debug, H: Hasher>(
+    alloc: Global,
+    left: &C,
+    right: &C,
+    state: &mut H,
+) -> Result<(bool, String), AllocError> {
+    let answer = compare(left, right, state);
+    Ok((answer, text(alloc, left)?))
 }
 
 fn derives_part<P: Clone + Copy + Debug + PartialEq + Eq>(_p: P) {}
@@ -109,33 +119,20 @@ pub fn writes<E: Debug + PartialEq + Eq + Drop>(error: WriteError<E>) -> Option<
     }
 }
 
-pub fn macros_of_maps(alloc: Global) -> Result<usize, AllocError> {
-    let map: RangeMap<u32, &'static str, Global> =
+pub fn macros_of_maps(alloc: Global) -> Result<(), AllocError> {
+    let _: RangeMap<u32, &'static str, Global> =
         range_map! { in alloc; 0..100 => "abc", 100..200 => "def", }?;
-    let closed: RangeInclusiveMap<u32, &'static str, u32, Global> =
+    let _: RangeInclusiveMap<u32, &'static str, u32, Global> =
         range_inclusive_map! { in alloc; 0..=100 => "abc", 100..=200 => "def" }?;
-    let none: RangeMap<u32, u8, Global> = range_map! { in alloc; }?;
-    let none_closed: RangeInclusiveMap<u32, u8, u32, Global> = range_inclusive_map! { in alloc; }?;
-    Ok(
-        map.len()
-            .min(closed.len())
-            .min(none.len())
-            .min(none_closed.len()),
-    )
+    let _: RangeMap<u32, &'static str, Global> = range_map! { in alloc; }?;
+    let _: RangeInclusiveMap<u32, &'static str, u32, Global> = range_inclusive_map! { in alloc; }?;
+    Ok(())
 }
 
-pub fn macros_of_sets(alloc: Global) -> Result<usize, AllocError> {
-    let set: RangeSet<u32, Global> = range_set![in alloc; 0..5, 5..9,]?;
-    let closed: RangeInclusiveSet<u32, u32, Global> = range_inclusive_set![in alloc;
-        0..=5,
-        6..=9,
-    ]?;
-    let none: RangeSet<u32, Global> = range_set![in alloc;]?;
-    let none_closed: RangeInclusiveSet<u32, u32, Global> = range_inclusive_set![in alloc;]?;
-    Ok(
-        set.len()
-            .min(closed.len())
-            .min(none.len())
-            .min(none_closed.len()),
-    )
+pub fn macros_of_sets(alloc: Global) -> Result<(), AllocError> {
+    let _: RangeSet<u32, Global> = range_set![in alloc; 0..5, 5..9,]?;
+    let _: RangeInclusiveSet<u32, u32, Global> = range_inclusive_set![in alloc; 0..=5, 6..=9,]?;
+    let _: RangeSet<u32, Global> = range_set![in alloc;]?;
+    let _: RangeInclusiveSet<u32, u32, Global> = range_inclusive_set![in alloc;]?;
+    Ok(())
 }

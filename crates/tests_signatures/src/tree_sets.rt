@@ -50,30 +50,45 @@ pub fn from<T: Ord + Clone, A: Allocator + Clone, const N: usize>(
     Ok([set.clone()?, either, both])
 }
 
-pub fn collect_and_change<T: Ord + Clone, A: Allocator + Clone, I: IntoIterator<Item = Range<T>>>(
+pub fn empty<T: Ord + Clone, A: Allocator + Clone>(alloc: A) -> RangeSet<T, A> {
+    RangeSet::new(alloc)
+}
+
+pub fn collect<T: Ord + Clone, A: Allocator + Clone, I: IntoIterator<Item = Range<T>>>(
     alloc: A,
-    other: A,
     iter: I,
+    extended: &mut RangeSet<T, A>,
     more: I,
-    given: Range<T>,
-    taken: Range<T>,
-) -> Result<(IntoIter<T, A>, RangeSet<T, A>), AllocError>
-    requires given_non_empty { (half_open T.cmp).IsNonEmpty given }
-    requires taken_non_empty { (half_open T.cmp).IsNonEmpty taken }
+) -> Result<RangeSet<T, A>, AllocError>
     requires ends { IsFiniteIterable I.into_iter_gives I.IntoIter.can_next I.IntoIter.remaining iter }
     requires non_empty { (it : I.IntoIter) → I.into_iter_gives iter it → GivesNonEmptyRanges (half_open T.cmp) I.IntoIter.next_gives it }
     requires more_ends { IsFiniteIterable I.into_iter_gives I.IntoIter.can_next I.IntoIter.remaining more }
     requires more_non_empty { (it : I.IntoIter) → I.into_iter_gives more it → GivesNonEmptyRanges (half_open T.cmp) I.IntoIter.next_gives it }
     requires faithful_keys { KeysCloneFaithfully T.is_clone T.cmp }
 {
-    let mut changed: RangeSet<T, A> = RangeSet::new(other);
-    let answer = changed.extend(more);
+    let answer = extended.extend(more);
     let collected = RangeSet::from_iter(alloc, iter)?;
     answer?;
-    changed.insert(given)?;
-    changed.remove(taken)?;
-    changed.clear();
-    Ok((collected.into_iter(), changed))
+    Ok(collected)
+}
+
+pub fn change<T: Ord + Clone, A: Allocator + Clone>(
+    set: &mut RangeSet<T, A>,
+    given: Range<T>,
+    taken: Range<T>,
+) -> Result<(), AllocError>
+    requires given_non_empty { (half_open T.cmp).IsNonEmpty given }
+    requires taken_non_empty { (half_open T.cmp).IsNonEmpty taken }
+    requires faithful_keys { KeysCloneFaithfully T.is_clone T.cmp }
+{
+    set.insert(given)?;
+    set.remove(taken)?;
+    set.clear();
+    Ok(())
+}
+
+pub fn hand_over<T: Ord + Clone, A: Allocator + Clone>(set: RangeSet<T, A>) -> IntoIter<T, A> {
+    set.into_iter()
 }
 
 pub fn compare_and_print<T: Ord + Clone + Hash + Debug, A: Allocator + Clone, H: Hasher>(
@@ -82,8 +97,7 @@ pub fn compare_and_print<T: Ord + Clone + Hash + Debug, A: Allocator + Clone, H:
     right: &RangeSet<T, A>,
     state: &mut H,
 ) -> Result<(bool, String), AllocError> {
-    let answer = root::compare(left, right, state);
-    Ok((answer, root::text(alloc, left)?))
+    root::compare_and_print(alloc, left, right, state)
 }
 
 pub fn write_and_read<

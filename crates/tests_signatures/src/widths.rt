@@ -4,9 +4,8 @@ ghost use Rattle.std.specs.Ordering.{nat_cmp};
 ghost use Rattle.rangemap.specs.CharLaws.{IsChar};
 ghost use Rattle.rangemap.specs.Ranges.{IsCanonOfPoints, closed, covers, half_open};
 
-use rangemap::{RangeInclusiveSet, RangeSet, inclusive_set, set};
+use rangemap::{RangeInclusiveSet, RangeSet};
 use std::alloc::{AllocError, Global};
-use std::ops::{Range, RangeInclusive};
 
 pub fn either(
     left: &RangeSet<u64, Global>,
@@ -69,46 +68,3 @@ pub fn is_letter(letters: &RangeInclusiveSet<char, char, Global>, character: cha
 {
     letters.contains(&character)
 }
-
-/// Each item of the half-open set at `u64`, and of the closed set at `usize`, once.
-pub fn walk(
-    left: &RangeSet<u64, Global>,
-    right: &RangeSet<u64, Global>,
-    query: &Range<u64>,
-    left_closed: &RangeInclusiveSet<usize, usize, Global>,
-    right_closed: &RangeInclusiveSet<usize, usize, Global>,
-    query_closed: &RangeInclusive<usize>,
-) -> Result<(), AllocError> {
-    let _: Option<&Range<u64>> = left.iter().next();
-    let _: Option<&Range<u64>> = left.overlapping(query).next();
-    let _: Option<Range<u64>> = left.gaps(query).try_next()?;
-    let _: Option<Range<u64>> = left.union(right).try_next()?;
-    let _: Option<Range<u64>> = left.intersection(right).try_next()?;
-    let _: Option<&RangeInclusive<usize>> = left_closed.iter().next();
-    let _: Option<&RangeInclusive<usize>> = left_closed.overlapping(query_closed).next();
-    let _: Option<RangeInclusive<usize>> = left_closed.gaps(query_closed).try_next()?;
-    let _: Option<RangeInclusive<usize>> = left_closed.union(right_closed).try_next()?;
-    let _: Option<RangeInclusive<usize>> = left_closed.intersection(right_closed).try_next()?;
-    Ok(())
-}
-
-pub fn name_iterators(
-    _iter: set::Iter<'_, u64>,
-    _into_iter: set::IntoIter<u64, Global>,
-    _overlapping: set::Overlapping<'_, u64>,
-    _wide_iter: set::Iter<'_, usize>,
-    _wide_into_iter: set::IntoIter<usize, Global>,
-    _wide_overlapping: set::Overlapping<'_, usize>,
-    _gaps: set::Gaps<'_, u64>,
-    _union: set::Union<'_, usize>,
-    _intersection: set::Intersection<'_, usize>,
-) {}
-
-pub fn name_closed_iterators(
-    _iter: inclusive_set::Iter<'_, u64>,
-    _into_iter: inclusive_set::IntoIter<u64, Global>,
-    _overlapping: inclusive_set::Overlapping<'_, u64>,
-    _gaps: inclusive_set::Gaps<'_, u64, u64>,
-    _union: inclusive_set::Union<'_, u64>,
-    _intersection: inclusive_set::Intersection<'_, u64>,
-) {}

@@ -2,6 +2,7 @@
 //! JSON value is made in, and of no other; `from_value` takes that of the container.
 ghost use Rattle.rangemap.specs.Clones.{KeysCloneFaithfully, ValuesCloneFaithfully};
 
+use super::made::Made;
 use rangemap::map::Map;
 use rangemap::range_set::Set;
 use rangemap::{Form, RangeInclusiveMap, ReadError};
@@ -11,8 +12,8 @@ use rangemap_core::store::StoreMut;
 use serde_json::Value;
 use std::alloc::{AllocError, Global};
 use std::test::Fail;
-use tests_requests::{Answer, Row, is_made};
-use tests_support::{Costly, FromEnds, Heap, InRows};
+use tests_requests::{Answer, Row};
+use tests_support::{Costly, FromEnds, Heap};
 
 /// A part is no whole number of the size that is read.
 #[derive(Drop)]
@@ -49,12 +50,12 @@ pub fn try_map<'a, S>(heap: &'a Heap, alloc: Global, row: &Row<'_>, left: u64) -
 where
     S: StoreMut<Range: FromEnds<Key = u32>, Value = u32, Alloc = &'a Heap> + Drop,
     S::Kind: Kind<S::Range, Steps = <S::Range as KeyRange>::Key>,
-    Map<S>: InRows<Range = S::Range, Value = u32, Alloc = &'a Heap, Kind = S::Kind>,
+    Map<S>: Made,
 {
     let (form, value) = form_and_value(alloc, row.given)?;
     heap.refuse_after(left);
     let read = Map::<S>::from_value(heap, form, &value, read_number, read_number);
-    is_made(unless_refused(read)?, row.outcome)
+    Made::is_made(unless_refused(read)?, row.outcome)
 }
 
 /// Tries to read a set of numbers.
@@ -62,12 +63,12 @@ pub fn try_set<'a, S>(heap: &'a Heap, alloc: Global, row: &Row<'_>, left: u64) -
 where
     S: StoreMut<Range: FromEnds<Key = u32>, Value = (), Alloc = &'a Heap> + Drop,
     S::Kind: Kind<S::Range, Steps = <S::Range as KeyRange>::Key>,
-    Set<S>: InRows<Range = S::Range, Value = (), Alloc = &'a Heap, Kind = S::Kind>,
+    Set<S>: Made,
 {
     let (form, value) = form_and_value(alloc, row.given)?;
     heap.refuse_after(left);
     let read = Set::<S>::from_value(heap, form, &value, read_number);
-    is_made(unless_refused(read)?, row.outcome)
+    Made::is_made(unless_refused(read)?, row.outcome)
 }
 
 /// A map of parts whose clones take memory.
@@ -79,7 +80,7 @@ pub fn try_costly(heap: &Heap, alloc: Global, row: &Row<'_>, left: u64) -> Answe
     let read = move |part: &Value| read_costly(heap, part);
     heap.refuse_after(left);
     let read = CostlyParts::from_value(heap, form, &value, read, read);
-    is_made(unless_refused(read)?, row.outcome)
+    Made::is_made(unless_refused(read)?, row.outcome)
 }
 
 /// What was read. What rows name is refused for want of memory alone.

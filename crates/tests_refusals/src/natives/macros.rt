@@ -1,7 +1,8 @@
 //! Lists whose macros are refused memory.
 
+use super::made::Made;
 use rangemap::{range_inclusive_map, range_inclusive_set, range_map, range_set};
-use tests_requests::{Answer, is_made};
+use tests_requests::Answer;
 use tests_support::{Heap, check_that};
 
 /// Tries the four macros, which are refused alike.
@@ -23,26 +24,26 @@ pub fn try_lists(heap: &Heap, left: u64) -> Answer {
 fn try_map(heap: &Heap, left: u64) -> Answer {
     heap.refuse_after(left);
     let map = range_map! { in heap; 0..5u32 => 'a', 7..9 => 'b' };
-    is_made(map, "0..5 a, 7..9 b")
+    Made::is_made(map, "0..5 a, 7..9 b")
 }
 
 /// Tries the list of a closed map.
 fn try_inclusive_map(heap: &Heap, left: u64) -> Answer {
     heap.refuse_after(left);
     let map = range_inclusive_map! { in heap; 0..=5u32 => 'a', 7..=9 => 'b' };
-    is_made(map, "0..=5 a, 7..=9 b")
+    Made::is_made(map, "0..=5 a, 7..=9 b")
 }
 
 /// Tries the list of a set.
 fn try_set(heap: &Heap, left: u64) -> Answer {
     heap.refuse_after(left);
-    is_made(range_set![in heap; 0..5u32, 7..9], "0..5, 7..9")
+    Made::is_made(range_set![in heap; 0..5u32, 7..9], "0..5, 7..9")
 }
 
 /// Tries the list of a closed set.
 fn try_inclusive_set(heap: &Heap, left: u64) -> Answer {
     heap.refuse_after(left);
-    is_made(
+    Made::is_made(
         range_inclusive_set![in heap; 0..=5u32, 7..=9],
         "0..=5, 7..=9",
     )

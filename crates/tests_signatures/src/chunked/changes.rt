@@ -60,7 +60,9 @@ fn change_map<K: Ord + Clone>(
     requires faithful_keys { KeysCloneFaithfully K.is_clone K.cmp }
 {
     map.insert(given, 1)?;
-    map.remove(taken)
+    map.remove(taken)?;
+    map.clear();
+    Ok(())
 }
 
 pub fn change_maps(
@@ -166,22 +168,24 @@ pub fn change_closed_sets(
     change_closed_set(chars, 'a'..='f', 'c'..='d')
 }
 
-pub fn insert_texts_in_map(
+pub fn change_texts_in_map(
     map: &mut RangeMap<String, u8>,
-    range: Range<String>,
+    given: Range<String>,
+    taken: Range<String>,
 ) -> Result<(), AllocError> {
-    if range.is_empty() {
+    if given.is_empty() || taken.is_empty() {
         return Ok(());
     }
-    map.insert(range, 1)
+    change_map(map, given, taken)
 }
 
-pub fn insert_texts_in_set(
+pub fn change_texts_in_set(
     set: &mut RangeSet<String>,
-    range: Range<String>,
+    given: Range<String>,
+    taken: Range<String>,
 ) -> Result<(), AllocError> {
-    if range.is_empty() {
+    if given.is_empty() || taken.is_empty() {
         return Ok(());
     }
-    set.insert(range)
+    change_set(set, given, taken)
 }

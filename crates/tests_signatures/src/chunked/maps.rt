@@ -4,6 +4,7 @@ ghost use Rattle.rangemap.specs.Clones.{KeysCloneFaithfully, ValuesCloneFaithful
 ghost use Rattle.rangemap.specs.NonEmptyPairs.{GivesNonEmpty};
 ghost use Rattle.rangemap.specs.Ranges.{half_open};
 
+use crate::root;
 use rangemap::StepFns;
 use rangemap::chunked::{
     Gaps, InclusiveGaps, InclusiveIter, InclusiveOverlapping, IntoIter, Iter, Overlapping,
@@ -48,16 +49,11 @@ pub fn ask_closed<'a, K: Ord + Clone, V: Eq + Clone, S: StepFns<K>>(
     let _: InclusiveGaps<'a, K, V, S> = map.gaps(range);
 }
 
-pub fn collect_and_change<K: Ord + Clone, V: Eq + Clone, I: IntoIterator<Item = (Range<K>, V)>>(
+pub fn collect<K: Ord + Clone, V: Eq + Clone, I: IntoIterator<Item = (Range<K>, V)>>(
     alloc: Global,
     iter: I,
     more: I,
-    given: Range<K>,
-    value: V,
-    taken: Range<K>,
-) -> Result<(IntoIter<K, V>, RangeMap<K, V>), AllocError>
-    requires given_non_empty { (half_open K.cmp).IsNonEmpty given }
-    requires taken_non_empty { (half_open K.cmp).IsNonEmpty taken }
+) -> Result<(RangeMap<K, V>, RangeMap<K, V>), AllocError>
     requires ends { IsFiniteIterable I.into_iter_gives I.IntoIter.can_next I.IntoIter.remaining iter }
     requires non_empty { (it : I.IntoIter) → I.into_iter_gives iter it → GivesNonEmpty (half_open K.cmp) I.IntoIter.next_gives it }
     requires more_ends { IsFiniteIterable I.into_iter_gives I.IntoIter.can_next I.IntoIter.remaining more }
@@ -65,14 +61,15 @@ pub fn collect_and_change<K: Ord + Clone, V: Eq + Clone, I: IntoIterator<Item = 
     requires faithful_keys { KeysCloneFaithfully K.is_clone K.cmp }
     requires faithful_values { ValuesCloneFaithfully V.is_clone V.eq }
 {
-    let mut changed: RangeMap<K, V> = RangeMap::new(alloc);
-    let answer = changed.extend(more);
+    let mut extended: RangeMap<K, V> = RangeMap::new(alloc);
+    let answer = extended.extend(more);
     let collected = RangeMap::from_iter(alloc, iter)?;
     answer?;
-    changed.insert(given, value)?;
-    changed.remove(taken)?;
-    changed.clear();
-    Ok((collected.into_iter(), changed))
+    Ok((collected, extended))
+}
+
+pub fn hand_over<K: Ord + Clone, V: Eq + Clone>(map: RangeMap<K, V>) -> IntoIter<K, V> {
+    map.into_iter()
 }
 
 pub fn compare<K: Ord + Clone + Hash, V: Ord + Clone + Hash, H: Hasher>(
@@ -80,8 +77,7 @@ pub fn compare<K: Ord + Clone + Hash, V: Ord + Clone + Hash, H: Hasher>(
     right: &RangeMap<K, V>,
     state: &mut H,
 ) -> bool {
-    left.hash(state);
-    left == right || left < right
+    root::compare(left, right, state)
 }
 
 /// A container, a key, and a range.

@@ -1,5 +1,6 @@
 //! Each alias with its defaults, and with all parameters.
 
+use crate::chunked::maps;
 use rangemap::chunked::{
     InclusiveIntoIter, IntoIter, RangeInclusiveMap, RangeInclusiveSet, RangeMap, RangeSet,
 };
@@ -50,7 +51,7 @@ pub fn hand_over_maps(
     map: RangeMap<u64, char>,
     closed: RangeInclusiveMap<i64, char>,
 ) -> (IntoIter<u64, char>, InclusiveIntoIter<i64, char>) {
-    (map.into_iter(), closed.into_iter())
+    (maps::hand_over(map), closed.into_iter())
 }
 
 pub fn of_lists(alloc: Global) -> Result<(RangeMap<u32, char>, RangeSet<u32>), AllocError> {
