@@ -10,7 +10,9 @@ use rangemap_core::pair_iter::{OverlappingPairs, PairIter};
 pub use rangemap_laws::commands::{Answer, Command, Outcome, run};
 pub use rangemap_maps::range_map::Map;
 use rangemap_maps::range_map::calls as map_calls;
-use rangemap_tree::{Tree, into_iter, iter, overlapping};
+use rangemap_tree::ahead::Ahead;
+use rangemap_tree::pairs::Pairs;
+use rangemap_tree::{Tree, into_iter};
 use std::alloc::Global;
 use std::ops::Range;
 
@@ -61,16 +63,16 @@ use std::ops::Range;
 pub type RangeMap<K, V, A = Global> = Map<Tree<K, V, A>>;
 
 /// The pairs of a map, in order and from both ends.
-pub type Iter<'a, K, V> = PairIter<iter::Iter<'a, K, V>>;
+pub type Iter<'a, K, V> = PairIter<Ahead<Pairs<'a, K, V>>>;
 
 /// The pairs that a map hands over, in order and from both ends.
 pub type IntoIter<K, V, A = Global> = PairIter<into_iter::IntoIter<K, V, A>>;
 
 /// The pairs of a map that overlap a range, in order and from both ends.
-pub type Overlapping<'a, K, V> = OverlappingPairs<overlapping::Overlapping<'a, K, V>>;
+pub type Overlapping<'a, K, V> = OverlappingPairs<Pairs<'a, K, V>>;
 
 /// The parts of a range that a map does not cover, in order.
-pub type Gaps<'a, K, V> = gaps::Gaps<'a, HalfOpen, Range<K>, overlapping::Overlapping<'a, K, V>>;
+pub type Gaps<'a, K, V> = gaps::Gaps<'a, HalfOpen, Range<K>, Pairs<'a, K, V>>;
 
 /// A call that makes a map or changes the one at a place of a list.
 pub type Call<K, V, A = Global> = map_calls::Call<Range<K>, V, A>;

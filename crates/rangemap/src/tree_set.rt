@@ -6,7 +6,9 @@ use crate::range_set::calls::SetCall;
 pub use rangemap_containers::replay::replay;
 use rangemap_core::gaps;
 use rangemap_core::half_open::HalfOpen;
-use rangemap_tree::{Tree, into_iter, iter, overlapping};
+use rangemap_tree::ahead::Ahead;
+use rangemap_tree::pairs::Pairs;
+use rangemap_tree::{Tree, into_iter};
 use rangemap_unions::{self as unions, OverlappingRanges, Ranges};
 use std::alloc::Global;
 use std::ops::Range;
@@ -55,22 +57,22 @@ use std::ops::Range;
 pub type RangeSet<T, A = Global> = Set<Tree<T, (), A>>;
 
 /// The ranges of a set, in order and from both ends.
-pub type Iter<'a, T> = Ranges<iter::Iter<'a, T, ()>>;
+pub type Iter<'a, T> = Ranges<Ahead<Pairs<'a, T, ()>>>;
 
 /// The ranges that a set hands over, in order and from both ends.
 pub type IntoIter<T, A = Global> = Ranges<into_iter::IntoIter<T, (), A>>;
 
 /// The ranges of a set that overlap a range, in order and from both ends.
-pub type Overlapping<'a, T> = OverlappingRanges<overlapping::Overlapping<'a, T, ()>>;
+pub type Overlapping<'a, T> = OverlappingRanges<Pairs<'a, T, ()>>;
 
 /// The parts of a range that a set does not cover, in order.
-pub type Gaps<'a, T> = gaps::Gaps<'a, HalfOpen, Range<T>, overlapping::Overlapping<'a, T, ()>>;
+pub type Gaps<'a, T> = gaps::Gaps<'a, HalfOpen, Range<T>, Pairs<'a, T, ()>>;
 
 /// The ranges of two sets, joined where they overlap, in order.
-pub type Union<'a, T> = unions::Union<iter::Iter<'a, T, ()>>;
+pub type Union<'a, T> = unions::Union<Ahead<Pairs<'a, T, ()>>>;
 
 /// The parts that two sets have in common, in order.
-pub type Intersection<'a, T> = unions::Intersection<iter::Iter<'a, T, ()>>;
+pub type Intersection<'a, T> = unions::Intersection<Ahead<Pairs<'a, T, ()>>>;
 
 /// A call that makes a set or changes the one at a place of a list.
 pub type Call<T, A = Global> = SetCall<Range<T>, A>;

@@ -101,12 +101,13 @@ pub fn start_of<Q: Kind<R>, R: KeyRange, V: Eq, A: Allocator>(
     count.saturating_sub(1)
 }
 
-/// Returns the place of the first item that fails the test, of a list whose first part passes it; the
-/// one behind `at` where that fails it, for which one look suffices.
+/// Returns the place of the first item behind `at` that fails the test, of a list whose first part
+/// passes it: the next one where that fails it, for which one look suffices.
 pub fn first_failing<T, P: Fn(&T) -> bool>(items: &[T], at: usize, passes: P) -> usize
     requires in_bounds { at < length items.now }
     requires callable { P.IsAlwaysCallable passes }
     ensures bound { result ≤ length items.now }
+    ensures behind { (test : T → Bool) → ComputesKey P.FnMut test passes → IsPartitionedBy test items.now → at < result }
     ensures failing { (test : T → Bool) → ComputesKey P.FnMut test passes → IsPartitionedBy test items.now → AllWithin (λ item. test item ≡ false) items.now result (length items.now) }
     ensures passing { (test : T → Bool) → ComputesKey P.FnMut test passes → IsPartitionedBy test items.now → at + 1 < result → AllWithin (λ item. test item ≡ true) items.now 0 result }
 {
@@ -117,8 +118,8 @@ pub fn first_failing<T, P: Fn(&T) -> bool>(items: &[T], at: usize, passes: P) ->
     next
 }
 
-/// Returns the place of a chunk from which on no pair overlaps the range, where none before the chunk
-/// `at` does.
+/// Returns the place of the first chunk behind `at` from which on no pair overlaps the range, where none
+/// before the chunk `at` does.
 pub fn end_from<Q: Kind<R>, R: KeyRange, V: Eq, A: Allocator>(
     chunks: &[Chunk<R, V, A>],
     range: &R,
@@ -127,6 +128,7 @@ pub fn end_from<Q: Kind<R>, R: KeyRange, V: Eq, A: Allocator>(
     requires chunked { AreChunks Q.kind V.eq chunks.now }
     requires in_bounds { at < length chunks.now }
     ensures bound { result ≤ length chunks.now }
+    ensures behind { at < result }
     ensures clear { IsPastBehind (shape_of Q.kind Q.end_place V.eq) chunks.now range.now result }
     ensures begun { at + 1 < result → AllWithin (λ chunk. chunk_below (shape_of Q.kind Q.end_place V.eq) (Q.end_place range.now) chunk ≡ true) chunks.now 0 result }
 {

@@ -2,13 +2,13 @@
 ghost use Rattle.std.specs.Prelude.{◌≡◌, ◌≢◌, ◌++◌, [], false, true, IfOk, IfSome, List, MatchOption, None as NoneWord, Ok as OkWord, OnErr, OnOk, length, map};
 ghost use Rattle.std.specs.Iterator.{Drains, IsFinite, UpTo, at_most};
 ghost use Rattle.std.specs.Iterator.SizeHint.{IsWithinCount};
-ghost use Rattle.std.specs.Option.{option_map};
+ghost use Rattle.std.specs.Map.Iter.{TakesFirst};
+ghost use Rattle.std.specs.Option.{option_map, option_to_list};
 ghost use Rattle.rangemap_core.specs.Clones.{KeysCloneFaithfully};
-ghost use Rattle.rangemap_core.specs.engine.Endpoints.{AtStart, endpoint_of, gaps_from, is_before};
-ghost use Rattle.rangemap_core.specs.engine.GapsAhead.{start_behind};
+ghost use Rattle.rangemap_core.specs.engine.Endpoints.{AtStart, endpoint_of, gaps_from, is_before, start_behind};
 ghost use Rattle.rangemap_core.specs.MadeRanges.{GivesRange, IsSame, TakesRange};
 ghost use Rattle.rangemap_core.specs.Ranges.{AreGaps};
-ghost use Rattle.rangemap_core.specs.Shown.{shown_range};
+ghost use Rattle.rangemap_core.specs.Shown.{shown, shown_range};
 
 use crate::cursor::Cursor;
 use crate::key_range::KeyRange;
@@ -24,8 +24,8 @@ pub struct Gaps<'a, Q: Kind<R>, R: KeyRange, C: Cursor<Range = R>> {
     // The stored range at whose end the next gap may start. Where there is none it may start with
     // the outer range.
     last: Option<(C::Given, C::GivenValue)>,
-    // The range up to which it may go, and the pairs behind that one.
-    next: Option<(C::Given, C::GivenValue)>,
+    // The range up to which a gap was to go whose clones were refused, and the pairs behind it.
+    refused: Option<(C::Given, C::GivenValue)>,
     pairs: C,
     outer_range: &'a R,
     is_done: bool,
@@ -33,14 +33,14 @@ pub struct Gaps<'a, Q: Kind<R>, R: KeyRange, C: Cursor<Range = R>> {
 }
 
 impl<'a, Q: Kind<R>, R: KeyRange, C: Cursor<Range = R>> Model for Gaps<'a, Q, R, C> {
-    ghost use Rattle.std.specs.Prelude.{List, [], if◌then◌else◌};
-    ghost use Rattle.std.specs.Option.{option_map};
-    ghost use Rattle.rangemap_core.specs.engine.GapsAhead.{gaps_behind, start_behind};
-    ghost use Rattle.rangemap_core.specs.Shown.{shown_range};
+    ghost use Rattle.std.specs.Prelude.{List, [], ◌++◌, if◌then◌else◌};
+    ghost use Rattle.std.specs.Option.{option_map, option_to_list};
+    ghost use Rattle.rangemap_core.specs.engine.Endpoints.{gaps_from, start_behind};
+    ghost use Rattle.rangemap_core.specs.Shown.{shown, shown_range};
 
     ghost Value = { List R };
 
-    ghost view = { λ s. if s.is_done then [] else gaps_behind Q.kind Q.end_place Q.part_of (start_behind s.outer_range.now (option_map (shown_range C.given) s.last)) s.outer_range.now (option_map (shown_range C.given) s.next) (C.left s.pairs) };
+    ghost view = { λ s. if s.is_done then [] else gaps_from Q.kind Q.end_place Q.part_of (start_behind s.outer_range.now (option_map (shown_range C.given) s.last)) s.outer_range.now (option_to_list (option_map (shown C.given C.given_value) s.refused) ++ C.left s.pairs) };
 }
 
 impl<'a, Q: Kind<R>, R: KeyRange, C: Cursor<Range = R, Given: Drop, GivenValue: Drop>> Gaps<
@@ -53,11 +53,10 @@ impl<'a, Q: Kind<R>, R: KeyRange, C: Cursor<Range = R, Given: Drop, GivenValue: 
     pub fn over(pairs: C, outer_range: &'a R) -> Self
         ensures { result ≡ gaps_from Q.kind Q.end_place Q.part_of (AtStart outer_range.now) outer_range.now (C.left pairs) }
     {
-        let mut rest = pairs;
         Gaps {
             last: None,
-            next: rest.take_first(),
-            pairs: rest,
+            refused: None,
+            pairs,
             outer_range,
             is_done: false,
             kind: PhantomData,
@@ -78,17 +77,23 @@ impl<'a, Q: Kind<R>, R: KeyRange, C: Cursor<Range = R, Given: Drop, GivenValue: 
         if self.is_done {
             return Ok(None);
         }
-        while let Some(next) = &self.next {
-            let from = end_of::<C>(&self.last, self.outer_range);
-            let gap = part_between::<Q, R>(from, Endpoint::Start(C::parts(next).0))?;
-            self.last = self.next.take();
-            self.next = self.pairs.take_first();
-            if gap.is_some() {
-                return Ok(gap);
+        'passed: while let Some(next) = take_next(&mut self.refused, &mut self.pairs) {
+            let to = Endpoint::Start(C::parts(&next).0);
+            match part_up_to::<Q, C>(&self.last, self.outer_range, to) {
+                Ok(gap) => {
+                    self.last = Some(next);
+                    if gap.is_some() {
+                        return Ok(gap);
+                    }
+                }
+                Err(error) => {
+                    self.refused = Some(next);
+                    return Err(error);
+                }
             }
         }
-        let from = end_of::<C>(&self.last, self.outer_range);
-        let gap = part_between::<Q, R>(from, Endpoint::End(self.outer_range))?;
+        let to = Endpoint::End(self.outer_range);
+        let gap = part_up_to::<Q, C>(&self.last, self.outer_range, to)?;
         self.is_done = true;
         Ok(gap)
     }
@@ -184,18 +189,33 @@ fn append_items<R: Drop, I: Iterator<Item = Result<R, AllocError>> + Drop, B: Al
     Ok(())
 }
 
-// Where the next gap may start.
-fn end_of<'b, C: Cursor>(
-    last: &'b Option<(C::Given, C::GivenValue)>,
-    outer_range: &'b C::Range,
-) -> Endpoint<'b, C::Range>
-where
-    C::Value: 'b,
-    ensures { endpoint_of result ≡ start_behind outer_range.now (option_map (shown_range C.given) last.now) }
+// Takes the pair at which a gap was refused, if there is one, or the next.
+fn take_next<C: Cursor>(
+    refused: &mut Option<(C::Given, C::GivenValue)>,
+    pairs: &mut C,
+) -> Option<(C::Given, C::GivenValue)>
+    ensures none_refused { refused.new ≡ NoneWord }
+    ensures taken { TakesFirst (shown C.given C.given_value) (option_to_list (option_map (shown C.given C.given_value) refused.old) ++ C.left pairs.old) result (C.left pairs.new) }
+{
+    if let Some(next) = refused.take() {
+        return Some(next);
+    }
+    pairs.take_first()
+}
+
+// The part up to an endpoint from where the next gap may start, if it has a key.
+fn part_up_to<Q: Kind<C::Range>, C: Cursor<Range: KeyRange>>(
+    last: &Option<(C::Given, C::GivenValue)>,
+    outer_range: &C::Range,
+    to: Endpoint<'_, C::Range>,
+) -> Result<Option<C::Range>, AllocError>
+    requires { KeysCloneFaithfully C.Range.Key.is_clone C.Range.Key.cmp }
+    ensures ok { IfOk result (λ gap. MatchOption gap (is_before Q.kind Q.end_place (start_behind outer_range.now (option_map (shown_range C.given) last.now)) (endpoint_of to.entry) ≡ false) (λ r. (is_before Q.kind Q.end_place (start_behind outer_range.now (option_map (shown_range C.given) last.now)) (endpoint_of to.entry) ≡ true) × IsSame Q.kind (Q.part_of (start_behind outer_range.now (option_map (shown_range C.given) last.now)) (endpoint_of to.entry)) r)) }
+    ensures err { OnErr result (is_before Q.kind Q.end_place (start_behind outer_range.now (option_map (shown_range C.given) last.now)) (endpoint_of to.entry) ≡ true) }
 {
     match last {
-        Some(pair) => Endpoint::End(C::parts(pair).0),
-        None => Endpoint::Start(outer_range),
+        Some(pair) => part_between::<Q, C::Range>(Endpoint::End(C::parts(pair).0), to),
+        None => part_between::<Q, C::Range>(Endpoint::Start(outer_range), to),
     }
 }
 

@@ -7,9 +7,9 @@ ghost use Rattle.std.specs.declared.ops.Bound.TheVariants.{Excluded};
 ghost use Rattle.rangemap_core.specs.Clones.{KeysCloneFaithfully};
 ghost use Rattle.rangemap_tree.specs.Starts.{AreClones, AreStarts, before, up_to};
 
+use crate::ahead::Ahead;
 use crate::into_iter::IntoIter;
-use crate::iter::Iter;
-use crate::overlapping::Overlapping;
+use crate::pairs::Pairs;
 use rangemap_core::cursor::Cursor;
 use std::alloc::{AllocError, Allocator};
 use std::collections::BTreeMap;
@@ -66,12 +66,12 @@ impl<K: Ord, V, A: Allocator> ByStart<K, V, A> {
     }
 
     /// Returns the pairs, in order.
-    pub fn iter(&self) -> Iter<'_, K, V>
+    pub fn iter(&self) -> Ahead<Pairs<'_, K, V>>
         ensures { result ≡ self.now }
     {
         match &self.tree {
-            Some(tree) => Iter::over(Some(tree.values())),
-            None => Iter::over(None),
+            Some(tree) => Ahead::over(Pairs::over(Some(tree.range(..)))),
+            None => Ahead::over(Pairs::over(None)),
         }
     }
 
@@ -87,13 +87,13 @@ impl<K: Ord, V, A: Allocator> ByStart<K, V, A> {
     }
 
     /// Returns the pairs that start between two bounds, in order.
-    pub fn between(&self, from: Bound<&K>, to: &K) -> Overlapping<'_, K, V>
+    pub fn between(&self, from: Bound<&K>, to: &K) -> Pairs<'_, K, V>
         requires { IsForward (IsLeBy K.cmp) (IsLtBy K.cmp) (bound_map (λ x. x.now) from) (Excluded to.now) }
         ensures { result ≡ filter (λ p. range_contains K.cmp (bound_map (λ x. x.now) from.entry) (Excluded to.now) p.0.start) self.now }
     {
         match &self.tree {
-            Some(tree) => Overlapping::over(Some(tree.range((from, Bound::Excluded(to))))),
-            None => Overlapping::over(None),
+            Some(tree) => Pairs::over(Some(tree.range((from, Bound::Excluded(to))))),
+            None => Pairs::over(None),
         }
     }
 

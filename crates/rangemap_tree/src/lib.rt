@@ -5,11 +5,12 @@
 //! and `Set` stand on.
 #![tactic(auto)]
 
+pub mod ahead;
 pub mod by_start;
 pub mod insert;
 pub mod into_iter;
-pub mod iter;
 pub mod overlapping;
+pub mod pairs;
 pub mod remove;
 pub mod tree;
 

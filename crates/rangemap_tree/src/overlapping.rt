@@ -1,80 +1,15 @@
 //! The pairs of a tree that overlap a range, or have a key.
-ghost use Rattle.std.specs.Prelude.{◌≡◌, [], filter, unwrap_or};
+ghost use Rattle.std.specs.Prelude.{◌≡◌, filter};
 ghost use Rattle.std.specs.BTreeMap.Range.{range_contains, IsLeBy, IsLtBy};
 ghost use Rattle.std.specs.Range.Bound.{bound_map, IsForward};
-ghost use Rattle.std.specs.Map.{values_of};
 ghost use Rattle.std.specs.Option.{option_map};
 ghost use Rattle.std.specs.declared.ops.Bound.TheVariants.{Excluded};
 ghost use Rattle.rangemap_core.specs.Ranges.{IsCanonical, covering, half_open, overlapped};
 
 use crate::by_start::ByStart;
-use rangemap_core::cursor::Cursor;
+use crate::pairs::Pairs;
 use std::alloc::Allocator;
-use std::collections::btree_map;
-use std::iter::{DoubleEndedIterator, Iterator};
-use std::marker::Model;
 use std::ops::{Bound, Range};
-
-/// The pairs that overlap a range, in order.
-#[derive(Drop)]
-pub struct Overlapping<'a, K, V> {
-    // Their entries, in a tree if there is one.
-    entries: Option<btree_map::Range<'a, K, (Range<K>, V)>>,
-}
-
-impl<'a, K, V> Model for Overlapping<'a, K, V> {
-    ghost use Rattle.std.specs.Prelude.{List, [], unwrap_or};
-    ghost use Rattle.std.specs.Option.{option_map};
-    ghost use Rattle.std.specs.Map.{values_of};
-    ghost use Rattle.std.specs.declared.ops.Range.{Range as RangeOf};
-
-    ghost Value = { List (RangeOf K × V) };
-
-    ghost view = { λ s. unwrap_or (option_map values_of s.entries) [] };
-}
-
-impl<'a, K, V> Overlapping<'a, K, V> {
-    /// Returns the pairs of a part of a tree, if there is one, none of which was taken yet.
-    pub(crate) fn over(
-        entries: Option<btree_map::Range<'a, K, (Range<K>, V)>>,
-    ) -> Overlapping<'a, K, V>
-        ensures { result ≡ unwrap_or (option_map values_of entries.entry) [] }
-    {
-        Overlapping { entries }
-    }
-}
-
-impl<'a, K, V> Cursor for Overlapping<'a, K, V> {
-    ghost use Rattle.std.specs.Map.Iter.{deref};
-
-    type Range = Range<K>;
-
-    type Value = V;
-
-    type Given = &'a Range<K>;
-
-    type GivenValue = &'a V;
-
-    ghost left = { λ it. it };
-
-    ghost given = { deref };
-
-    ghost given_value = { deref };
-
-    fn take_first(&mut self) -> Option<(&'a Range<K>, &'a V)> {
-        let (_, pair) = self.entries.as_mut()?.next()?;
-        Some((&pair.0, &pair.1))
-    }
-
-    fn take_last(&mut self) -> Option<(&'a Range<K>, &'a V)> {
-        let (_, pair) = self.entries.as_mut()?.next_back()?;
-        Some((&pair.0, &pair.1))
-    }
-
-    fn parts<'b>(pair: &'b (&'a Range<K>, &'a V)) -> (&'b Range<K>, &'b V) {
-        (pair.0, pair.1)
-    }
-}
 
 /// Returns the pair of a canonical list whose range has the key, if there is one: no other than the
 /// last that starts no later than the key.
@@ -101,7 +36,7 @@ pub fn covering<'a, K: Ord, V: Eq, A: Allocator>(
 pub fn overlapping_pairs<'a, K: Ord, V: Eq, A: Allocator>(
     pairs: &'a ByStart<K, V, A>,
     query: &Range<K>,
-) -> Overlapping<'a, K, V>
+) -> Pairs<'a, K, V>
     requires { IsCanonical (half_open K.cmp) V.eq pairs.now }
     ensures { result ≡ overlapped (half_open K.cmp) pairs.now query.now }
 {

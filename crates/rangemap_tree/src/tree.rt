@@ -1,10 +1,11 @@
 //! The store in a B-tree.
 
+use crate::ahead::Ahead;
 use crate::by_start::ByStart;
 use crate::insert::insert;
 use crate::into_iter::IntoIter;
-use crate::iter::Iter;
-use crate::overlapping::{Overlapping, covering, overlapping_pairs};
+use crate::overlapping::{covering, overlapping_pairs};
+use crate::pairs::Pairs;
 use crate::remove::remove;
 use rangemap_core::cursor::Cursor;
 use rangemap_core::gaps::append_gaps;
@@ -111,7 +112,7 @@ impl<K: Ord + Clone, V: Eq + Clone, A: Allocator + Clone> Store for Tree<K, V, A
         out: &mut Vec<Range<K>, B>,
     ) -> Result<(), AllocError> {
         let pairs = overlapping_pairs(&self.pairs, outer_range);
-        append_gaps::<HalfOpen, Range<K>, Overlapping<'_, K, V>, B>(pairs, outer_range, out)
+        append_gaps::<HalfOpen, Range<K>, Pairs<'_, K, V>, B>(pairs, outer_range, out)
     }
 }
 
@@ -162,15 +163,15 @@ where
 {
     ghost use Rattle.std.specs.Prelude.{refl};
 
-    type Iter = Iter<'a, K, V>;
+    type Iter = Ahead<Pairs<'a, K, V>>;
 
-    type Overlapping = Overlapping<'a, K, V>;
+    type Overlapping = Pairs<'a, K, V>;
 
-    fn iter(&'a self) -> Iter<'a, K, V> {
+    fn iter(&'a self) -> Ahead<Pairs<'a, K, V>> {
         self.pairs.iter()
     }
 
-    fn overlapping(&'a self, range: &'a Range<K>) -> Overlapping<'a, K, V> {
+    fn overlapping(&'a self, range: &'a Range<K>) -> Pairs<'a, K, V> {
         overlapping_pairs(&self.pairs, range)
     }
 

@@ -1,4 +1,5 @@
-//! The map as one of the library's containers: each method but the appends is the map's own call. The appends hand its store's pairs and gaps on.
+//! The map as one of the library's containers: each method but the appends is the map's own call. The
+//! appends hand its store's pairs and gaps on.
 ghost use Rattle.std.specs.Prelude.{◌≡◌};
 
 use super::Map;

@@ -24,3 +24,12 @@ returns-clause-begun g c =
     let end = g.Q.Kind.end_place c.args.range.now in
     let parted = below_chunked (S p eq) (places p eq) e end c.args.chunks.now (spaced_whole p e c.args.chunks.now c.requires.chunked) c.requires.chunked.filled in
     c.first_failing.ensures.passing (chunk_below (S p eq) end) (always_returns_same _ _ _ (λ a r f called. search rules)) parted
+
+pub returns-clause-behind : goal.returns-clause-behind
+returns-clause-behind g c =
+    let p = g.met.Q.Kind.placed in
+    let e = g.met.V.Eq.laws in
+    let eq = g.V.PartialEq.eq in
+    let end = g.Q.Kind.end_place c.args.range.now in
+    let parted = below_chunked (S p eq) (places p eq) e end c.args.chunks.now (spaced_whole p e c.args.chunks.now c.requires.chunked) c.requires.chunked.filled in
+    c.first_failing.ensures.behind (chunk_below (S p eq) end) (always_returns_same _ _ _ (λ a r f called. search rules)) parted
