@@ -1,4 +1,4 @@
--- Edges of closed ranges: what the code compares in place of places, and that there is a key where it steps to one.
+-- Edges of closed ranges: what the code compares in place of places.
 use Rattle.std.proofs.Common.{◌≡◌, true, false, Option, Some, None, ◌∙◌, ap, sym, subst, refl, true≢false, Ordering, Less, Equal, Greater, is_lt, is_le}
 use Rattle.std.specs.Cmp.{IsTotalOrder}
 use Rattle.std.specs.declared.ops.RangeInclusive.{RangeInclusive}
@@ -14,7 +14,6 @@ use Rattle.rangemap_core.specs.engine.Endpoints.{EndpointOf, AtStart, AtEnd, IsA
 use Rattle.rangemap_core.specs.engine.ClosedEndpoints.{closed_placed, closed_first, closed_last, closed_part}
 use Rattle.rangemap_core.specs.Touch.{IsTouch}
 use Rattle.rangemap_core.specs.declared.std_ext.Touch.TheVariants.{Apart, Touching, NotBefore}
-use Rattle.rangemap_core.specs.engine.Steppable.{HasFirst, HasLast}
 
 module _ {K : Type 0} (is_key : K → Type 0) (cmp : K → K → Ordering) (o : IsTotalOrder cmp) (after before : K → Option K)
     (follows : GivesSuccessors is_key cmp after) (precedes : GivesPredecessors is_key cmp before) where
@@ -72,26 +71,6 @@ module _ {K : Type 0} (is_key : K → Type 0) (cmp : K → K → Ordering) (o : 
         go Less e = absurd (h (after_le_from is_key cmp o (range_inclusive_end r) (range_inclusive_start s) (after (range_inclusive_end r)) next (ap is_le e)))
         go Equal e = refl
         go Greater e = refl
-
-  -- a part that starts behind an end starts at a key
-  pub has_first : (from to : EndpointOf (RangeInclusive K)) → IsKeyed from → is_part from to → HasFirst is_key cmp from
-  has_first (AtStart r) to a h = tt
-  has_first (AtEnd r) to a h = go (after (range_inclusive_end r)) (follows (range_inclusive_end r) a.end_is_key) _ h
-    where
-      go : (w : Option K) → After is_key cmp o (range_inclusive_end r) w → (b : Option K) → is_lt (place_cmp cmp w b) ≡ true → HasFirst is_key cmp (AtEnd r)
-      go None n None l = cc
-      go None n (Some y) l = cc
-      go (Some g) n b l = record { other = g; is_a_key = n.to_key; greater = n.below }
-
-  -- a part that ends before a start ends at a key
-  pub has_last : (from to : EndpointOf (RangeInclusive K)) → IsKeyed from → is_part from to → HasLast is_key cmp to
-  has_last from (AtEnd s) a h = tt
-  has_last (AtStart r) (AtStart s) a h = record { other = range_inclusive_start r; is_a_key = a.start_is_key; smaller = lt_is _ h }
-  has_last (AtEnd r) (AtStart s) a h = go (after (range_inclusive_end r)) (follows (range_inclusive_end r) a.end_is_key) h
-    where
-      go : (w : Option K) → After is_key cmp o (range_inclusive_end r) w → is_lt (place_cmp cmp w (Some (range_inclusive_start s))) ≡ true → HasLast is_key cmp (AtStart s)
-      go None n l = cc
-      go (Some g) n l = record { other = g; is_a_key = n.to_key; smaller = lt_is _ l }
 
   -- a range with the ends of a part
   pub same_part : (from to : EndpointOf (RangeInclusive K)) (range : RangeInclusive K) → IsKeyed from → IsKeyed to → is_part from to

@@ -3,14 +3,10 @@
 //! A step is asked of a key only where a greater or smaller key was seen, which is a condition of
 //! the step: so nothing here steps past the last key of a type. Whether two ranges touch is told by
 //! `touch_test_inclusive` of `std_ext`, which stands beside the test of `a..b`.
-ghost use Rattle.std.specs.Prelude.{◌≡◌, IfOk};
-ghost use Rattle.std.specs.declared.cmp.Ordering.TheVariants.{Equal as EqualWord};
-ghost use Rattle.rangemap_core.specs.Clones.{KeysCloneFaithfully};
+ghost use Rattle.std.specs.Prelude.{◌≡◌};
 ghost use Rattle.rangemap_core.specs.engine.Endpoints.{AtEnd, AtStart, IsAsked, IsAskedAt, endpoint_of, is_before};
-ghost use Rattle.rangemap_core.specs.engine.ClosedEndpoints.{closed_first, closed_last};
 ghost use Rattle.rangemap_core.specs.engine.ClosedPlaces.{closed_end_place};
 ghost use Rattle.rangemap_core.specs.Ranges.{closed};
-ghost use Rattle.rangemap_core.specs.engine.Steppable.{HasFirst, HasLast};
 
 use crate::kind::{Endpoint, Kind};
 use crate::std_ext::{StepFns, Touch, touch_test_inclusive};
@@ -90,8 +86,14 @@ impl<K: Ord + Clone, StepFnsT: StepFns<K>> Kind<RangeInclusive<K>> for Closed<St
     {
         known_at::<K, StepFnsT>(from);
         known_at::<K, StepFnsT>(to);
-        let start = first_key::<K, StepFnsT>(from)?;
-        let end = last_key::<K, StepFnsT>(to)?;
+        let start = match from {
+            Endpoint::Start(range) => range.start().clone()?,
+            Endpoint::End(range) => StepFnsT::add_one(range.end()),
+        };
+        let end = match to {
+            Endpoint::Start(range) => StepFnsT::sub_one(range.start()),
+            Endpoint::End(range) => range.end().clone()?,
+        };
         StepFnsT::known(&start);
         StepFnsT::known(&end);
         Ok(RangeInclusive::new(start, end))
@@ -123,33 +125,5 @@ fn known_at<K: Ord + Clone, StepFnsT: StepFns<K>>(endpoint: Endpoint<'_, RangeIn
             StepFnsT::known(range.start());
             StepFnsT::known(range.end());
         }
-    }
-}
-
-// The first key behind the endpoint.
-fn first_key<K: Ord + Clone, StepFnsT: StepFns<K>>(
-    from: Endpoint<'_, RangeInclusive<K>>,
-) -> Result<K, AllocError>
-    requires has_first { HasFirst StepFnsT.is_key K.cmp (endpoint_of from) }
-    requires faithful_keys { KeysCloneFaithfully K.is_clone K.cmp }
-    ensures { IfOk result (λ key. K.cmp (closed_first StepFnsT.after (endpoint_of from.entry)) key ≡ EqualWord) }
-{
-    match from {
-        Endpoint::Start(range) => range.start().clone(),
-        Endpoint::End(range) => Ok(StepFnsT::add_one(range.end())),
-    }
-}
-
-// The last key before the endpoint.
-fn last_key<K: Ord + Clone, StepFnsT: StepFns<K>>(
-    to: Endpoint<'_, RangeInclusive<K>>,
-) -> Result<K, AllocError>
-    requires has_last { HasLast StepFnsT.is_key K.cmp (endpoint_of to) }
-    requires faithful_keys { KeysCloneFaithfully K.is_clone K.cmp }
-    ensures { IfOk result (λ key. K.cmp (closed_last StepFnsT.before (endpoint_of to.entry)) key ≡ EqualWord) }
-{
-    match to {
-        Endpoint::Start(range) => Ok(StepFnsT::sub_one(range.start())),
-        Endpoint::End(range) => range.end().clone(),
     }
 }

@@ -20,9 +20,7 @@ pub fn covering<'a, K: Ord, V: Eq, A: Allocator>(
     requires { IsCanonical (half_open K.cmp) V.eq pairs.now }
     ensures { option_map (λ pair. (pair.0.now, pair.1.now)) result ≡ covering (half_open K.cmp) pairs.now key.now }
 {
-    let Some((range, value)) = pairs.last_up_to(key) else {
-        return None;
-    };
+    let (range, value) = pairs.last_up_to(key)?;
     if key.cmp(&range.end).is_lt() {
         Some((range, value))
     } else {

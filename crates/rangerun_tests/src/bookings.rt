@@ -2,59 +2,55 @@
 //! leave is asked of the program, in `cal.rt`.
 
 use calendar::{BookError, Calendar, Call, replay};
-use std::alloc::{AllocError, Allocator};
-use std::process::Abort;
+use std::alloc::Allocator;
 use std::test::Fail;
-use tests_support::Refusing;
+use tests_support::{Refusing, check_same, check_that};
 
 /// A number of requests for memory that no call here makes.
 const MANY: u64 = 1000;
 
 /// The stretches of days that guests hold are these.
-fn assert_held<A: Allocator, R: AllocGlobal + Abort>(
+fn check_held<A: Allocator, R: AllocGlobal>(
     rt: &R,
     calendar: &Calendar<A>,
     held: &[(u32, u32, u32)],
-) -> Result<(), AllocError> {
+) -> Result<(), Fail> {
     let mut found = Vec::new(rt.alloc());
     for (days, guest) in calendar.iter() {
         found.push((*days.start(), *days.end(), *guest))?;
     }
-    assert_eq!(rt; found.as_slice(), held);
-    Ok(())
+    check_same(found.as_slice(), held)
 }
 
 #[test]
 fn a_day_has_a_holder_or_is_free(rt: HostRuntime) -> Result<(), Fail> {
     let mut calendar = Calendar::new(rt.alloc());
-    assert_eq!(rt; calendar.holder(0), None);
-    assert_eq!(rt; calendar.free(&(3..=5)).try_next()?, Some(3..=5));
-    assert_eq!(rt; calendar.book(4294967295, 4294967295, 3), Ok(()));
-    assert_eq!(rt; calendar.holder(4294967295), Some(3));
-    assert_eq!(rt; calendar.holder(4294967294), None);
-    assert_held(&rt, &calendar, &[(4294967295, 4294967295, 3)])?;
-    Ok(())
+    check_same(calendar.holder(0), None)?;
+    check_same(calendar.free(&(3..=5)).try_next()?, Some(3..=5))?;
+    check_same(calendar.book(4294967295, 4294967295, 3), Ok(()))?;
+    check_same(calendar.holder(4294967295), Some(3))?;
+    check_same(calendar.holder(4294967294), None)?;
+    check_held(&rt, &calendar, &[(4294967295, 4294967295, 3)])
 }
 
 #[test]
 fn days_come_as_a_range(rt: HostRuntime) -> Result<(), Fail> {
     let mut calendar = Calendar::new(rt.alloc());
     let mut days = 3..=6;
-    assert_eq!(rt; days.next(), Some(3));
-    assert_eq!(rt; calendar.book_days(days, 1), Ok(()));
-    assert_held(&rt, &calendar, &[(4, 6, 1)])?;
-    assert_eq!(rt; calendar.book_days(0..=4, 2), Err(BookError::Taken));
+    check_same(days.next(), Some(3))?;
+    check_same(calendar.book_days(days, 1), Ok(()))?;
+    check_held(&rt, &calendar, &[(4, 6, 1)])?;
+    check_same(calendar.book_days(0..=4, 2), Err(BookError::Taken))?;
     // Nobody holds the day, and both ends are 8.
     let mut days = 8..=8;
-    assert_eq!(rt; days.next(), Some(8));
-    assert_eq!(rt; calendar.book_days(days, 2), Err(BookError::Empty));
+    check_same(days.next(), Some(8))?;
+    check_same(calendar.book_days(days, 2), Err(BookError::Empty))?;
     let mut days = 5..=6;
-    assert_eq!(rt; days.next(), Some(5));
-    assert_eq!(rt; days.next_back(), Some(6));
-    assert_eq!(rt; calendar.book_days(days, 2), Err(BookError::Empty));
-    assert_eq!(rt; calendar.book_days(9..=8, 2), Err(BookError::Empty));
-    assert_held(&rt, &calendar, &[(4, 6, 1)])?;
-    Ok(())
+    check_same(days.next(), Some(5))?;
+    check_same(days.next_back(), Some(6))?;
+    check_same(calendar.book_days(days, 2), Err(BookError::Empty))?;
+    check_same(calendar.book_days(9..=8, 2), Err(BookError::Empty))?;
+    check_held(&rt, &calendar, &[(4, 6, 1)])
 }
 
 #[test]
@@ -81,9 +77,8 @@ fn calls_are_replayed(rt: HostRuntime) -> Result<(), Fail> {
         Ok(()),
         Ok(()),
     ];
-    assert_eq!(rt; answers.as_slice(), expected.as_slice());
-    assert_held(&rt, &calendar, &[(10, 11, 1), (12, 13, 2), (14, 20, 1)])?;
-    Ok(())
+    check_same(answers.as_slice(), expected.as_slice())?;
+    check_held(&rt, &calendar, &[(10, 11, 1), (12, 13, 2), (14, 20, 1)])
 }
 
 /// A call that books days.
@@ -100,50 +95,49 @@ fn cancel(first: u32, last: u32) -> Call {
 fn a_booking_may_be_refused_memory(rt: HostRuntime) -> Result<(), Fail> {
     let heap = Refusing::new(rt.alloc(), 0);
     let mut calendar = Calendar::new(&heap);
-    assert_eq!(rt; calendar.book(10, 14, 1), Err(BookError::OutOfMemory));
-    assert_held(&rt, &calendar, &[])?;
+    check_same(calendar.book(10, 14, 1), Err(BookError::OutOfMemory))?;
+    check_held(&rt, &calendar, &[])?;
     heap.refuse_after(0);
-    assert_eq!(rt; calendar.book(14, 10, 1), Err(BookError::Empty));
-    assert_eq!(rt; calendar.cancel(10, 14), Ok(()));
+    check_same(calendar.book(14, 10, 1), Err(BookError::Empty))?;
+    check_same(calendar.cancel(10, 14), Ok(()))?;
     heap.refuse_after(MANY);
-    assert_eq!(rt; calendar.book(10, 14, 1), Ok(()));
-    assert_held(&rt, &calendar, &[(10, 14, 1)])?;
-    Ok(())
+    check_same(calendar.book(10, 14, 1), Ok(()))?;
+    check_held(&rt, &calendar, &[(10, 14, 1)])
 }
 
 /// Whether a cancellation in the middle of the last of `count` stretches is refused memory. What is
 /// refused changes nothing.
-fn is_cancel_refused<R: AllocGlobal + Abort>(rt: &R, count: u32) -> Result<bool, AllocError> {
+fn is_cancel_refused<R: AllocGlobal>(rt: &R, count: u32) -> Result<bool, Fail> {
     let heap = Refusing::new(rt.alloc(), MANY);
     let mut calendar = Calendar::new(&heap);
     let mut held = Vec::new(rt.alloc());
     for i in 0..count {
         let first = i.saturating_mul(10);
         let last = first.saturating_add(4);
-        assert_eq!(rt; calendar.book(first, last, i), Ok(()));
+        check_same(calendar.book(first, last, i), Ok(()))?;
         held.push((first, last, i))?;
     }
     let day = count.saturating_sub(1).saturating_mul(10).saturating_add(2);
     heap.refuse_after(0);
     let answer = calendar.cancel(day, day);
     if answer.is_ok() {
-        assert_eq!(rt; calendar.holder(day), None);
+        check_same(calendar.holder(day), None)?;
         return Ok(false);
     }
-    assert_eq!(rt; answer, Err(BookError::OutOfMemory));
-    assert_held(rt, &calendar, held.as_slice())?;
+    check_same(answer, Err(BookError::OutOfMemory))?;
+    check_held(rt, &calendar, held.as_slice())?;
     Ok(true)
 }
 
 #[test]
-fn a_cancellation_may_be_refused_memory(rt: HostRuntime) -> Result<(), AllocError> {
+fn a_cancellation_may_be_refused_memory(rt: HostRuntime) -> Result<(), Fail> {
     let mut refused = 0u32;
     for count in 1..40 {
         if is_cancel_refused(&rt, count)? {
             refused = refused.saturating_add(1);
         }
     }
-    assert!(rt; 0 < refused && refused < 39);
+    check_that(0 < refused && refused < 39, "all or none are refused")?;
     Ok(())
 }
 
@@ -153,7 +147,6 @@ fn a_replay_may_be_refused_memory(rt: HostRuntime) -> Result<(), Fail> {
     let mut calendar = Calendar::new(&heap);
     let calls = [book(1, 2, 3)].to_vec(&heap)?;
     heap.refuse_after(0);
-    assert!(rt; replay(&heap, &mut calendar, calls).is_err());
-    assert_held(&rt, &calendar, &[])?;
-    Ok(())
+    check_same(replay(&heap, &mut calendar, calls).is_err(), true)?;
+    check_held(&rt, &calendar, &[])
 }

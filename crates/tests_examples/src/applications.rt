@@ -25,7 +25,7 @@ fn only_what_is_missing_is_fetched(rt: HostRuntime) -> Result<(), Fail> {
     let wanted: [Range<u64>; 2] = [512..1024, 2048..4096];
     assert_same(&rt, parts.as_slice(), wanted.as_slice());
     cache.fetched(256..4096)?;
-    assert!(rt; cache.missing(rt.alloc(), &(0..4096))?.is_empty());
+    assert_same(&rt, cache.missing(rt.alloc(), &(0..4096))?.len(), 0);
     Ok(())
 }
 
@@ -33,13 +33,18 @@ fn only_what_is_missing_is_fetched(rt: HostRuntime) -> Result<(), Fail> {
 fn words_and_what_is_none(rt: HostRuntime) -> Result<(), Fail> {
     let word = CharClass::word(rt.alloc())?;
     let other = word.complement(rt.alloc())?;
-    assert!(rt; word.contains('_') && word.contains('M') && !word.contains('-'));
-    assert!(rt; !other.contains('_') && other.contains('-') && other.contains('\u{10FFFF}'));
-    assert!(rt; word.union(&other)?.contains('-'));
-    assert!(rt; !word.intersection(&other)?.contains('z'));
+    let found = (word.contains('_'), word.contains('M'), word.contains('-'));
+    assert_same(&rt, found, (true, true, false));
+    let found = (other.contains('_'), other.contains('-'));
+    assert_same(&rt, found, (false, true));
+    assert_same(&rt, other.contains('\u{10FFFF}'), true);
+    assert_same(&rt, word.union(&other)?.contains('-'), true);
+    assert_same(&rt, word.intersection(&other)?.contains('z'), false);
     let (neither, not_both) = de_morgan(rt.alloc(), &word, &other)?;
-    assert!(rt; neither.members == not_both.members && neither.members.is_empty());
-    assert!(rt; complement_twice(rt.alloc(), &word)?.members == word.members);
+    assert_same(&rt, neither.members == not_both.members, true);
+    assert_same(&rt, neither.members.len(), 0);
+    let twice = complement_twice(rt.alloc(), &word)?;
+    assert_same(&rt, twice.members == word.members, true);
     Ok(())
 }
 
@@ -47,7 +52,8 @@ fn words_and_what_is_none(rt: HostRuntime) -> Result<(), Fail> {
 fn digits_by_the_macro(rt: HostRuntime) -> Result<(), Fail> {
     let digits = range_inclusive_set![in rt.alloc(); '0'..='4', '5'..='9']?;
     assert_same(&rt, digits.len(), 1);
-    assert!(rt; digits.contains(&'7') && !digits.contains(&'a'));
+    let found = (digits.contains(&'7'), digits.contains(&'a'));
+    assert_same(&rt, found, (true, false));
     Ok(())
 }
 
@@ -55,23 +61,27 @@ fn digits_by_the_macro(rt: HostRuntime) -> Result<(), Fail> {
 fn ranges_that_overlap_become_one(rt: HostRuntime) -> Result<(), Fail> {
     let class = CharClass::from_ranges(rt.alloc(), ['d'..='k', 'a'..='f', 'x'..='z'])?;
     let wanted = range_inclusive_set![in rt.alloc(); 'a'..='k', 'x'..='z']?;
-    assert!(rt; class.members == wanted);
-    assert!(rt; class.contains('k') && !class.contains('l'));
+    assert_same(&rt, class.members == wanted, true);
+    assert_same(
+        &rt,
+        (class.contains('k'), class.contains('l')),
+        (true, false),
+    );
     Ok(())
 }
 
 #[test]
 fn blocks_are_mapped_once(rt: HostRuntime) -> Result<(), Fail> {
     let mut extents = Extents::new(rt.alloc());
-    assert!(rt; extents.map(0, 1000, 8)?);
-    assert!(rt; !extents.map(20, 1007, 2)?);
-    assert!(rt; extents.map(20, 4, 2)?);
+    assert_same(&rt, extents.map(0, 1000, 8)?, true);
+    assert_same(&rt, extents.map(20, 1007, 2)?, false);
+    assert_same(&rt, extents.map(20, 4, 2)?, true);
     assert_same(&rt, extents.physical(7), Some(1007));
     assert_same(&rt, extents.physical(21), Some(5));
     extents.punch(2, 5)?;
     assert_same(&rt, extents.physical(5), None);
     assert_same(&rt, extents.physical(6), Some(1006));
-    assert!(rt; extents.map(30, 1002, 4)?);
+    assert_same(&rt, extents.map(30, 1002, 4)?, true);
     Ok(())
 }
 
@@ -133,8 +143,10 @@ fn addresses_are_blocked(rt: HostRuntime) -> Result<(), Fail> {
     let mut list = BlockList::new(rt.alloc());
     list.block(FIRST, LAST)?;
     list.block(LAST + 1, u32::MAX)?;
-    assert!(rt; list.is_blocked(FIRST) && list.is_blocked(LAST + 1));
-    assert!(rt; list.is_blocked(u32::MAX) && !list.is_blocked(FIRST - 1));
+    let found = (list.is_blocked(FIRST), list.is_blocked(LAST + 1));
+    assert_same(&rt, found, (true, true));
+    let found = (list.is_blocked(u32::MAX), list.is_blocked(FIRST - 1));
+    assert_same(&rt, found, (true, false));
     Ok(())
 }
 
@@ -162,7 +174,7 @@ fn addresses_are_split_into_few_blocks(rt: HostRuntime) -> Result<(), Fail> {
     let whole = block(0, 0);
     assert_same(&rt, all.as_slice(), [whole].as_slice());
     assert_same(&rt, whole.size(), 4_294_967_296);
-    assert!(rt; split(rt.alloc(), first, first)?.is_empty());
+    assert_same(&rt, split(rt.alloc(), first, first)?.len(), 0);
     Ok(())
 }
 
@@ -172,10 +184,20 @@ fn numbers_wait_until_they_are_delivered(rt: HostRuntime) -> Result<(), Fail> {
     window.receive(4, 8)?;
     window.receive(0, 2)?;
     assert_same(&rt, window.next(), 0);
-    assert!(rt; window.is_waiting(1) && !window.is_waiting(2) && window.is_waiting(4));
+    let waiting = (
+        window.is_waiting(1),
+        window.is_waiting(2),
+        window.is_waiting(4),
+    );
+    assert_same(&rt, waiting, (true, false, true));
     window.deliver(6)?;
     assert_same(&rt, window.next(), 6);
-    assert!(rt; !window.is_waiting(1) && !window.is_waiting(5) && window.is_waiting(7));
+    let waiting = (
+        window.is_waiting(1),
+        window.is_waiting(5),
+        window.is_waiting(7),
+    );
+    assert_same(&rt, waiting, (false, false, true));
     Ok(())
 }
 
@@ -194,27 +216,44 @@ fn memory_is_mapped_and_checked(rt: HostRuntime) -> Result<(), Fail> {
     let mut memory = MemoryMap::new(rt.alloc());
     memory.map(0x1000, 0x3000, code)?;
     memory.map(0x4000, 0x5000, data)?;
-    assert!(rt; memory.region_at(0x2FFF) == Some(code) && memory.region_at(0x3000).is_none());
-    assert!(rt; memory.check(0x1000, Access::Execute).is_ok());
-    assert!(rt; memory.check(0x1000, Access::Write) == Err(Fault::Forbidden));
-    assert!(rt; memory.check(0x3000, Access::Read) == Err(Fault::Unmapped));
-    assert!(rt; memory.find_free(0, 0x8000, 0x2000)? == Some(0x5000));
+    assert_same(&rt, memory.region_at(0x2FFF), Some(code));
+    assert_same(&rt, memory.region_at(0x3000), None);
+    assert_same(&rt, memory.check(0x1000, Access::Execute), Ok(()));
+    assert_same(
+        &rt,
+        memory.check(0x1000, Access::Write),
+        Err(Fault::Forbidden),
+    );
+    assert_same(
+        &rt,
+        memory.check(0x3000, Access::Read),
+        Err(Fault::Unmapped),
+    );
+    assert_same(&rt, memory.find_free(0, 0x8000, 0x2000)?, Some(0x5000));
     memory.unmap(0x2000, 0x3000)?;
-    assert!(rt; memory.find_free(0, 0x8000, 0x2000)? == Some(0x2000));
-    assert!(rt; memory.find_free(0, 0x8000, 0x4000)?.is_none());
-    assert!(rt; memory.is_free(0x2000, 0x4000) && !memory.is_free(0x1FFF, 0x4000));
-    assert!(rt; memory.shows(0x1FFF, 0x5000, 1) && !memory.shows(0x2000, 0x5000, 1));
-    assert!(rt; !memory.has_writable_code());
+    assert_same(&rt, memory.find_free(0, 0x8000, 0x2000)?, Some(0x2000));
+    assert_same(&rt, memory.find_free(0, 0x8000, 0x4000)?, None);
+    let free = (
+        memory.is_free(0x2000, 0x4000),
+        memory.is_free(0x1FFF, 0x4000),
+    );
+    assert_same(&rt, free, (true, false));
+    let shown = (
+        memory.shows(0x1FFF, 0x5000, 1),
+        memory.shows(0x2000, 0x5000, 1),
+    );
+    assert_same(&rt, shown, (true, false));
+    assert_same(&rt, memory.has_writable_code(), false);
     Ok(())
 }
 
 #[test]
 fn bookings_and_closed_days_are_counted(rt: HostRuntime) -> Result<(), Fail> {
     let sheet = range_map! { in rt.alloc(); 9..12 => 7, 12..14 => 8, 16..18 => 7 }?;
-    assert_eq!(rt; bookings_of(&sheet, &(11..17), 7), 2);
+    assert_same(&rt, bookings_of(&sheet, &(11..17), 7), 2);
     let days = range_inclusive_set![in rt.alloc(); 3..=5, 10..=10]?;
-    assert!(rt; is_closed_only_within(&days, 3, 10));
-    assert!(rt; !is_closed_only_within(&days, 4, 10));
+    assert_same(&rt, is_closed_only_within(&days, 3, 10), true);
+    assert_same(&rt, is_closed_only_within(&days, 4, 10), false);
     Ok(())
 }
 
@@ -227,6 +266,6 @@ fn bookings_go_to_json_and_back(rt: HostRuntime) -> Result<(), Fail> {
         "[[[9,12],7],[[12,14],8]]"
     );
     let again = from_json(rt.alloc(), &value).ok().ok_or("not read")?;
-    assert!(rt; again == sheet);
+    assert_same(&rt, again == sheet, true);
     Ok(())
 }

@@ -22,14 +22,14 @@ pub(super) fn answer<M: Container, A: Allocator + Clone>(
     ensures { CommandStep M.Kind.kind M.Value.eq (M.pairs map.old) command result (M.pairs map.new) }
 {
     match command {
-        Command::Insert(range, value) => match map.insert(range, value) {
-            Ok(()) => Ok(Answer::Done),
-            Err(error) => Err(error),
-        },
-        Command::Remove(range) => match map.remove(range) {
-            Ok(()) => Ok(Answer::Done),
-            Err(error) => Err(error),
-        },
+        Command::Insert(range, value) => {
+            map.insert(range, value)?;
+            Ok(Answer::Done)
+        }
+        Command::Remove(range) => {
+            map.remove(range)?;
+            Ok(Answer::Done)
+        }
         Command::Clear => {
             map.clear();
             Ok(Answer::Done)

@@ -6,14 +6,14 @@ use Rattle.rangemap_tree.proofs.overlapping.covering.Goals as goal
 pub returns-then-is_lt : goal.returns-then-is_lt
 returns-then-is_lt g c =
     let o = g.met.K.Ord.total in
-    let p : Range g.row.K.Denot × g.row.V.Denot = (c.in-Some.range.now, c.in-Some.value.now) in
-    sym (looked o g.V.PartialEq.eq g.met.V.Eq.laws c.args.pairs.now c.requires c.args.key.now c.in-Some.ensures.0 p c.in-Some.ensures.1 ∙ ap (λ b. cond b (Some p) None) (ap is_lt (sym c.cmp.ensures) ∙ sym c.is_lt.ensures ∙ c.if-is_lt.true))
+    let p : Range g.row.K.Denot × g.row.V.Denot = (c.in_ok-range.range.now, c.in_ok-range.value.now) in
+    sym (looked o g.V.PartialEq.eq g.met.V.Eq.laws c.args.pairs.now c.requires c.args.key.now c.in_ok-range.ensures.0 p c.in_ok-range.ensures.1 ∙ ap (λ b. cond b (Some p) None) (ap is_lt (sym c.cmp.ensures) ∙ sym c.is_lt.ensures ∙ c.if-is_lt.true))
 
 pub returns-else-is_lt : goal.returns-else-is_lt
 returns-else-is_lt g c =
     let o = g.met.K.Ord.total in
-    let p : Range g.row.K.Denot × g.row.V.Denot = (c.in-Some.range.now, c.in-Some.value.now) in
-    sym (looked o g.V.PartialEq.eq g.met.V.Eq.laws c.args.pairs.now c.requires c.args.key.now c.in-Some.ensures.0 p c.in-Some.ensures.1 ∙ ap (λ b. cond b (Some p) None) (ap is_lt (sym c.cmp.ensures) ∙ sym c.is_lt.ensures ∙ c.if-is_lt.false))
+    let p : Range g.row.K.Denot × g.row.V.Denot = (c.in_ok-range.range.now, c.in_ok-range.value.now) in
+    sym (looked o g.V.PartialEq.eq g.met.V.Eq.laws c.args.pairs.now c.requires c.args.key.now c.in_ok-range.ensures.0 p c.in_ok-range.ensures.1 ∙ ap (λ b. cond b (Some p) None) (ap is_lt (sym c.cmp.ensures) ∙ sym c.is_lt.ensures ∙ c.if-is_lt.false))
 
-pub returns-in_default : goal.returns-in_default
-returns-in_default g c = sym (looked_none g.met.K.Ord.total g.V.PartialEq.eq g.met.V.Eq.laws c.args.pairs.now c.requires c.args.key.now c.in_default.ensures.1.0)
+pub returns-in_err-range : goal.returns-in_err-range
+returns-in_err-range g c = rw c.from_residual.ensures (sym (looked_none g.met.K.Ord.total g.V.PartialEq.eq g.met.V.Eq.laws c.args.pairs.now c.requires c.args.key.now c.in_err-range.ensures.1.0))
