@@ -3,7 +3,7 @@ ghost use Rattle.std.specs.Prelude.{◌≡◌, ◌++◌};
 ghost use Rattle.rangemap_chunked.specs.Chunks.{AreFilled, whole};
 
 use crate::chunk::Chunk;
-use rangemap_core::cursor::{Cursor, Peek};
+use rangemap_core::cursor::{Cursor, LentCursor, Peek};
 use rangemap_core::key_range::KeyRange;
 use std::alloc::Allocator;
 use std::marker::Model;
@@ -106,6 +106,12 @@ impl<'a, R, V, A: Allocator> Cursor for Iter<'a, R, V, A> {
     fn parts<'b>(pair: &'b (&'a R, &'a V)) -> (&'b R, &'b V) {
         (pair.0, pair.1)
     }
+}
+
+impl<'a, R, V, A: Allocator> LentCursor<'a, R> for Iter<'a, R, V, A> {
+    ghost use Rattle.std.specs.Prelude.{refl};
+
+    ghost lent = { λ range. refl };
 }
 
 impl<'a, R: KeyRange, V, A: Allocator> Peek for Iter<'a, R, V, A> {

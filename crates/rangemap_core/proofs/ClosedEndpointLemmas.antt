@@ -1,5 +1,5 @@
 -- Edges of closed ranges: what the code compares in place of places.
-use Rattle.std.proofs.Common.{◌≡◌, true, false, Option, Some, None, ◌∙◌, ap, sym, subst, refl, true≢false, Ordering, Less, Equal, Greater, is_lt, is_le}
+use Rattle.std.proofs.Common.{◌≡◌, true, false, Option, Some, ◌∙◌, ap, sym, subst, refl, true≢false, Ordering, Less, Equal, Greater, is_lt, is_le}
 use Rattle.std.specs.Cmp.{IsTotalOrder}
 use Rattle.std.specs.declared.ops.RangeInclusive.{RangeInclusive}
 use Rattle.std.specs.Range.{range_inclusive_start, range_inclusive_end, range_inclusive_exhausted}
@@ -8,7 +8,6 @@ use Rattle.rangemap_core.specs.MadeRanges.{IsSame}
 use Rattle.rangemap_core.specs.Steps.{GivesSuccessors, GivesPredecessors}
 use Rattle.rangemap_core.specs.engine.Places.{place_cmp}
 use Rattle.rangemap_core.specs.laws.Orders.{eq_le, eq_turn, le_eq}
-use Rattle.rangemap_core.specs.engine.EndpointKinds.{lt_is}
 use Rattle.rangemap_core.specs.engine.ClosedPlaces.{After, after_le, after_le_from, closed_end_place, ends_as_places, holds_by, tied_touches, touches_tied}
 use Rattle.rangemap_core.specs.engine.Endpoints.{EndpointOf, AtStart, AtEnd, IsAsked, IsAskedAt, is_before}
 use Rattle.rangemap_core.specs.engine.ClosedEndpoints.{closed_placed, closed_first, closed_last, closed_part}

@@ -52,3 +52,9 @@ pub trait Peek: Cursor<Range: KeyRange, Given: Drop, GivenValue: Drop> {
         ensures same { Self.left self.new ≡ Self.left self.old }
         ensures first { MatchOption result (Self.left self.old ≡ []) (λ pair. (rest : List (Self.Range × Self.Value)) × (Self.left self.old ≡ shown Self.given Self.given_value pair ∷ rest)) };
 }
+
+/// A cursor over pairs that are lent for `'a`: what it gives of a range is a reference to it.
+pub trait LentCursor<'a, R: 'a>: Cursor<Range = R, Given = &'a R> {
+    /// The reference leads to the range.
+    ghost lent: { (range : _) → Self.given range ≡ range.now };
+}

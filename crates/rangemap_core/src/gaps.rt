@@ -5,12 +5,12 @@ ghost use Rattle.std.specs.Iterator.SizeHint.{IsWithinCount};
 ghost use Rattle.std.specs.Map.Iter.{TakesFirst};
 ghost use Rattle.std.specs.Option.{option_map, option_to_list};
 ghost use Rattle.rangemap_core.specs.Clones.{KeysCloneFaithfully};
-ghost use Rattle.rangemap_core.specs.engine.Endpoints.{AtStart, endpoint_of, gaps_from, is_before, start_behind};
+ghost use Rattle.rangemap_core.specs.engine.Endpoints.{AtStart, endpoint_of, gaps_from, is_before};
 ghost use Rattle.rangemap_core.specs.MadeRanges.{GivesRange, IsSame, TakesRange};
 ghost use Rattle.rangemap_core.specs.Ranges.{AreGaps};
-ghost use Rattle.rangemap_core.specs.Shown.{shown, shown_range};
+ghost use Rattle.rangemap_core.specs.Shown.{shown};
 
-use crate::cursor::Cursor;
+use crate::cursor::{Cursor, LentCursor};
 use crate::key_range::KeyRange;
 use crate::kind::{Endpoint, Kind, known_ends};
 use crate::store::Lends;
@@ -21,9 +21,8 @@ use std::marker::{Model, PhantomData};
 /// The gaps that stored ranges leave in a range, in order. It reads the pairs that overlap the range.
 #[derive(Drop)]
 pub struct Gaps<'a, Q: Kind<R>, R: KeyRange, C: Cursor<Range = R>> {
-    // The stored range at whose end the next gap may start. Where there is none it may start with
-    // the outer range.
-    last: Option<(C::Given, C::GivenValue)>,
+    // Where the next gap may start: with the outer range, or behind the last stored range.
+    from: Endpoint<'a, R>,
     // The range up to which a gap was to go whose clones were refused, and the pairs behind it.
     refused: Option<(C::Given, C::GivenValue)>,
     pairs: C,
@@ -35,26 +34,21 @@ pub struct Gaps<'a, Q: Kind<R>, R: KeyRange, C: Cursor<Range = R>> {
 impl<'a, Q: Kind<R>, R: KeyRange, C: Cursor<Range = R>> Model for Gaps<'a, Q, R, C> {
     ghost use Rattle.std.specs.Prelude.{List, [], ◌++◌, if◌then◌else◌};
     ghost use Rattle.std.specs.Option.{option_map, option_to_list};
-    ghost use Rattle.rangemap_core.specs.engine.Endpoints.{gaps_from, start_behind};
-    ghost use Rattle.rangemap_core.specs.Shown.{shown, shown_range};
+    ghost use Rattle.rangemap_core.specs.engine.Endpoints.{endpoint_of, gaps_from};
+    ghost use Rattle.rangemap_core.specs.Shown.{shown};
 
     ghost Value = { List R };
 
-    ghost view = { λ s. if s.is_done then [] else gaps_from Q.kind Q.end_place Q.part_of (start_behind s.outer_range.now (option_map (shown_range C.given) s.last)) s.outer_range.now (option_to_list (option_map (shown C.given C.given_value) s.refused) ++ C.left s.pairs) };
+    ghost view = { λ s. if s.is_done then [] else gaps_from Q.kind Q.end_place Q.part_of (endpoint_of s.from) s.outer_range.now (option_to_list (option_map (shown C.given C.given_value) s.refused) ++ C.left s.pairs) };
 }
 
-impl<'a, Q: Kind<R>, R: KeyRange, C: Cursor<Range = R, Given: Drop, GivenValue: Drop>> Gaps<
-    'a,
-    Q,
-    R,
-    C,
-> {
+impl<'a, Q: Kind<R>, R: KeyRange + 'a, C: LentCursor<'a, R, GivenValue: Drop>> Gaps<'a, Q, R, C> {
     /// Returns the gaps that pairs leave in the range, where they are those that overlap it.
     pub fn over(pairs: C, outer_range: &'a R) -> Self
         ensures { result ≡ gaps_from Q.kind Q.end_place Q.part_of (AtStart outer_range.now) outer_range.now (C.left pairs) }
     {
         Gaps {
-            last: None,
+            from: Endpoint::Start(outer_range),
             refused: None,
             pairs,
             outer_range,
@@ -78,10 +72,10 @@ impl<'a, Q: Kind<R>, R: KeyRange, C: Cursor<Range = R, Given: Drop, GivenValue: 
             return Ok(None);
         }
         'passed: while let Some(next) = take_next(&mut self.refused, &mut self.pairs) {
-            let to = Endpoint::Start(C::parts(&next).0);
-            match part_up_to::<Q, C>(&self.last, self.outer_range, to) {
+            let to = Endpoint::Start(next.0);
+            match part_between::<Q, R>(self.from, to) {
                 Ok(gap) => {
-                    self.last = Some(next);
+                    self.from = Endpoint::End(next.0);
                     if gap.is_some() {
                         return Ok(gap);
                     }
@@ -92,14 +86,13 @@ impl<'a, Q: Kind<R>, R: KeyRange, C: Cursor<Range = R, Given: Drop, GivenValue: 
                 }
             }
         }
-        let to = Endpoint::End(self.outer_range);
-        let gap = part_up_to::<Q, C>(&self.last, self.outer_range, to)?;
+        let gap = part_between::<Q, R>(self.from, Endpoint::End(self.outer_range))?;
         self.is_done = true;
         Ok(gap)
     }
 }
 
-impl<'a, Q: Kind<R>, R: KeyRange, C: Cursor<Range = R, Given: Drop, GivenValue: Drop>> Iterator
+impl<'a, Q: Kind<R>, R: KeyRange + 'a, C: LentCursor<'a, R, GivenValue: Drop>> Iterator
     for Gaps<'a, Q, R, C> {
     type Item = Result<R, AllocError>;
 
@@ -152,11 +145,12 @@ where
 /// A clone of a key, or the growth of the vector, was refused: then the vector is as it was. What was
 /// put there before the refusal is taken off again.
 pub fn append_gaps<
+    'a,
     Q: Kind<R>,
-    R: KeyRange,
-    C: Cursor<Range = R, Given: Drop, GivenValue: Drop>,
+    R: KeyRange + 'a,
+    C: LentCursor<'a, R, GivenValue: Drop>,
     B: Allocator,
->(pairs: C, outer_range: &R, out: &mut Vec<R, B>) -> Result<(), AllocError>
+>(pairs: C, outer_range: &'a R, out: &mut Vec<R, B>) -> Result<(), AllocError>
     requires { KeysCloneFaithfully R.Key.is_clone R.Key.cmp }
     ensures ok { OnOk result ((gaps : List _) × Drains (GivesRange Q.kind) (gaps_from Q.kind Q.end_place Q.part_of (AtStart outer_range.now) outer_range.now (C.left pairs)) (map OkWord gaps) × (out.new.items ≡ out.old.items ++ gaps)) }
     ensures err { OnErr result (out.new.items ≡ out.old.items) }
@@ -201,22 +195,6 @@ fn take_next<C: Cursor>(
         return Some(next);
     }
     pairs.take_first()
-}
-
-// The part up to an endpoint from where the next gap may start, if it has a key.
-fn part_up_to<Q: Kind<C::Range>, C: Cursor<Range: KeyRange>>(
-    last: &Option<(C::Given, C::GivenValue)>,
-    outer_range: &C::Range,
-    to: Endpoint<'_, C::Range>,
-) -> Result<Option<C::Range>, AllocError>
-    requires { KeysCloneFaithfully C.Range.Key.is_clone C.Range.Key.cmp }
-    ensures ok { IfOk result (λ gap. MatchOption gap (is_before Q.kind Q.end_place (start_behind outer_range.now (option_map (shown_range C.given) last.now)) (endpoint_of to.entry) ≡ false) (λ r. (is_before Q.kind Q.end_place (start_behind outer_range.now (option_map (shown_range C.given) last.now)) (endpoint_of to.entry) ≡ true) × IsSame Q.kind (Q.part_of (start_behind outer_range.now (option_map (shown_range C.given) last.now)) (endpoint_of to.entry)) r)) }
-    ensures err { OnErr result (is_before Q.kind Q.end_place (start_behind outer_range.now (option_map (shown_range C.given) last.now)) (endpoint_of to.entry) ≡ true) }
-{
-    match last {
-        Some(pair) => part_between::<Q, C::Range>(Endpoint::End(C::parts(pair).0), to),
-        None => part_between::<Q, C::Range>(Endpoint::Start(outer_range), to),
-    }
 }
 
 // The part from one endpoint up to another, if it has a key.

@@ -11,7 +11,7 @@ ghost use Rattle.rangemap_core.specs.Clones.{KeysCloneFaithfully, ValuesCloneFai
 ghost use Rattle.rangemap_core.specs.Ranges.{IsCanonOf, IsCanonical, IsNewest, covering, erase, overlapped, override, same_pairs, value_at};
 ghost use Rattle.rangemap_core.specs.Shown.{shown};
 
-use crate::cursor::Cursor;
+use crate::cursor::{Cursor, LentCursor};
 use crate::key_range::KeyRange;
 use crate::kind::Kind;
 use crate::reader::{Reader, ReaderOfBoth};
@@ -193,10 +193,10 @@ where
     >;
 
     /// The pairs that overlap a range, in order and from both ends.
-    type Overlapping: Cursor<
-        Range = Self::Range,
+    type Overlapping: LentCursor<
+        'a,
+        Self::Range,
         Value = Self::Value,
-        Given = &'a Self::Range,
         GivenValue = &'a Self::Value,
     >;
 

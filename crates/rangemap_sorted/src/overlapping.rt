@@ -13,7 +13,7 @@ ghost use Rattle.rangemap_core.specs.engine.Stretch.{IsOverlap, ends_by};
 ghost use Rattle.rangemap_sorted.specs.Overlaps.{IsOverlapEnd};
 
 use crate::search::starts_up_to;
-use rangemap_core::cursor::Cursor;
+use rangemap_core::cursor::{Cursor, LentCursor};
 use rangemap_core::key_range::KeyRange;
 use rangemap_core::kind::{Endpoint, Kind, known_ends};
 use std::marker::Model;
@@ -114,6 +114,12 @@ impl<'a, R: KeyRange, V> Cursor for Overlapping<'a, R, V> {
     fn parts<'b>(pair: &'b (&'a R, &'a V)) -> (&'b R, &'b V) {
         (pair.0, pair.1)
     }
+}
+
+impl<'a, R: KeyRange, V> LentCursor<'a, R> for Overlapping<'a, R, V> {
+    ghost use Rattle.std.specs.Prelude.{refl};
+
+    ghost lent = { λ range. refl };
 }
 
 // The pairs of a canonical list from the first that overlaps the query on. Of these the ones that

@@ -3,7 +3,7 @@ ghost use Rattle.std.specs.Prelude.{◌≡◌, [], unwrap_or};
 ghost use Rattle.std.specs.Map.{values_of};
 ghost use Rattle.std.specs.Option.{option_map};
 
-use rangemap_core::cursor::Cursor;
+use rangemap_core::cursor::{Cursor, LentCursor};
 use std::collections::btree_map;
 use std::iter::{DoubleEndedIterator, Iterator};
 use std::marker::Model;
@@ -67,4 +67,10 @@ impl<'a, K, V> Cursor for Pairs<'a, K, V> {
     fn parts<'b>(pair: &'b (&'a Range<K>, &'a V)) -> (&'b Range<K>, &'b V) {
         (pair.0, pair.1)
     }
+}
+
+impl<'a, K, V> LentCursor<'a, Range<K>> for Pairs<'a, K, V> {
+    ghost use Rattle.std.specs.Prelude.{refl};
+
+    ghost lent = { λ range. refl };
 }

@@ -2,7 +2,7 @@
 ghost use Rattle.rangemap.specs.Clones.{KeysCloneFaithfully};
 
 use rangemap::map::Map;
-use rangemap_core::cursor::Cursor;
+use rangemap_core::cursor::LentCursor;
 use rangemap_core::gaps::Gaps;
 use rangemap_core::key_range::KeyRange;
 use rangemap_core::kind::Kind;
@@ -96,9 +96,9 @@ fn check_three_pairs<I: DoubleEndedIterator<Item: Debug + Drop>>(
 }
 
 /// Compares the one gap of three iterators that are alike, and asks on.
-fn check_gap<Q: Kind<R>, R: KeyRange + Debug, C: Cursor<Range = R, Given: Drop, GivenValue: Drop>>(
+fn check_gap<'a, Q: Kind<R>, R: KeyRange + Debug + 'a, C: LentCursor<'a, R, GivenValue: Drop>>(
     alloc: Global,
-    gaps: (Gaps<'_, Q, R, C>, Gaps<'_, Q, R, C>, Gaps<'_, Q, R, C>),
+    gaps: (Gaps<'a, Q, R, C>, Gaps<'a, Q, R, C>, Gaps<'a, Q, R, C>),
     gap: &str,
 ) -> Result<(), Fail>
     requires { KeysCloneFaithfully R.Key.is_clone R.Key.cmp }

@@ -3,7 +3,7 @@ ghost use Rattle.std.specs.Iterator.{IsFinite};
 ghost use Rattle.rangemap.specs.Clones.{KeysCloneFaithfully};
 
 use rangemap::range_set::Set;
-use rangemap_core::cursor::{Cursor, Peek};
+use rangemap_core::cursor::{LentCursor, Peek};
 use rangemap_core::gaps::Gaps;
 use rangemap_core::key_range::KeyRange;
 use rangemap_core::kind::Kind;
@@ -151,9 +151,9 @@ fn check_three_ranges<I: DoubleEndedIterator<Item: Debug + Drop>>(
 }
 
 /// Compares the one gap of three iterators that are alike, and asks on.
-fn check_gap<Q: Kind<R>, R: KeyRange + Debug, C: Cursor<Range = R, Given: Drop, GivenValue: Drop>>(
+fn check_gap<'a, Q: Kind<R>, R: KeyRange + Debug + 'a, C: LentCursor<'a, R, GivenValue: Drop>>(
     alloc: Global,
-    gaps: (Gaps<'_, Q, R, C>, Gaps<'_, Q, R, C>, Gaps<'_, Q, R, C>),
+    gaps: (Gaps<'a, Q, R, C>, Gaps<'a, Q, R, C>, Gaps<'a, Q, R, C>),
     gap: &str,
 ) -> Result<(), Fail>
     requires { KeysCloneFaithfully R.Key.is_clone R.Key.cmp }
@@ -162,11 +162,11 @@ fn check_gap<Q: Kind<R>, R: KeyRange + Debug, C: Cursor<Range = R, Given: Drop, 
 }
 
 /// Takes two gaps by calls in turn, asks on, and compares the text of what is answered behind the hint.
-fn check_two_gaps<
-    Q: Kind<R>,
-    R: KeyRange + Debug,
-    C: Cursor<Range = R, Given: Drop, GivenValue: Drop>,
->(alloc: Global, mut gaps: Gaps<'_, Q, R, C>, text: &str) -> Result<(), Fail>
+fn check_two_gaps<'a, Q: Kind<R>, R: KeyRange + Debug + 'a, C: LentCursor<'a, R, GivenValue: Drop>>(
+    alloc: Global,
+    mut gaps: Gaps<'a, Q, R, C>,
+    text: &str,
+) -> Result<(), Fail>
     requires { KeysCloneFaithfully R.Key.is_clone R.Key.cmp }
 {
     let hint = gaps.size_hint();

@@ -1,6 +1,6 @@
 //! Iterators that make their items out of clones, and are asked for the same item again.
 
-use rangemap_core::cursor::{Cursor, Peek};
+use rangemap_core::cursor::{LentCursor, Peek};
 use rangemap_core::gaps::Gaps;
 use rangemap_core::key_range::KeyRange;
 use rangemap_core::kind::Kind;
@@ -19,7 +19,7 @@ pub trait Tries: Iterator + Drop {
         ensures { Self.can_next self.new };
 }
 
-impl<'a, Q: Kind<R>, R: KeyRange, C: Cursor<Range = R, Given: Drop, GivenValue: Drop>> Tries
+impl<'a, Q: Kind<R>, R: KeyRange + 'a, C: LentCursor<'a, R, GivenValue: Drop>> Tries
     for Gaps<'a, Q, R, C> {
     type Range = R;
 
