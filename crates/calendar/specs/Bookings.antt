@@ -75,6 +75,7 @@ IsCancelAnswer f first last (Err Empty) = last < first
 IsCancelAnswer f first last (Err Taken) = ⊥
 IsCancelAnswer f first last (Err OutOfMemory) = (first ≤ last) × IsHeld f first last
 
+-- the answer to a call of either sort
 abbrev pub IsMadeAnswer : (ℕ → Option ℕ) → Call → Answer → Type 0
 IsMadeAnswer f (Book first last guest) answer = IsBookAnswer f first last answer
 IsMadeAnswer f (Cancel first last) answer = IsCancelAnswer f first last answer

@@ -43,9 +43,9 @@ impl From<AllocError> for BookError {
 
 /// Which guest holds which day.
 ///
-/// Where n stretches of days are held, `book`, `book_days`, `cancel` and `holder` take *O*(log *n*)
-/// and, of all but the last, a move of what lies behind the days; `free` and `iter` take that of the
-/// map's calls.
+/// Where *n* stretches of days are held, `holder` takes *O*(log *n*), `book` and `book_days` that
+/// and a move of what lies behind the days, `cancel` *O*(log *n* + *k*) and such a move, where it
+/// meets *k* stretches. `free` and `iter` take what the map's calls do.
 #[derive(Drop)]
 pub struct Calendar<A: Allocator = Global> {
     days: RangeInclusiveMap<u32, u32, u32, A>,
@@ -108,7 +108,7 @@ impl<A: Allocator> Calendar<A> {
         Ok(())
     }
 
-    /// Whether someone holds one of the days.
+    /// Returns whether someone holds one of the days.
     fn is_held(&self, days: &RangeInclusive<u32>) -> bool
         requires { HasDay days.now }
         ensures held { OnTrue result (IsHeld (holder_of self.now) (range_inclusive_start days.now) (range_inclusive_end days.now)) }

@@ -13,6 +13,7 @@ characters = closed IsChar nat_cmp
 abbrev pub has : List (RangeInclusive ℕ) → ℕ → Bool
 has members = covers characters members
 
+-- the character is one from the first up to the last
 abbrev is_from_to : ℕ → ℕ → ℕ → Bool
 is_from_to first last c = nat_le first c && nat_le c last
 

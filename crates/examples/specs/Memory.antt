@@ -24,6 +24,7 @@ abbrev pub answer : Option Region → Access → Result (Unit {0}) Fault
 answer None access = Err Unmapped
 answer (Some region) access = cond (allows region access) (Ok tt) (Err Forbidden)
 
+-- what an access meets at an address
 abbrev pub answer_at : List (Range ℕ × Region) → ℕ → Access → Result (Unit {0}) Fault
 answer_at list at access = answer (region_at list at) access
 

@@ -124,6 +124,20 @@ pub fn free_until(map: &RangeMap<u64, u8>, at: u64, limit: u64) -> Result<u64, A
     }
 }
 
+/// Returns where the gap ends that begins at `at`, at most `limit`.
+pub fn gap_end(map: &RangeMap<u64, u8>, at: u64, limit: u64) -> u64
+    requires forward { at < limit }
+    requires free { value_at (half_open nat_cmp) map.now at ≡ None }
+    ensures { (at < result) × (result ≤ limit) × ((key : ℕ) → at ≤ key → key < result → value_at (half_open nat_cmp) map.now key ≡ None) }
+{
+    let rest = at..limit;
+    match map.gaps(&rest).try_next() {
+        Ok(Some(gap)) => gap.end,
+        Ok(None) => unreachable!(),
+        Err(AllocError) => unreachable!(),
+    }
+}
+
 /// Returns whether every person's number is below a limit.
 pub fn all_below(shifts: &RangeMap<u32, u32>, limit: u32) -> bool
     ensures { result ≡ true → (hour person : ℕ) → value_at (half_open nat_cmp) shifts.now hour ≡ Some person → person < limit }

@@ -41,9 +41,7 @@ impl CharClass {
         ensures { IfOk result (λ class. IsCanonOfPoints characters is_word class.members) }
     {
         let ranges = ['a'..='z', 'A'..='Z', '0'..='9', '_'..='_'];
-        Ok(CharClass {
-            members: RangeInclusiveSet::from(alloc, ranges)?,
-        })
+        CharClass::from_ranges(alloc, ranges)
     }
 
     /// Returns whether the character is in the class.

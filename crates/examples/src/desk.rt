@@ -1,4 +1,5 @@
-//! A desk that guests share: who has it at which hour, on which days nobody has, and both as JSON.
+//! A desk that guests share: who has it at which hour, on which days nobody has, and the bookings
+//! as JSON.
 ghost use Rattle.std.specs.Ordering.{nat_cmp};
 ghost use Rattle.std.specs.Prelude.{◌<◌, ◌^◌, ◌≡◌, ◌↔◌, ◌≤◌, IfOk, IsTrue, count_by, nat_eq, true, ℕ};
 ghost use Rattle.rangemap.specs.Json.{IsForm, IsReading, map_reader, map_writer};
@@ -51,10 +52,8 @@ pub fn write_number(number: &u32) -> Result<Value, NotANumber>
 pub fn read_number(value: &Value) -> Result<u32, NotANumber>
     ensures { reads_number value.now result }
 {
-    match value.as_u64() {
-        Some(number) if number <= 4_294_967_295 => Ok(number as u32),
-        _ => Err(NotANumber),
-    }
+    let number = value.as_u64().ok_or(NotANumber)?;
+    u32::try_from(number).map_err(|_| NotANumber)
 }
 
 /// Returns the bookings as JSON, a list of `[[start, end], guest]`.

@@ -63,6 +63,7 @@ impl Window {
         self.next = to;
         Ok(())
     }
+
     /// Returns the number that is delivered next.
     pub fn next(&self) -> u64
         ensures { result ≡ self.now.next }

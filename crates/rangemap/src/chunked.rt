@@ -1,6 +1,6 @@
-//! The containers that keep their ranges in chunks, for many thousands of ranges that change at
-//! random places: the maps and the sets over half-open and closed ranges, and the runs of any calls
-//! that make or change them.
+//! The containers that keep their ranges in chunks, for more than about a thousand ranges that
+//! change at random places: the maps and the sets over half-open and closed ranges, and the runs of
+//! any calls that make or change them.
 //!
 //! They have every call that the containers in a sorted vector have, with the same contracts. Each
 //! chunk owns a handle of the allocator, so `A` has to be one that can be cloned, as in std's B-tree.

@@ -24,9 +24,9 @@
 //!
 //! | Container | Keys | Fast at |
 //! |---|---|---|
-//! | `RangeMap`, `RangeSet` | any with an order, in half-open ranges `a..b` | lookups, iteration, and changes among up to some thousand ranges, or in order |
+//! | `RangeMap`, `RangeSet` | any with an order, in half-open ranges `a..b` | lookups, iteration, and changes among up to about a thousand ranges, or in order |
 //! | `RangeInclusiveMap`, `RangeInclusiveSet` | integers, `char`, and keys with steps of your own, in closed ranges `a..=b`, so that the greatest key has its place | the same |
-//! | `chunked::RangeMap`, `chunked::RangeSet`, `chunked::RangeInclusiveMap`, `chunked::RangeInclusiveSet` | as those above, in many sorted vectors | changes at random places among many thousands of ranges |
+//! | `chunked::RangeMap`, `chunked::RangeSet`, `chunked::RangeInclusiveMap`, `chunked::RangeInclusiveSet` | as those above, in many sorted vectors | changes at random places among more than about a thousand ranges |
 //! | `tree_map::RangeMap`, `tree_set::RangeSet` | as `RangeMap`, in a B-tree | the same |
 //!
 //! Each container is an alias of `map::Map` or `range_set::Set`, where its calls are described with

@@ -82,7 +82,7 @@ impl<S: StoreMut<Value = ()>> Set<S> {
 }
 
 impl<S: Store<Value = ()>> Set<S> {
-    /// Does nothing, and tells that the list of a set at hand is canonical.
+    /// Does nothing at run time; its contract tells the check that the stored list is canonical.
     pub fn known(&self)
         ensures { IsCanonicalSet S.Kind.kind self.now }
     {
@@ -189,8 +189,8 @@ where
     /// # Examples
     ///
     /// ```text
-    /// {1..3, 5..7}.gaps(&(0..8)): 0..1, 3..5, 7..8
-    /// {1..=2, 5..=6}.gaps(&(0..=7)): 0..=0, 3..=4, 7..=7
+    /// let set = range_set![in alloc; 1..3, 5..7]?;
+    /// set.gaps(&(0..8)) // 0..1, 3..5, 7..8
     /// ```
     pub fn gaps(&'a self, outer_range: &'a S::Range) -> Gaps<'a, S::Kind, S::Range, S::Overlapping>
         ensures { AreGaps S.Kind.kind self.now outer_range.now result }

@@ -23,6 +23,10 @@ use std::iter::IntoIterator;
 /// It takes *O*(log *n* + *k* log *k*), with *k* stored ranges that the query overlaps. Memory of
 /// `alloc` is for clones of these pairs, and for the answer.
 ///
+/// # Requires
+///
+/// A clone of a key or value compares equal to its original.
+///
 /// # Errors
 ///
 /// Memory, or a clone of a key, of a value or of `alloc`, was refused.

@@ -34,6 +34,7 @@ use std::ops::Range;
 ///
 /// ```text
 /// new(alloc: A) -> Self
+/// new_with_step_fns(alloc: A) -> Self
 /// from<const N: usize>(alloc: A, value: [(Range<K>, V); N]) -> Result<Self, AllocError>
 /// from_iter<I: IntoIterator<Item = (Range<K>, V)>>(alloc: A, iter: I) -> Result<Self, AllocError>
 /// insert(&mut self, range: Range<K>, value: V) -> Result<(), AllocError>

@@ -26,6 +26,7 @@ use std::ops::Range;
 ///
 /// ```text
 /// new(alloc: A) -> Self
+/// new_with_step_fns(alloc: A) -> Self
 /// from<const N: usize>(alloc: A, value: [Range<T>; N]) -> Result<Self, AllocError>
 /// from_iter<I: IntoIterator<Item = Range<T>>>(alloc: A, iter: I) -> Result<Self, AllocError>
 /// insert(&mut self, range: Range<T>) -> Result<(), AllocError>

@@ -1,5 +1,5 @@
 -- A list in chunks, and the chunks in which a place or a range can be.
-use Rattle.std.proofs.Common.{arith, ◌≡◌, inl, inr, ℕ, zero, suc, ◌+◌, ◌-◌, ◌<◌, ◌≤◌, Bool, true, false, not, List, [], ◌∷◌, ◌++◌, length, take, drop, get_or, Option, Some, None, refl, sym, ap, ◌∙◌, subst, append_assoc, append-nil, length-append, Ordering, Less, is_lt, is_gt}
+use Rattle.std.proofs.Common.{arith, ◌≡◌, inl, inr, ℕ, zero, suc, ◌+◌, ◌-◌, ◌<◌, ◌≤◌, Bool, true, false, not, List, [], ◌∷◌, ◌++◌, length, take, drop, get_or, Option, Some, None, refl, sym, ap, ◌∙◌, subst, append_assoc, append-nil, Ordering, Less, is_lt, is_gt}
 use Rattle.std.specs.Prelude.{slice_get}
 use Rattle.std.specs.List.{AllWithin}
 use Rattle.std.specs.List.Sorted.{IsPartitionedBy}
@@ -168,9 +168,6 @@ module _ {G P V : Type 0} (s : Shape G P V) (o : IsTotalOrder s.order) (e : IsEq
         ]
 
 -- what one look at the first pair of a chunk tells
-pub below_is : {G P V : Type 0} (s : Shape G P V) (p : P) (chunk : List (G × V)) (a : G × V) (r : Ordering) → Some a ≡ slice_get chunk 0 → s.order (s.start_place a.0) p ≡ r → is_lt r ≡ chunk_below s p chunk
-below_is s p chunk a r first is = ap is_lt (sym is) ∙ ap (first_passes (starts_below s p)) first
-
 pub by_is : {G P V : Type 0} (s : Shape G P V) (p : P) (chunk : List (G × V)) (a : G × V) (r : Ordering) → Some a ≡ slice_get chunk 0 → s.order p (s.start_place a.0) ≡ r → not (is_lt r) ≡ chunk_by s p chunk
 by_is s p chunk a r first is = ap (λ t. not (is_lt t)) (sym is) ∙ ap (first_passes (starts_by s p)) first
 
@@ -220,6 +217,3 @@ module _ {X : Type 0} (chunks rest : List (List X)) (chunk : List X) (parts_are 
 
   pub last_filled : AreFilled chunks → AreFilled rest
   last_filled h = Every-left (λ (xs : List X). 0 < length xs) rest (chunk ∷ []) (subst AreFilled parts_are h)
-
-  pub last_length : (front back left : List X) (item : X) → back ≡ [] → chunk ≡ left ++ item ∷ [] → length (front ++ (whole chunks ++ back)) ≡ length (front ++ (whole rest ++ left)) + 1
-  last_length front back left item none is = ap length (last_whole front back left item none is) ∙ length-append (front ++ (whole rest ++ left)) (item ∷ [])

@@ -4,7 +4,7 @@ pub mod BorderLemmas
 pub mod ChangeLemmas
 pub mod ChunkLemmas
 pub mod StoreLemmas
-pub mod GatherLemmas
+pub mod JoinLemmas
 pub mod MeetLemmas
 pub mod OverlapLemmas
 pub mod CloneLemmas

@@ -8,7 +8,7 @@ use Rattle.rangemap_core.specs.engine.Stretch.{Every}
 use Rattle.rangemap_core.proofs.SearchLemmas.{Every-drop}
 use Rattle.rangemap_chunked.specs.Chunks.{IsLastTouched, chunk_below, chunk_by, starts_below, whole}
 use Rattle.rangemap_chunked.proofs.ChunkLemmas.{whole_append}
-use Rattle.rangemap_chunked.proofs.GatherLemmas.{whole_more}
+use Rattle.rangemap_chunked.proofs.JoinLemmas.{whole_more}
 
 one_passes : {X : Type 0} (Q : X → Type 0) (xs : List X) (at : ℕ) → ((k : ℕ) (d : X) → k < at + 1 → k < length xs → Q (get_or xs k d)) → Every Q (take 1 (drop at xs))
 one_passes Q [] zero f = tt

@@ -26,9 +26,10 @@ pub const SIZE: usize = 512;
 /// Pairs of a range and a value in chunks, each a sorted vector of up to `N` pairs, or of more where
 /// memory was refused for another one.
 ///
-/// A change moves pairs within one chunk alone, so it is the store for many thousands of ranges
-/// that change at random places. Each chunk owns a handle of the allocator, so that has to be one
-/// that can be cloned. Of *n* stored ranges, in *c* chunks, *k* meet the range that a call is given:
+/// A change moves pairs within one chunk, and where that becomes too long or too short, some into a
+/// new chunk or out of a neighbour. So it is the store for more than about a thousand ranges that
+/// change at random places. Each chunk owns a handle of the allocator, so that has to be one that
+/// can be cloned. Of *n* stored ranges, in *c* chunks, *k* meet the range that a call is given:
 ///
 /// | Call | Time | Memory |
 /// |---|---|---|
@@ -36,7 +37,7 @@ pub const SIZE: usize = 512;
 /// | `covering` | *O*(log *n*) | none |
 /// | `iter`, `read`, `into_pairs` | *O*(1), and *O*(*n*) for all items | none |
 /// | `overlapping`, `read_overlapping` | *O*(log *n*), and *O*(*k*) for all items | none |
-/// | `gaps`, `append_gaps` | *O*(log *n*), and *O*(*k*) for all items | clones for a gap |
+/// | `append_gaps` | *O*(log *n* + *k*) | growth, clones |
 /// | `insert`, `remove` | *O*(log *n* + *N* + *c*), and drops of *k* pairs | growth of a chunk, clones |
 /// | `clear` | *O*(*n*), as each drop | none |
 /// | `copy` | *O*(*n*) | the chunks, clones |

@@ -3,6 +3,7 @@ ghost use Rattle.std.specs.Prelude.{◌≡◌, ◌+◌, ◌<◌, ◌≤◌, ◌+
 ghost use Rattle.rangemap_chunked.specs.Chunks.{AreFilled, whole};
 
 use crate::chunk::Chunk;
+use crate::moves::insert_reserved;
 use std::alloc::{AllocError, Allocator};
 
 // Takes a chunk out.
@@ -28,31 +29,6 @@ fn move_pairs<R: Drop, V: Drop, A: Allocator>(
     ensures err { OnErr result ((to.new ≡ to.old) × (from.new ≡ from.old)) }
 {
     to[at].append(&mut from[next])
-}
-
-// Moves the pairs of the first `count` chunks of one slice into a chunk of another, as far as memory
-// allows. Returns of how many chunks.
-fn move_all<R: Drop, V: Drop, A: Allocator>(
-    to: &mut [Chunk<R, V, A>],
-    at: usize,
-    from: &mut [Chunk<R, V, A>],
-    count: usize,
-) -> usize
-    requires in_bounds { at < length to.old }
-    requires some { count ≤ length from.old }
-    ensures bound { result ≤ count }
-    ensures to { to.new ≡ slice_set to.old at (slice_index_or to.old at [] ++ whole (take result from.old)) }
-    ensures behind { drop result from.new ≡ drop result from.old }
-    ensures len { length from.new ≡ length from.old }
-{
-    let mut moved = 0;
-    'chunk: while moved < count {
-        let Ok(()) = move_pairs(to, at, from, moved) else {
-            return moved;
-        };
-        moved += 1;
-    }
-    moved
 }
 
 // Takes the chunks from one place up to another out.
@@ -111,41 +87,6 @@ pub fn drop_between<R: Drop, V: Drop, A: Allocator>(
     take_out_between(chunks, from, last);
 }
 
-/// Moves the pairs of the chunks from `at` up to `end` into the first of them. Each pair and each
-/// chunk behind them is moved once.
-///
-/// # Errors
-///
-/// The growth of that chunk was refused: then the list is as it was, though some of these chunks may
-/// be one.
-pub fn gather<R: Drop, V: Drop, A: Allocator>(
-    chunks: &mut Vec<Chunk<R, V, A>, A>,
-    at: usize,
-    end: usize,
-) -> Result<(), AllocError>
-    requires filled { AreFilled chunks.old.items }
-    requires in_bounds { end ≤ length chunks.old.items }
-    requires some { at < length chunks.old.items }
-    ensures whole { whole chunks.new.items ≡ whole chunks.old.items }
-    ensures filled { AreFilled chunks.new.items }
-    ensures in_bounds { at < length chunks.new.items }
-    ensures before { take at chunks.new.items ≡ take at chunks.old.items }
-    ensures behind { OnOk result (at < end → drop (at + 1) chunks.new.items ≡ drop end chunks.old.items) }
-    ensures alone { end ≤ at + 1 → (IsOk result × (chunks.new.items ≡ chunks.old.items)) }
-{
-    if end <= at || end - at == 1 {
-        return Ok(());
-    }
-    let (front, back) = chunks.split_at_mut(at + 1);
-    let count = end - at - 1;
-    let moved = move_all(front, at, back, count);
-    take_out_between(chunks, at + 1, at + 1 + moved);
-    if moved < count {
-        return Err(AllocError);
-    }
-    Ok(())
-}
-
 // Cuts a chunk in two where it is long: in halves, or where it is the last one, so that it stays
 // full, as where ranges come in order. It stays as it is where memory is refused.
 fn split<R: Drop, V: Drop, A: Allocator + Clone, const N: usize>(
@@ -169,8 +110,7 @@ fn split<R: Drop, V: Drop, A: Allocator + Clone, const N: usize>(
     let place = split_place::<N>(len, is_last);
     let chunk = &mut chunks[at];
     if let Ok(back) = chunk.split_off(place) {
-        put_in(chunks, at + 1, back);
-        give_back_at(chunks, at, most_pairs::<N>());
+        insert_reserved(chunks, at + 1, back);
     }
 }
 
@@ -182,20 +122,6 @@ fn split_place<const N: usize>(len: usize, is_last: bool) -> usize
     ensures less { result < len }
 {
     if is_last && 0 < N { N } else { len / 2 }
-}
-
-// Puts a chunk in, for which there is room.
-fn put_in<R: Drop, V: Drop, A: Allocator>(
-    chunks: &mut Vec<Chunk<R, V, A>, A>,
-    at: usize,
-    chunk: Chunk<R, V, A>,
-)
-    requires in_bounds { at ≤ length chunks.old.items }
-    requires room { vec_len chunks.old < vec_capacity chunks.old }
-    ensures { chunks.new.items ≡ take at chunks.old.items ++ chunk ∷ drop at chunks.old.items }
-{
-    chunks.push_reserved(chunk);
-    chunks[at..].rotate_right(1);
 }
 
 /// Takes a chunk out that is empty. One that has another size than before is cut where it is long,
@@ -222,28 +148,50 @@ pub fn settle<R: Drop, V: Drop, A: Allocator + Clone, const N: usize>(
     }
     split::<R, V, A, N>(chunks, at);
     give_back_at(chunks, at, most_pairs::<N>());
-    join_small::<R, V, A, N>(chunks, at);
-    if 0 < at {
-        join_small::<R, V, A, N>(chunks, at - 1);
-    }
+    // First with the one before: so no pair is moved into a neighbour twice.
+    let at = if 0 < at && join_small::<R, V, A, N>(chunks, at - 1) {
+        at - 1
+    } else {
+        at
+    };
+    let _is_joined = join_small::<R, V, A, N>(chunks, at);
 }
 
-// Joins a chunk with the one behind it, where both are small.
+// Joins a chunk with the one behind it, where both are small and memory allows. Returns whether
+// they became one.
 fn join_small<R: Drop, V: Drop, A: Allocator, const N: usize>(
     chunks: &mut Vec<Chunk<R, V, A>, A>,
     at: usize,
-)
+) -> bool
     requires { AreFilled chunks.old.items }
     ensures whole { whole chunks.new.items ≡ whole chunks.old.items }
     ensures filled { AreFilled chunks.new.items }
 {
     let count = chunks.len();
     if count <= 1 || count - 1 <= at {
-        return;
+        return false;
     }
     let here = chunks[at].len();
     let next = chunks[at + 1].len();
-    if here <= N / 2 && next <= N / 2 - here {
-        let _joined = gather(chunks, at, at + 2);
+    if N / 2 < here || N / 2 - here < next {
+        return false;
     }
+    join_next(chunks, at).is_ok()
+}
+
+// Moves the pairs of the chunk behind into a chunk, and takes the one behind out. `Err` says that
+// the growth was refused: then all is as it was.
+fn join_next<R: Drop, V: Drop, A: Allocator>(
+    chunks: &mut Vec<Chunk<R, V, A>, A>,
+    at: usize,
+) -> Result<(), AllocError>
+    requires filled { AreFilled chunks.old.items }
+    requires in_bounds { at + 1 < length chunks.old.items }
+    ensures whole { whole chunks.new.items ≡ whole chunks.old.items }
+    ensures filled { AreFilled chunks.new.items }
+{
+    let (front, back) = chunks.split_at_mut(at + 1);
+    move_pairs(front, at, back, 0)?;
+    take_out(chunks, at + 1);
+    Ok(())
 }

@@ -1,5 +1,5 @@
 //! One value moved from a vector to the end of another, and back.
-ghost use Rattle.std.specs.Prelude.{◌≡◌, ◌+◌, ◌-◌, ◌<◌, ◌≤◌, ◌++◌, take, drop, length, OnErr, OnOk, vec_len, vec_capacity};
+ghost use Rattle.std.specs.Prelude.{◌≡◌, ◌+◌, ◌-◌, ◌<◌, ◌≤◌, ◌++◌, ◌∷◌, take, drop, length, OnErr, OnOk, vec_len, vec_capacity};
 
 use std::alloc::{AllocError, Allocator};
 
@@ -25,6 +25,16 @@ pub fn move_one<T, A: Allocator>(
     Ok(())
 }
 
+/// Puts a value in at a place of a vector that has room for it.
+pub fn insert_reserved<T, A: Allocator>(list: &mut Vec<T, A>, place: usize, value: T)
+    requires in_bounds { place ≤ length list.old.items }
+    requires room { vec_len list.old < vec_capacity list.old }
+    ensures { list.new.items ≡ take place list.old.items ++ value ∷ drop place list.old.items }
+{
+    list.push_reserved(value);
+    list[place..].rotate_right(1);
+}
+
 /// Moves the last value of the first vector back to `place` of the other one, where there is room.
 pub fn move_back<T, A: Allocator>(from: &mut Vec<T, A>, to: &mut Vec<T, A>, place: usize)
     requires some { 0 < length from.old.items }
@@ -34,8 +44,7 @@ pub fn move_back<T, A: Allocator>(from: &mut Vec<T, A>, to: &mut Vec<T, A>, plac
     ensures to { to.new.items ≡ take place to.old.items ++ drop (length from.old.items - 1) from.old.items ++ drop place to.old.items }
 {
     if let Some(value) = from.pop() {
-        to.push_reserved(value);
-        to[place..].rotate_right(1);
+        insert_reserved(to, place, value);
     }
 }
 

@@ -1,15 +1,16 @@
 //! The calls on a list of containers that every container has, as values.
 
-/// A call that every map has, over ranges of type `R`. It names a map by its place in the list.
+/// A call that every container has, over ranges of type `R`. It names a container by its place in
+/// the list.
 #[derive(Drop)]
 pub enum Change<R, V> {
-    /// Makes an empty map, by `new_with_step_fns`.
+    /// Makes an empty container, by `new_with_step_fns`.
     New,
-    /// Gives the keys of the range the value, in the map at the place.
+    /// Gives the keys of the range the value, in the container at the place.
     Insert { at: usize, range: R, value: V },
-    /// Takes the keys of the range out of the map at the place.
+    /// Takes the keys of the range out of the container at the place.
     Remove { at: usize, range: R },
-    /// Empties the map at the place.
+    /// Empties the container at the place.
     Clear { at: usize },
     /// Makes a clone of the map at the place.
     Clone { at: usize },

@@ -45,7 +45,7 @@ pub trait Container: PartialEq + Drop {
     /// The stored pairs, in order.
     ghost pairs: { Self → List (Self.Range × Self.Value) };
 
-    /// Does nothing, and tells that the list of a container at hand is canonical.
+    /// Does nothing at run time; its contract tells the check that the stored list is canonical.
     fn known(&self)
         ensures { IsCanonical Self.Kind.kind Self.Value.eq (pairs self.now) };
 
@@ -55,8 +55,8 @@ pub trait Container: PartialEq + Drop {
         ensures { pairs result ≡ [] };
 
     /// Gives every key of `range`, which is not empty, the `value`, whatever it had before. The
-    /// caller sees to it that a clone of a key or value equals its original. `Err` says that memory
-    /// or a clone was refused: then the container is as it was.
+    /// caller sees to it that a clone of a key or value compares equal to its original. `Err` says
+    /// that memory or a clone was refused: then the container is as it was.
     fn insert(&mut self, range: Self::Range, value: Self::Value) -> Result<(), AllocError>
         requires non_empty { Self.Kind.kind.IsNonEmpty range }
         requires faithful_keys { KeysCloneFaithfully Self.Range.Key.is_clone Self.Range.Key.cmp }
@@ -94,7 +94,7 @@ pub trait Container: PartialEq + Drop {
     fn len(&self) -> usize
         ensures { result ≡ length (pairs self.now) };
 
-    /// Whether no range is stored.
+    /// Returns whether no range is stored.
     fn is_empty(&self) -> bool
         ensures { result ≡ nat_eq (length (pairs self.now)) 0 };
 
@@ -109,7 +109,7 @@ pub trait Container: PartialEq + Drop {
     ) -> Option<(&Self::Range, &Self::Value)>
         ensures { option_map (λ pair. (pair.0.now, pair.1.now)) result ≡ covering Self.Kind.kind (pairs self.now) key.now };
 
-    /// Whether a stored range has the key.
+    /// Returns whether a stored range has the key.
     fn contains_key(&self, key: &<Self::Range as KeyRange>::Key) -> bool
         ensures { result ≡ is_some (covering Self.Kind.kind (pairs self.now) key.now) };
 
@@ -121,13 +121,13 @@ pub trait Container: PartialEq + Drop {
     fn last_range_value(&self) -> Option<(&Self::Range, &Self::Value)>
         ensures { option_map (λ pair. (pair.0.now, pair.1.now)) result ≡ slice_get (pairs self.now) (length (pairs self.now) - 1) };
 
-    /// Whether a stored range overlaps `range`, of which nothing is asked.
+    /// Returns whether a stored range overlaps `range`, of which nothing is asked.
     fn overlaps(&self, range: &Self::Range) -> bool
         ensures { result ≡ nat_lt 0 (length (overlapped Self.Kind.kind (pairs self.now) range.now)) };
 
-    /// Appends clones of all pairs, in order, so that they outlive the container. The caller sees to
-    /// it that a clone of a key or value equals its original. `Err` says that a clone, or the growth
-    /// of `out`, was refused: then `out` is as it was.
+    /// Appends clones of all pairs, in order, so that they outlive the container. The caller sees
+    /// to it that a clone of a key or value compares equal to its original. `Err` says that a
+    /// clone, or the growth of `out`, was refused: then `out` is as it was.
     fn append_all<B: Allocator>(
         &self,
         out: &mut Vec<(Self::Range, Self::Value), B>,
@@ -149,9 +149,9 @@ pub trait Container: PartialEq + Drop {
         ensures ok { OnOk result (Appends Self.Kind.kind Self.Value.eq (overlapped Self.Kind.kind (pairs self.now) range.now) out.old.items out.new.items) }
         ensures err { OnErr result (out.new.items ≡ out.old.items) };
 
-    /// Appends the parts of `outer_range` that no stored range covers, in order. Nothing is asked of
-    /// `outer_range`; the caller sees to it that a clone of a key equals its original, and `Err`
-    /// says what it says of `append_all`.
+    /// Appends the parts of `outer_range` that no stored range covers, in order. Nothing is asked
+    /// of `outer_range`; the caller sees to it that a clone of a key compares equal to its
+    /// original, and `Err` says what it says of `append_all`.
     fn append_gaps<B: Allocator>(
         &self,
         outer_range: &Self::Range,
@@ -168,6 +168,10 @@ pub trait Container: PartialEq + Drop {
 /// Collects the gaps of `outer_range` into a vector, with memory of `alloc`: the parts of it that no
 /// stored range covers, in order. It takes *O*(log *n* + *k*), with *k* stored ranges that
 /// `outer_range` overlaps.
+///
+/// # Requires
+///
+/// A clone of a key compares equal to its original.
 ///
 /// # Errors
 ///

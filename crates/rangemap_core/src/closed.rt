@@ -20,14 +20,14 @@ pub struct Closed<StepFnsT>(PhantomData<StepFnsT>);
 impl<K: Ord + Clone, StepFnsT: StepFns<K>> Kind<RangeInclusive<K>> for Closed<StepFnsT> {
     ghost use Rattle.rangemap_core.specs.engine.IntervalKinds.{closed_interval};
     ghost use Rattle.rangemap_core.specs.Ranges.{closed};
-    ghost use Rattle.rangemap_core.specs.Clones.{KeysCloneFaithfully};
+    ghost use Rattle.rangemap_core.specs.Clones.{KeysCloneFaithfully, KeysCloneInfallibly};
     ghost use Rattle.rangemap_core.specs.engine.Endpoints.{endpoint_of, is_before};
     ghost use Rattle.rangemap_core.specs.engine.ClosedEndpoints.{closed_part, closed_placed};
     ghost use Rattle.rangemap_core.specs.engine.Unstepped.{canonical_unstepped};
     ghost use Rattle.rangemap_core.specs.MadeRanges.{IsSame};
     ghost use Rattle.rangemap_core.specs.operations.PlaceKinds.{closed_has_places};
     ghost use Rattle.rangemap_core.specs.engine.ClosedPlaces.{closed_end_place};
-    ghost use Rattle.std.specs.Prelude.{◌≡◌, true, IfOk, refl};
+    ghost use Rattle.std.specs.Prelude.{◌≡◌, true, IfOk, IsOk, refl};
 
     type Steps = StepFnsT;
 
@@ -82,7 +82,8 @@ impl<K: Ord + Clone, StepFnsT: StepFns<K>> Kind<RangeInclusive<K>> for Closed<St
     ) -> Result<RangeInclusive<K>, AllocError>
         requires is_before { is_before (closed StepFnsT.is_key K.cmp) (closed_end_place StepFnsT.after) (endpoint_of from) (endpoint_of to) ≡ true }
         requires faithful_keys { KeysCloneFaithfully K.is_clone K.cmp }
-        ensures { IfOk result (IsSame (closed StepFnsT.is_key K.cmp) (closed_part StepFnsT.after StepFnsT.before (endpoint_of from.entry) (endpoint_of to.entry))) }
+        ensures ok { IfOk result (IsSame (closed StepFnsT.is_key K.cmp) (closed_part StepFnsT.after StepFnsT.before (endpoint_of from.entry) (endpoint_of to.entry))) }
+        ensures succeeds { KeysCloneInfallibly K.is_infallible → IsOk result }
     {
         known_at::<K, StepFnsT>(from);
         known_at::<K, StepFnsT>(to);

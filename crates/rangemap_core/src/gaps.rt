@@ -1,10 +1,10 @@
 //! The parts of a range that no stored range covers, whatever keeps the ranges.
-ghost use Rattle.std.specs.Prelude.{◌≡◌, ◌≢◌, ◌++◌, [], false, true, IfOk, IfSome, List, MatchOption, None as NoneWord, Ok as OkWord, OnErr, OnOk, length, map};
+ghost use Rattle.std.specs.Prelude.{◌≡◌, ◌≢◌, ◌++◌, [], false, true, IfOk, IfSome, IsOk, List, MatchOption, None as NoneWord, Ok as OkWord, OnErr, OnOk, length, map};
 ghost use Rattle.std.specs.Iterator.{Drains, IsFinite, UpTo, at_most};
 ghost use Rattle.std.specs.Iterator.SizeHint.{IsWithinCount};
 ghost use Rattle.std.specs.Map.Iter.{TakesFirst};
 ghost use Rattle.std.specs.Option.{option_map, option_to_list};
-ghost use Rattle.rangemap_core.specs.Clones.{KeysCloneFaithfully};
+ghost use Rattle.rangemap_core.specs.Clones.{KeysCloneFaithfully, KeysCloneInfallibly};
 ghost use Rattle.rangemap_core.specs.engine.Endpoints.{AtStart, endpoint_of, gaps_from, is_before};
 ghost use Rattle.rangemap_core.specs.MadeRanges.{GivesRange, IsSame, TakesRange};
 ghost use Rattle.rangemap_core.specs.Ranges.{AreGaps};
@@ -59,21 +59,26 @@ impl<'a, Q: Kind<R>, R: KeyRange + 'a, C: LentCursor<'a, R, GivenValue: Drop>> G
 
     /// Returns the next gap, made of clones.
     ///
+    /// # Requires
+    ///
+    /// A clone of a key compares equal to its original.
+    ///
     /// # Errors
     ///
-    /// A clone was refused. Nothing changed then, so the same gap may be asked for again.
+    /// A clone was refused, which those of numbers, characters and references never are. Nothing
+    /// changed then, so the same gap may be asked for again.
     pub fn try_next(&mut self) -> Result<Option<R>, AllocError>
         requires { KeysCloneFaithfully R.Key.is_clone R.Key.cmp }
         ensures ok { IfOk result (λ item. TakesRange Q.kind self.old item self.new) }
         ensures err { OnErr result (self.new ≡ self.old) }
         ensures refused { OnErr result (self.old ≢ []) }
+        ensures succeeds { KeysCloneInfallibly R.Key.is_infallible → IsOk result }
     {
         if self.is_done {
             return Ok(None);
         }
         'passed: while let Some(next) = take_next(&mut self.refused, &mut self.pairs) {
-            let to = Endpoint::Start(next.0);
-            match part_between::<Q, R>(self.from, to) {
+            match part_between::<Q, R>(self.from, Endpoint::Start(next.0)) {
                 Ok(gap) => {
                     self.from = Endpoint::End(next.0);
                     if gap.is_some() {
@@ -102,6 +107,8 @@ impl<'a, Q: Kind<R>, R: KeyRange + 'a, C: LentCursor<'a, R, GivenValue: Drop>> I
 
     ghost remaining = { λ s. at_most (length s) };
 
+    /// Returns the next gap, made of clones. Where a clone was refused it says so once, as
+    /// `Some(Err(AllocError))`, and has ended then.
     fn next(&mut self) -> Option<Result<R, AllocError>> {
         match self.try_next() {
             Ok(None) => None,
@@ -205,6 +212,7 @@ fn part_between<Q: Kind<R>, R: KeyRange>(
     requires { KeysCloneFaithfully R.Key.is_clone R.Key.cmp }
     ensures ok { IfOk result (λ gap. MatchOption gap (is_before Q.kind Q.end_place (endpoint_of from.entry) (endpoint_of to.entry) ≡ false) (λ r. (is_before Q.kind Q.end_place (endpoint_of from.entry) (endpoint_of to.entry) ≡ true) × IsSame Q.kind (Q.part_of (endpoint_of from.entry) (endpoint_of to.entry)) r)) }
     ensures err { OnErr result (is_before Q.kind Q.end_place (endpoint_of from.entry) (endpoint_of to.entry) ≡ true) }
+    ensures succeeds { KeysCloneInfallibly R.Key.is_infallible → IsOk result }
 {
     if Q::is_before(from, to) {
         Ok(Some(Q::part(from, to)?))

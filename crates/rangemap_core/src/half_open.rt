@@ -13,14 +13,14 @@ pub struct HalfOpen;
 
 impl<K: Ord + Clone> Kind<Range<K>> for HalfOpen {
     ghost use Rattle.rangemap_core.specs.Ranges.{half_open};
-    ghost use Rattle.rangemap_core.specs.Clones.{KeysCloneFaithfully};
+    ghost use Rattle.rangemap_core.specs.Clones.{KeysCloneFaithfully, KeysCloneInfallibly};
     ghost use Rattle.rangemap_core.specs.engine.Endpoints.{endpoint_of, is_before};
     ghost use Rattle.rangemap_core.specs.engine.EndpointKinds.{half_open_part, half_open_placed};
     ghost use Rattle.rangemap_core.specs.MadeRanges.{IsSame};
     ghost use Rattle.rangemap_core.specs.engine.PlacedKinds.{half_open_end_place};
     ghost use Rattle.rangemap_core.specs.engine.IntervalKinds.{half_open_interval};
     ghost use Rattle.rangemap_core.specs.operations.PlaceKinds.{half_open_has_places};
-    ghost use Rattle.std.specs.Prelude.{◌≡◌, true, IfOk, refl};
+    ghost use Rattle.std.specs.Prelude.{◌≡◌, true, IfOk, IsOk, refl};
 
     type Steps = K;
 
@@ -66,7 +66,8 @@ impl<K: Ord + Clone> Kind<Range<K>> for HalfOpen {
     ) -> Result<Range<K>, AllocError>
         requires is_before { is_before (half_open K.cmp) half_open_end_place (endpoint_of from) (endpoint_of to) ≡ true }
         requires faithful_keys { KeysCloneFaithfully K.is_clone K.cmp }
-        ensures { IfOk result (IsSame (half_open K.cmp) (half_open_part (endpoint_of from.entry) (endpoint_of to.entry))) }
+        ensures ok { IfOk result (IsSame (half_open K.cmp) (half_open_part (endpoint_of from.entry) (endpoint_of to.entry))) }
+        ensures succeeds { KeysCloneInfallibly K.is_infallible → IsOk result }
     {
         Ok(key_at(from).clone()?..key_at(to).clone()?)
     }

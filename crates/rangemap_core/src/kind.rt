@@ -1,6 +1,6 @@
 //! The kinds of range that a map may store.
-ghost use Rattle.std.specs.Prelude.{◌≡◌, List, false, true, Option as OptionOf, IfOk};
-ghost use Rattle.rangemap_core.specs.Clones.{KeysCloneFaithfully};
+ghost use Rattle.std.specs.Prelude.{◌≡◌, List, false, true, Option as OptionOf, IfOk, IsOk};
+ghost use Rattle.rangemap_core.specs.Clones.{KeysCloneFaithfully, KeysCloneInfallibly};
 ghost use Rattle.rangemap_core.specs.engine.Endpoints.{EndpointOf, IsAsked, IsPlaced, endpoint_of, is_before};
 ghost use Rattle.rangemap_core.specs.engine.Intervals.{IsInterval, ReadsAs};
 ghost use Rattle.rangemap_core.specs.MadeRanges.{IsSame};
@@ -64,7 +64,8 @@ pub trait Kind<R: KeyRange> {
     fn part(from: Endpoint<'_, R>, to: Endpoint<'_, R>) -> Result<R, AllocError>
         requires is_before { is_before kind end_place (endpoint_of from) (endpoint_of to) ≡ true }
         requires faithful_keys { KeysCloneFaithfully R.Key.is_clone R.Key.cmp }
-        ensures { IfOk result (IsSame kind (part_of (endpoint_of from.entry) (endpoint_of to.entry))) };
+        ensures ok { IfOk result (IsSame kind (part_of (endpoint_of from.entry) (endpoint_of to.entry))) }
+        ensures succeeds { KeysCloneInfallibly R.Key.is_infallible → IsOk result };
 
     /// Ranges of the kind lie between places in a total order, and answer by the places of their
     /// endpoints, the empty and the reversed ones too.

@@ -17,4 +17,4 @@ pub mod pairs;
 pub mod reader;
 pub mod std_ext;
 pub mod store;
-pub mod vectors;
+mod vectors;

@@ -24,17 +24,13 @@ impl<'a, R, V> Cursor for slice::Iter<'a, (R, V)> {
     ghost given_value = { deref };
 
     fn take_first(&mut self) -> Option<(&'a R, &'a V)> {
-        match self.next() {
-            Some(pair) => Some((&pair.0, &pair.1)),
-            None => None,
-        }
+        let pair = self.next()?;
+        Some((&pair.0, &pair.1))
     }
 
     fn take_last(&mut self) -> Option<(&'a R, &'a V)> {
-        match self.next_back() {
-            Some(pair) => Some((&pair.0, &pair.1)),
-            None => None,
-        }
+        let pair = self.next_back()?;
+        Some((&pair.0, &pair.1))
     }
 
     #[inline(always)]

@@ -24,6 +24,7 @@ items_in (Value-F.String s) = None
 items_in (Value-F.Array v) = Some v.items
 items_in (Value-F.Object m) = None
 
+-- the items of a value, if it is a list
 abbrev pub list_of : Value → Option (List Value)
 list_of v = items_in (out-Value v)
 
@@ -170,10 +171,11 @@ module _ {K X V E : Type 0} (k : RangeKind K X) (r : Reader K V E) where
       pub inserted : IsInserted form entries list
       pub same : form ≡ Canonical → same_pairs k eq inserted.pairs list ≡ true
 
-    -- the fault of an entry that comes after the pairs read before, where the form is canonical
+    -- where the form is canonical, the entry's range does not lie wholly behind the last of the pairs read before
     abbrev pub IsOutOfOrder : List (X × V) → Value → Type 0
     IsOutOfOrder before v = (pair last : X × V) × IsRead pair v × IsStorable k pair.0 × EndsWith before last × (k.IsBefore last.0 pair.0 → ⊥)
 
+    -- the entry's range touches the last of these pairs, and the values are equal
     abbrev pub IsUncoalesced : List (X × V) → Value → Type 0
     IsUncoalesced before v = (pair last : X × V) × IsRead pair v × IsStorable k pair.0 × EndsWith before last × k.IsBefore last.0 pair.0 × k.Touches last.0 pair.0 × (eq last.1 pair.1 ≡ true)
 
@@ -239,16 +241,19 @@ module _ {K X V : Type 0} (k : RangeKind K X) (eq : V → V → Bool) where
 
 -- ---- what the functions of maps and of sets make of parts
 
+-- what writes the entries of a map
 abbrev pub map_writer : {K V E : Type 0} → (K → Result Value E → Type 0) → (V → Result Value E → Type 0) → Writer K V E
 map_writer write_key write_value = record { shape = map_entry; key = write_key; value = write_value }
 
+-- what reads the entries of a map
 abbrev pub map_reader : {K V E : Type 0} → (Value → Result K E → Type 0) → (Value → Result V E → Type 0) → Reader K V E
 map_reader read_key read_value = record { shape = map_entry; key = read_key; value = read_value }
 
--- the unit, which a set has for a value, is written nowhere and read of every entry
+-- What writes the entries of a set: the unit, which a set has for a value, is written nowhere.
 abbrev pub set_writer : {K E : Type 0} → (K → Result Value E → Type 0) → Writer K ⊤ E
 set_writer write_key = record { shape = set_entry; key = write_key; value = λ unit answer. (part : Value) × (answer ≡ Ok part) }
 
+-- what reads the entries of a set: the unit is read of every entry
 abbrev pub set_reader : {K E : Type 0} → (Value → Result K E → Type 0) → Reader K ⊤ E
 set_reader read_key = record { shape = set_entry; key = read_key; value = λ part answer. answer ≡ Ok tt }
 

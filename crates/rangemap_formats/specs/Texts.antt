@@ -52,6 +52,7 @@ module _ {K X : Type 0} (k : RangeKind K X) (dots : List ℕ) (key : K → List 
   abbrev pub plain_range : X → List ℕ
   plain_range r = key (k.start r) ++ (dots ++ key (k.end r))
 
+  -- the text of a set
   abbrev pub plain_set : List X → List ℕ
   plain_set = plain_braced plain_range
 
@@ -66,6 +67,7 @@ module _ {K X : Type 0} (k : RangeKind K X) (dots : List ℕ) (key : K → List 
     abbrev pub plain_pair : X × V → List ℕ
     plain_pair p = plain_range p.0 ++ (codes ": " ++ value p.1)
 
+    -- the text of a map
     abbrev pub plain_map : List (X × V) → List ℕ
     plain_map = plain_braced plain_pair
 

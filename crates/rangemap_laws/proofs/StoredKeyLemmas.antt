@@ -160,13 +160,6 @@ module _ {K X : Type 0} {k : RangeKind K X} {end_place : X → Option K} {part :
           some_there [] h none = true≢false (sym h)
           some_there (x ∷ xs) h none = cc
 
-      -- no key of the range has a value: `overlaps` is false
-      pub overlaps_none : IsUndefinedOn k (value_at k list) q → nat_lt 0 (length (overlapped k list q)) ≡ false
-      overlaps_none free = false_by (nat_lt 0 (length (overlapped k list q))) (λ h. let some = defined_by_overlaps h in not_some (some.value) (free some.key some.is_key some.holds) some.is)
-        where
-          not_some : {o : Option V} (v : V) → o ≡ None → o ≡ Some v → ⊥
-          not_some v a b = cc
-
       -- some key has one: it is true
       pub overlaps_some : IsDefinedIn k (value_at k list) q → nat_lt 0 (length (overlapped k list q)) ≡ true
       overlaps_some some = go (nat_lt 0 (length (overlapped k list q))) refl

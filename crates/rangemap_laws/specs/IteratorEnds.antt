@@ -19,6 +19,7 @@ TriesToEnd left s r t = MatchResult r (λ answer. GoesToEnd left s answer t) (λ
 abbrev pub AllGoToEnd : {S A : Type 0} → (S → ℕ) → (S → Option A → S → Type 0) → Type 0
 AllGoToEnd {S} {A} left gives = (before : S) (answer : Option A) (after : S) → gives before answer after → GoesToEnd left before answer after
 
+-- the same of all calls of which the relation speaks, which may be refused
 abbrev pub AllTryToEnd : {S A : Type 0} → (S → ℕ) → (S → Result (Option A) AllocError → S → Type 0) → Type 0
 AllTryToEnd {S} {A} left gives = (before : S) (answer : Result (Option A) AllocError) (after : S) → gives before answer after → TriesToEnd left before answer after
 

@@ -1,15 +1,16 @@
-//! What holds of every map, as contracts that the check has proved.
+//! What holds of every container, as contracts that the check has proved.
 //!
-//! A function here that takes maps makes the calls that its law speaks of, and its contract says
-//! what they leave; one that takes nothing states a fact about lists of ranges. It serves every map
-//! of the library: what a map is to it is said by `Container`.
+//! A function here that takes containers makes the calls that its law speaks of, and its contract
+//! says what they leave; one that takes nothing states a fact about lists of ranges. It serves
+//! every map and every set of the library: what they are to it is said by `Container`.
 //!
 //! A law holds where all of its calls are accepted. `Err(AllocError)` says that one was refused. A
-//! law of one call says that nothing changed then. A law of more leaves open what the maps hold: the
-//! calls before the refused one were made, and each left what its own contract says.
+//! law of one call says that nothing changed then. A law of more leaves open what the containers
+//! hold: the calls before the refused one were made, and each left what its own contract says.
 //!
-//! A contract speaks of what is held, not of how often it was written. So a law can't tell one
-//! insert from two equal ones; that the calls are made once is read in the bodies.
+//! A contract speaks of what is held, not of how often or in which order it was written. So a law
+//! can't tell one insert from two equal ones, nor the order of two inserts that share no key; that
+//! the calls are made, once and in their order, is read in the bodies.
 ghost use Rattle.std.specs.Prelude.{◌≡◌, ◌↔◌, ◌&&◌, true, false, not, is_some, map, IsTrue, IfOk, List, Some as SomeWord, None as NoneWord, OnErr, OnOk};
 ghost use Rattle.std.specs.Option.{option_eq};
 ghost use Rattle.rangemap_core.specs.Clones.{KeysCloneFaithfully, ValuesCloneFaithfully};
@@ -159,7 +160,7 @@ pub fn remove_after_insert_equals_remove<M: Container>(
 /// Gaps and covered keys make up a range: the gaps of `outer_range` and what `stored` covers of it
 /// share no key, and together they have all its keys. No gap is empty, and no two touch.
 ///
-/// Answers the gaps, errs and takes time as `collect_gaps` does, which it calls.
+/// Returns what `collect_gaps` does, at its cost.
 pub fn gaps_and_covered_keys_make_up_a_range<M: Container, B: Allocator>(
     alloc: B,
     stored: &M,

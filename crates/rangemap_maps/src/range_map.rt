@@ -21,15 +21,18 @@ mod text;
 
 /// A map of disjoint ranges to values, which joins ranges that touch and have equal values.
 ///
-/// `S` keeps the pairs: a sorted vector, a tree, chunks. What a call costs is its store's matter, but
-/// where *n* ranges are stored, all have this in common:
+/// `S` keeps the pairs: a sorted vector, a tree, chunks. Of *n* stored ranges, *k* meet the range
+/// that a call is given. What a change costs is told by the store, `SortedVec`, `Tree` or `Chunks`;
+/// all have this in common:
 ///
 /// | Call | Time | Memory |
 /// |---|---|---|
 /// | `new`, `new_with_step_fns`, `allocator`, `len`, `is_empty` | *O*(1) | none |
-/// | `iter`, `into_iter`, `overlapping`, `overlaps`, lookups | | none |
-/// | `gaps` | | none; clones for a gap |
-/// | `insert`, `remove` | | growth, clones |
+/// | lookups, `overlaps` | *O*(log *n*) | none |
+/// | `iter`, `into_iter` | *O*(log *n*) at most, and *O*(*n*) for all items | none |
+/// | `overlapping` | *O*(log *n*), and *O*(*k*) for all items | none |
+/// | `gaps` | *O*(log *n*), and *O*(*k*) for all items | clones for a gap |
+/// | `insert`, `remove` | by the store | growth, clones |
 /// | `extend`, `from_iter`, `from` | that of an `insert` for each item | growth, clones |
 /// | `clone` | *O*(*n*) | growth, clones |
 /// | `==` | *O*(*n*), *O*(1) where the numbers differ | none |
@@ -77,7 +80,7 @@ impl<S: StoreMut> Map<S> {
 }
 
 impl<S: Store> Map<S> {
-    /// Does nothing, and tells that the list of a map at hand is canonical.
+    /// Does nothing at run time; its contract tells the check that the stored list is canonical.
     pub fn known(&self)
         ensures { IsCanonical S.Kind.kind S.Value.eq self.now }
     {

@@ -9,7 +9,7 @@ pub mod entries;
 pub mod overlapping;
 mod probe;
 mod search;
-pub mod sorted_vec;
-pub mod splice;
+mod sorted_vec;
+mod splice;
 
 pub use sorted_vec::SortedVec;

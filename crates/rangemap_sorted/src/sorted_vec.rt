@@ -14,8 +14,19 @@ use std::{slice, vec};
 
 /// Pairs of a range and a value in one sorted vector.
 ///
-/// It is the fastest store of up to some thousand ranges, and wherever ranges come in order: an insert
-/// at the end moves nothing, one before it moves the pairs behind.
+/// It is the fastest store of up to about a thousand ranges, and wherever ranges come in order. Of
+/// *n* stored ranges, *k* meet the range that a call is given:
+///
+/// | Call | Time | Memory |
+/// |---|---|---|
+/// | `empty`, `allocator`, `len`, `first`, `last` | *O*(1) | none |
+/// | `covering` | *O*(log *n*) | none |
+/// | `iter`, `read`, `into_pairs` | *O*(1), and *O*(*n*) for all items | none |
+/// | `overlapping`, `read_overlapping` | *O*(log *n*), and *O*(*k*) for all items | none |
+/// | `append_gaps` | *O*(log *n* + *k*) | growth, clones |
+/// | `insert`, `remove` | *O*(log *n* + *k*), and a move of the pairs behind | growth, clones |
+/// | `clear` | *O*(*n*), as each drop | none |
+/// | `copy` | *O*(*n*) | the vector, clones |
 #[derive(Drop)]
 pub struct SortedVec<Q: Kind<R>, R: KeyRange, V: Eq + Clone, A: Allocator> {
     pairs: Vec<(R, V), A>,

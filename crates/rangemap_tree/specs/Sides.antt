@@ -11,6 +11,7 @@ use Rattle.rangemap_core.specs.engine.Stretch.{IsLeftPart, IsRightPart, IsLeftRe
 use Rattle.rangemap_tree.specs.Starts.{before, from, past, recut, piece_list, IsCutThere, IsNewAt}
 
 module _ {K V : Type 0} (cmp : K → K → Ordering) (eq : V → V → Bool) where
+  -- the shape of lists of half-open ranges
   abbrev pub shape : Shape (Range K) (Option K) V
   shape = shape_of (half_open cmp) half_open_end_place eq
 
@@ -26,11 +27,12 @@ module _ {K V : Type 0} (cmp : K → K → Ordering) (eq : V → V → Bool) whe
     pub past_end : (x : K) → cmp x (unwrap_or end r.end) ≡ Equal → from cmp x (past cmp r.end ps) ≡ past cmp r.end ps
     pub of_other_values : ((v w : V) → eq v w ≡ true) → piece ≡ None
 
-  -- what a remove of r leaves before it, and after it
+  -- what a remove of r leaves before it
   pub record IsLeftCut (ps : List (Range K × V)) (r : Range K) (cut : Option (Range K)) : Type 0 where
     pub rest : IsLeftRest shape ps (recut cut (before cmp r.start ps)) r
     pub cut_there : IsCutThere cmp r.start cut ps
 
+  -- what it leaves after it
   pub record IsRightCut (ps : List (Range K × V)) (r : Range K) (piece : Option (K × (Range K × V))) : Type 0 where
     pub rest : IsRightRest shape ps (piece_list piece ++ from cmp r.end ps) r
     pub new_there : IsNewAt cmp r.end piece ps

@@ -16,13 +16,15 @@ module _ {K V : Type 0} (cmp : K → K → Ordering) where
   abbrev pub starts_past : K → Range K × V → Bool
   starts_past x p = is_lt (cmp x p.0.start)
 
-  -- the pairs that start before x, that start no earlier, and that start later
+  -- the pairs that start before x
   abbrev pub before : K → List (Range K × V) → List (Range K × V)
   before x ps = filter (λ p. not (starts_from x p)) ps
 
+  -- the pairs that start no earlier than x
   abbrev pub from : K → List (Range K × V) → List (Range K × V)
   from x ps = filter (starts_from x) ps
 
+  -- the pairs that start later than x
   abbrev pub past : K → List (Range K × V) → List (Range K × V)
   past x ps = filter (starts_past x) ps
 

@@ -6,12 +6,12 @@
 #![tactic(auto)]
 
 pub mod ahead;
-pub mod by_start;
-pub mod insert;
+mod by_start;
+mod insert;
 pub mod into_iter;
-pub mod overlapping;
+mod overlapping;
 pub mod pairs;
-pub mod remove;
-pub mod tree;
+mod remove;
+mod tree;
 
 pub use tree::Tree;

@@ -18,8 +18,8 @@ use std::ops::Range;
 
 /// Pairs of a half-open range and a value in a B-tree, by the starts of the ranges.
 ///
-/// A change moves no others, so it is the store for many thousands of ranges that change at random
-/// places. Of *n* stored ranges, *k* meet the range that a call is given:
+/// A change moves no others, so it is a store for more than about a thousand ranges that change at
+/// random places. Of *n* stored ranges, *k* meet the range that a call is given:
 ///
 /// | Call | Time | Memory |
 /// |---|---|---|
@@ -27,7 +27,7 @@ use std::ops::Range;
 /// | `first`, `last`, `covering` | *O*(log *n*) | none |
 /// | `iter`, `read`, `into_pairs` | *O*(log *n*), and *O*(*n*) for all items | none |
 /// | `overlapping`, `read_overlapping` | *O*(log *n*), and *O*(*k*) for all items | none |
-/// | `gaps`, `append_gaps` | *O*(log *n*), and *O*(*k*) for all items | clones for a gap |
+/// | `append_gaps` | *O*(log *n* + *k*) | growth, clones |
 /// | `insert`, `remove` | *O*((*k* + 1) log *n*) | nodes, clones, a list of *k* keys |
 /// | `clear` | *O*(*n*), as each drop | none |
 /// | `copy` | *O*(*n*) | the tree, clones |

@@ -1,5 +1,5 @@
 -- What a set has that is made of items by inserts.
-use Rattle.std.proofs.Common.{◌≡◌, ◌⊎◌, inl, inr, Bool, true, false, ◌&&◌, ◌||◌, List, [], ◌∷◌, ◌++◌, Some, None, sym, ◌∙◌, ap, refl, subst, true≢false, Ordering, Less, Equal, Greater, is_lt, is_le, is_eq}
+use Rattle.std.proofs.Common.{◌≡◌, ◌⊎◌, inl, inr, Bool, true, false, ◌&&◌, ◌||◌, List, [], ◌∷◌, ◌++◌, Some, sym, ◌∙◌, ap, refl, subst, true≢false, Ordering, Less, Equal, Greater, is_lt, is_le, is_eq}
 use Rattle.std.specs.Bool.{⊤}
 use Rattle.std.proofs.Math.Bool.{or_comm}
 use Rattle.std.proofs.lemmas.List.Folds.{list_any-append}
@@ -9,7 +9,7 @@ use Rattle.rangemap_core.specs.operations.PlaceLaws.{HasPlaces, lt_true}
 use Rattle.rangemap_core.specs.operations.Places.{RangePlaces}
 use Rattle.rangemap_core.specs.laws.Orders.{eq_eq, eq_lt, eq_turn, le_Equal, lt_le}
 use Rattle.rangemap_core.specs.MadeRanges.{TakesRange}
-use Rattle.rangemap_core.specs.Ranges.{RangeKind, IsCanonOfPoints, IsStorable, covers}
+use Rattle.rangemap_core.specs.Ranges.{RangeKind, IsStorable, covers}
 use Rattle.rangemap_core.specs.Sets.{Adds, AreHulls, IsHull, IsCanonicalSet, is_within}
 use Rattle.rangemap_core.proofs.UnitValueLemmas.{covers_one}
 use Rattle.rangemap_unions.proofs.PlaceLemmas.{and_true, and_first, and_second, covers_any, covers_cons, le_le, or_first, or_second}
@@ -22,14 +22,6 @@ list_any-map Q f g step (x ∷ xs) all h = by (f x) refl h (λ w. list_any-map Q
     by : (b : Bool) → f x ≡ b → (b || list_any f xs) ≡ true → (list_any f xs ≡ true → list_any g xs ≡ true) → list_any g (x ∷ xs) ≡ true
     by true e w later = or_first (g x) (list_any g xs) (step x all.0 e)
     by false e w later = or_second (g x) (list_any g xs) (later w)
-
--- what each element has, and what some element has
-list_any-all : {X : Type 0} (f g h : X → Bool) → ((x : X) → f x ≡ true → g x ≡ true → h x ≡ true) → (xs : List X) → list_all f xs ≡ true → list_any g xs ≡ true → list_any h xs ≡ true
-list_any-all f g h step xs all some = list_any-map (λ x. f x ≡ true) g h step xs (each xs all) some
-  where
-    each : (ys : List _) → list_all f ys ≡ true → AllByRecursion (λ x. f x ≡ true) ys
-    each [] w = tt
-    each (y ∷ ys) w = (and_first (f y) (list_all f ys) w, each ys (and_second (f y) (list_all f ys) w))
 
 eq_true : (r : Ordering) → is_eq r ≡ true → r ≡ Equal
 eq_true Less h = absurd (true≢false (sym h))
@@ -108,12 +100,6 @@ module _ {K X P : Type 0} {k : RangeKind K X} {l : RangePlaces P X} {at cut : K 
   swapped false false c = refl
 
   -- ---- a set to which the items of an operation go over, one by one
-
-  pub gathered_all : (e : RangeKind K X) (test : K → Bool) (items all new : List X) → IsGathered k test items all → TakesRange e items None new → IsCanonOfPoints k test all
-  gathered_all e test items all new so_far taken = record {
-    canonical = so_far.0;
-    points = λ x key. ap (λ rs. covers k rs x || covers k all x) (sym taken.0) ∙ so_far.1 x key;
-  }
 
   pub gathered_next : {e : RangeKind K X} → HasPlaces e l at cut → (test : K → Bool) (items all new more : List X) (range : X)
       → IsGathered k test items all → TakesRange e items (Some range) new → Adds k all (range ∷ []) more → IsGathered k test new more

@@ -42,14 +42,6 @@ and_implied : (a b : Bool) → (a ≡ true → b ≡ true) → (a && b) ≡ a
 and_implied true b h = h refl
 and_implied false b h = refl
 
--- a and b fail together
-never_both : (a b c d : Bool) → (d ≡ true → a ≡ true → ⊥) → ((a && b) && (c && d)) ≡ false
-never_both true true true true h = absurd (h refl refl)
-never_both true true true false h = refl
-never_both true true false d h = refl
-never_both true false c d h = refl
-never_both false b c d h = refl
-
 module _ {K X P : Type 0} {k : RangeKind K X} {l : RangePlaces P X} {at cut : K → P} (p : HasPlaces k l at cut) where
   abbrev le : P → P → Type 0
   le a b = is_le (l.order a b) ≡ true

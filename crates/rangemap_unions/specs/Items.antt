@@ -12,9 +12,11 @@ module _ {P X : Type 0} (l : RangePlaces P X) where
   abbrev pub later_end : X → X → X
   later_end r s = if is_lt (l.order (l.end_place r) (l.end_place s)) then s else r
 
+  -- of two ranges the one that ends earlier, and the second where they end alike
   abbrev pub earlier_end : X → X → X
   earlier_end r s = if is_lt (l.order (l.end_place r) (l.end_place s)) then r else s
 
+  -- of two ranges the one that starts later, and the first where they start alike
   abbrev pub later_start : X → X → X
   later_start r s = if is_lt (l.order (l.start_place r) (l.start_place s)) then s else r
 
@@ -36,6 +38,7 @@ module _ {P X : Type 0} (l : RangePlaces P X) where
   hulls_from first last (r ∷ rest) =
       if reaches last r then hulls_from first (later_end last r) rest else l.between first last ∷ hulls_from r r rest
 
+  -- the items of ranges by their starts
   abbrev pub hulls : List X → List X
   hulls [] = []
   hulls (r ∷ rest) = hulls_from r r rest

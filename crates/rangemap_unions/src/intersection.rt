@@ -1,10 +1,10 @@
 //! What two lists of ranges have in common.
-ghost use Rattle.std.specs.Prelude.{◌≡◌, ◌≢◌, ◌∷◌, ◌&&◌, List, [], false, IfOk, IfSome, MatchOption, None as NoneWord, OnErr, Some as SomeWord, length, true};
+ghost use Rattle.std.specs.Prelude.{◌≡◌, ◌≢◌, ◌∷◌, ◌&&◌, List, [], false, IfOk, IfSome, IsOk, MatchOption, None as NoneWord, OnErr, Some as SomeWord, length, true};
 ghost use Rattle.std.specs.Iterator.{UpTo, at_most};
 ghost use Rattle.std.specs.Iterator.SizeHint.{IsWithinCount};
 ghost use Rattle.std.specs.Ordering.{is_lt};
 ghost use Rattle.std.specs.declared.cmp.Ordering.TheVariants.{Less};
-ghost use Rattle.rangemap_core.specs.Clones.{KeysCloneFaithfully};
+ghost use Rattle.rangemap_core.specs.Clones.{KeysCloneFaithfully, KeysCloneInfallibly};
 ghost use Rattle.rangemap_core.specs.MadeRanges.{GivesRange, TakesRange};
 ghost use Rattle.rangemap_core.specs.Sets.{AreCommon, AreNonEmptyRanges, IsCanonicalSet, ranges};
 ghost use Rattle.rangemap_unions.specs.Items.{earlier_end, intersection_items, later_start, reaches, with_common};
@@ -67,16 +67,18 @@ impl<C: Peek> Intersection<C> {
     ///
     /// # Requires
     ///
-    /// A clone of a key ties with its original.
+    /// A clone of a key compares equal to its original.
     ///
     /// # Errors
     ///
-    /// A clone was refused. Nothing has changed then.
+    /// A clone was refused, which those of numbers, characters and references never are. Nothing
+    /// has changed then.
     pub fn try_next(&mut self) -> Result<Option<C::Range>, AllocError>
         requires { KeysCloneFaithfully C.Range.Key.is_clone C.Range.Key.cmp }
         ensures ok { IfOk result (λ item. TakesRange C.Range.read self.old item self.new) }
         ensures err { OnErr result (self.new ≡ self.old) }
         ensures refused { OnErr result (self.old ≢ []) }
+        ensures succeeds { KeysCloneInfallibly C.Range.Key.is_infallible → IsOk result }
     {
         if self.is_done {
             return Ok(None);
@@ -94,6 +96,8 @@ impl<C: Peek> Iterator for Intersection<C> {
 
     ghost remaining = { λ s. at_most (length s) };
 
+    /// Returns the next item, made of clones. Where a clone was refused it says so once, as
+    /// `Some(Err(AllocError))`, and has ended then.
     fn next(&mut self) -> Option<Result<C::Range, AllocError>> {
         match self.try_next() {
             Ok(None) => None,
@@ -125,6 +129,7 @@ fn common<R: KeyRange>(left: &R, right: &R, left_ends_first: bool) -> Result<Opt
         (with_common R.places left.now right.now rest ≡ rest)
         (λ range. TakesRange R.read (with_common R.places left.now right.now rest) (SomeWord range) rest)) }
     ensures refused { OnErr result ((reaches R.places left.now right.now && reaches R.places right.now left.now) ≡ true) }
+    ensures succeeds { KeysCloneInfallibly R.Key.is_infallible → IsOk result }
 {
     let first = if compare_starts(left, right).is_lt() {
         right
@@ -145,6 +150,7 @@ fn up_to_end<R: KeyRange>(first: &R, last: &R) -> Result<Option<R>, AllocError>
         (reaches R.places last.now first.now ≡ false)
         (λ range. (reaches R.places last.now first.now ≡ true) × TakesRange R.read (R.places.between first.now last.now ∷ rest) (SomeWord range) rest)) }
     ensures refused { OnErr result (reaches R.places last.now first.now ≡ true) }
+    ensures succeeds { KeysCloneInfallibly R.Key.is_infallible → IsOk result }
 {
     let overlap = is_reached(last, first);
     if overlap {
@@ -170,6 +176,7 @@ impl<C: Peek> Sides<C> {
         ensures ok { IfOk result (λ item. TakesRange C.Range.read (intersection_items C.Range.places (ranges (C.left self.old.left)) (ranges (C.left self.old.right))) item (intersection_items C.Range.places (ranges (C.left self.new.left)) (ranges (C.left self.new.right)))) }
         ensures err { OnErr result (intersection_items C.Range.places (ranges (C.left self.new.left)) (ranges (C.left self.new.right)) ≡ intersection_items C.Range.places (ranges (C.left self.old.left)) (ranges (C.left self.old.right))) }
         ensures refused { OnErr result (intersection_items C.Range.places (ranges (C.left self.old.left)) (ranges (C.left self.old.right)) ≢ []) }
+        ensures succeeds { KeysCloneInfallibly C.Range.Key.is_infallible → IsOk result }
     {
         'both: while let (Some(p), Some(q)) = (self.left.peek(), self.right.peek()) {
             let (left, right) = (C::parts(&p).0, C::parts(&q).0);

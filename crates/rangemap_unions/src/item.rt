@@ -1,7 +1,7 @@
 //! One item of a union or an intersection, before it is made.
-ghost use Rattle.std.specs.Prelude.{◌≡◌, ◌∷◌, List, IfOk};
+ghost use Rattle.std.specs.Prelude.{◌≡◌, ◌∷◌, List, IfOk, IsOk};
 ghost use Rattle.std.specs.declared.cmp.Ordering.TheVariants.{Less};
-ghost use Rattle.rangemap_core.specs.Clones.{KeysCloneFaithfully};
+ghost use Rattle.rangemap_core.specs.Clones.{KeysCloneFaithfully, KeysCloneInfallibly};
 ghost use Rattle.rangemap_core.specs.MadeRanges.{TakesRange};
 ghost use Rattle.rangemap_unions.specs.Items.{reaches};
 
@@ -34,7 +34,8 @@ pub fn is_reached<R: KeyRange>(first: &R, second: &R) -> bool
 pub fn between<R: KeyRange>(first: &R, last: &R) -> Result<Option<R>, AllocError>
     requires in_order { R.places.order (R.places.start_place first.now) (R.places.end_place last.now) ≡ Less }
     requires faithful_keys { KeysCloneFaithfully R.Key.is_clone R.Key.cmp }
-    ensures { (rest : List R) → IfOk result (λ item. TakesRange R.read (R.places.between first.now last.now ∷ rest) item rest) }
+    ensures made { (rest : List R) → IfOk result (λ item. TakesRange R.read (R.places.between first.now last.now ∷ rest) item rest) }
+    ensures succeeds { KeysCloneInfallibly R.Key.is_infallible → IsOk result }
 {
     let start = first.start().clone()?;
     let end = last.end().clone()?;

@@ -6,12 +6,12 @@
 #![tactic(auto)]
 
 pub mod inserts;
-pub mod intersection;
+mod intersection;
 mod item;
 pub mod laws;
-pub mod ranges;
+mod ranges;
 mod side;
-pub mod union;
+mod union;
 
 pub use intersection::Intersection;
 pub use ranges::{OverlappingRanges, Ranges};

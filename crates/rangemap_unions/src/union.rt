@@ -1,8 +1,8 @@
 //! The ranges of two lists, joined where they overlap.
-ghost use Rattle.std.specs.Prelude.{◌≡◌, ◌≢◌, [], ◌∷◌, ◌++◌, IfOk, IfSome, MatchOption, None as NoneWord, OnErr, length, true, unwrap_or};
+ghost use Rattle.std.specs.Prelude.{◌≡◌, ◌≢◌, [], ◌∷◌, ◌++◌, IfOk, IfSome, IsOk, MatchOption, None as NoneWord, OnErr, length, true, unwrap_or};
 ghost use Rattle.std.specs.Iterator.{UpTo, at_most};
 ghost use Rattle.std.specs.Iterator.SizeHint.{IsWithinCount};
-ghost use Rattle.rangemap_core.specs.Clones.{KeysCloneFaithfully};
+ghost use Rattle.rangemap_core.specs.Clones.{KeysCloneFaithfully, KeysCloneInfallibly};
 ghost use Rattle.rangemap_core.specs.MadeRanges.{GivesRange, TakesRange};
 ghost use Rattle.std.specs.Map.Iter.{TakesFirst};
 ghost use Rattle.std.specs.Option.{option_map};
@@ -79,16 +79,18 @@ impl<C: Peek> Union<C> {
     ///
     /// # Requires
     ///
-    /// A clone of a key ties with its original.
+    /// A clone of a key compares equal to its original.
     ///
     /// # Errors
     ///
-    /// A clone was refused. Nothing has changed then.
+    /// A clone was refused, which those of numbers, characters and references never are. Nothing
+    /// has changed then.
     pub fn try_next(&mut self) -> Result<Option<C::Range>, AllocError>
         requires { KeysCloneFaithfully C.Range.Key.is_clone C.Range.Key.cmp }
         ensures ok { IfOk result (λ item. TakesRange C.Range.read self.old item self.new) }
         ensures err { OnErr result (self.new ≡ self.old) }
         ensures refused { OnErr result (self.old ≢ []) }
+        ensures succeeds { KeysCloneInfallibly C.Range.Key.is_infallible → IsOk result }
     {
         if self.is_done {
             return Ok(None);
@@ -106,6 +108,8 @@ impl<C: Peek> Iterator for Union<C> {
 
     ghost remaining = { λ s. at_most (length s) };
 
+    /// Returns the next item, made of clones. Where a clone was refused it says so once, as
+    /// `Some(Err(AllocError))`, and has ended then.
     fn next(&mut self) -> Option<Result<C::Range, AllocError>> {
         match self.try_next() {
             Ok(None) => None,
@@ -238,6 +242,7 @@ impl<C: Peek> Sides<C> {
         ensures ok { IfOk result (λ item. TakesRange C.Range.read (items_behind C.Range.places (option_map (λ first. (shown_range C.given first, shown_range C.given (unwrap_or self.old.last first))) self.old.first) (merged C.Range.places (ranges (C.left self.old.left)) (ranges (C.left self.old.right)))) item (items_behind C.Range.places (option_map (λ first. (shown_range C.given first, shown_range C.given (unwrap_or self.new.last first))) self.new.first) (merged C.Range.places (ranges (C.left self.new.left)) (ranges (C.left self.new.right))))) }
         ensures err { OnErr result (items_behind C.Range.places (option_map (λ first. (shown_range C.given first, shown_range C.given (unwrap_or self.new.last first))) self.new.first) (merged C.Range.places (ranges (C.left self.new.left)) (ranges (C.left self.new.right))) ≡ items_behind C.Range.places (option_map (λ first. (shown_range C.given first, shown_range C.given (unwrap_or self.old.last first))) self.old.first) (merged C.Range.places (ranges (C.left self.old.left)) (ranges (C.left self.old.right)))) }
         ensures refused { OnErr result (items_behind C.Range.places (option_map (λ first. (shown_range C.given first, shown_range C.given (unwrap_or self.old.last first))) self.old.first) (merged C.Range.places (ranges (C.left self.old.left)) (ranges (C.left self.old.right))) ≢ []) }
+        ensures succeeds { KeysCloneInfallibly C.Range.Key.is_infallible → IsOk result }
     {
         let Some((first, mut last)) = self.begin() else {
             return Ok(None);

@@ -19,6 +19,6 @@ mod session;
 mod value;
 mod words;
 
-pub use fault::Fault;
+pub use fault::{Cause, Fault};
 pub use program::{end, serve, unread};
 pub use session::{run, run_in};

@@ -60,9 +60,7 @@ fn run_over<A: Allocator + Copy, D: Desk<A>, R: Read + Drop, W: Write + Drop>(
         return Err(Cause::Memory.at(0));
     };
     let mut session: Session<A, D> = Session::new(alloc, json);
-    let mut number = 0u64;
-    for _ in 0..u64::MAX {
-        number = number.saturating_add(1);
+    for number in 1..=u64::MAX {
         match session.step(&mut input, &mut output) {
             Ok(true) => {}
             Ok(false) => return Ok(()),
@@ -70,7 +68,7 @@ fn run_over<A: Allocator + Copy, D: Desk<A>, R: Read + Drop, W: Write + Drop>(
         }
     }
     // More lines than can be counted were read, and the input has not ended.
-    Err(Cause::Stream.at(number))
+    Err(Cause::Stream.at(u64::MAX))
 }
 
 /// The container, and room for a line and its answer that is used again for each line.

@@ -1,6 +1,6 @@
 //! The words after the program's name.
 
-use rangerun_library::{Fault, run};
+use rangerun_library::{Cause, run};
 use std::alloc::AllocError;
 use std::process::Abort;
 
@@ -35,7 +35,7 @@ fn assert_refused<R: AllocGlobal + Abort>(rt: &R, cases: &[&[&str]]) -> Result<(
         }
         let mut held = Vec::new(alloc);
         let ended = run(alloc, &args, b"len\n".as_slice(), &mut held);
-        assert_eq!(rt; ended, Err(Fault { number: 1, line: 0 }), "with {words:?}");
+        assert_eq!(rt; ended, Err(Cause::Arguments.at(0)), "with {words:?}");
         assert!(rt; held.is_empty());
     }
     Ok(())

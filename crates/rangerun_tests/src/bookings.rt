@@ -4,10 +4,7 @@
 use calendar::{BookError, Calendar, Call, replay};
 use std::alloc::Allocator;
 use std::test::Fail;
-use tests_support::{Refusing, check_same, check_that};
-
-/// A number of requests for memory that no call here makes.
-const MANY: u64 = 1000;
+use tests_support::{MANY, Refusing, check_same};
 
 /// The stretches of days that guests hold are these.
 fn check_held<A: Allocator, R: AllocGlobal>(
@@ -131,14 +128,16 @@ fn is_cancel_refused<R: AllocGlobal>(rt: &R, count: u32) -> Result<bool, Fail> {
 
 #[test]
 fn a_cancellation_may_be_refused_memory(rt: HostRuntime) -> Result<(), Fail> {
-    let mut refused = 0u32;
+    // The list has room for 12 stretches at first, and then for 24 and for 48: it doubles where a
+    // stretch more would not fit. The cancellation leaves one stretch more than there were, so it
+    // asks for memory where as many are held as there is room for.
+    let mut refused = Vec::new(rt.alloc());
     for count in 1..40 {
         if is_cancel_refused(&rt, count)? {
-            refused = refused.saturating_add(1);
+            refused.push(count)?;
         }
     }
-    check_that(0 < refused && refused < 39, "all or none are refused")?;
-    Ok(())
+    check_same(refused.as_slice(), [12, 24].as_slice())
 }
 
 #[test]

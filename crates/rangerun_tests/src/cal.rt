@@ -1,6 +1,7 @@
 //! What a calendar answers.
 
 use crate::runs::{assert_answers, assert_faults};
+use rangerun_library::Cause;
 use std::alloc::AllocError;
 
 #[test]
@@ -38,19 +39,19 @@ fn a_line_may_be_at_fault(rt: HostRuntime) -> Result<(), AllocError> {
         &rt,
         &["cal"],
         &[
-            ("iter\nbook 5 3 1\niter\n", "{}\n", 4, 2),
-            ("iter\nbook 5 3 a\niter\n", "{}\n", 3, 2),
-            ("iter\nbook 5 6\niter\n", "{}\n", 2, 2),
-            ("iter\ncancel 5 3\niter\n", "{}\n", 4, 2),
-            ("iter\ninsert 5 6 a\niter\n", "{}\n", 2, 2),
-            ("\n", "", 2, 1),
-            ("iter\n\niter\n", "{}\n", 2, 2),
-            ("free\t1\t2\n", "", 2, 1),
-            ("iter\u{b}iter\n", "", 2, 1),
-            ("iter\nfree 1 4294967296\niter\n", "{}\n", 3, 2),
+            ("iter\nbook 5 3 1\niter\n", "{}\n", Cause::EmptyRange, 2),
+            ("iter\nbook 5 3 a\niter\n", "{}\n", Cause::Number, 2),
+            ("iter\nbook 5 6\niter\n", "{}\n", Cause::Command, 2),
+            ("iter\ncancel 5 3\niter\n", "{}\n", Cause::EmptyRange, 2),
+            ("iter\ninsert 5 6 a\niter\n", "{}\n", Cause::Command, 2),
+            ("\n", "", Cause::Command, 1),
+            ("iter\n\niter\n", "{}\n", Cause::Command, 2),
+            ("free\t1\t2\n", "", Cause::Command, 1),
+            ("iter\u{b}iter\n", "", Cause::Command, 1),
+            ("iter\nfree 1 4294967296\niter\n", "{}\n", Cause::Number, 2),
             // Days that are held make no difference.
-            ("book 10 20 1\nbook 12 11 7\n", "", 4, 2),
-            ("book 10 20 1\ncancel 13 12\n", "", 4, 2),
+            ("book 10 20 1\nbook 12 11 7\n", "", Cause::EmptyRange, 2),
+            ("book 10 20 1\ncancel 13 12\n", "", Cause::EmptyRange, 2),
         ],
     )
 }

@@ -2,7 +2,7 @@
 
 use crate::runs::words_for;
 use crate::streams::{Failure, Pieces, Sink};
-use rangerun_library::{Fault, run};
+use rangerun_library::{Cause, run};
 use std::alloc::AllocError;
 use std::io::ErrorKind;
 use std::process::Abort;
@@ -56,10 +56,7 @@ fn assert_reads_may_fail<R: AllocGlobal + Abort>(
         let mut held = Vec::new(alloc);
         let input = Pieces::new(LINES, size, Failure::after(left, error));
         let ended = run(alloc, &words_for(alloc, kind)?, input, &mut held);
-        let fault = Fault {
-            number: 6,
-            line: *line,
-        };
+        let fault = Cause::Stream.at(*line);
         assert_eq!(rt; ended, Err(fault), "{kind}, read {left} of {size} bytes");
         assert_eq!(rt; held.as_slice(), answers_before(*line).as_bytes());
     }
@@ -93,10 +90,7 @@ fn assert_writes_may_fail<R: AllocGlobal + Abort>(
         let mut held = Vec::new(alloc);
         let output = Sink::new(&mut held, size, Failure::after(left, error), Failure::NEVER);
         let ended = run(alloc, &words_for(alloc, kind)?, LINES, output);
-        let fault = Fault {
-            number: 6,
-            line: *line,
-        };
+        let fault = Cause::Stream.at(*line);
         assert_eq!(rt; ended, Err(fault), "{kind}, write {left} of {size} bytes");
         // Of the answer that failed a beginning may be written.
         assert!(rt;
@@ -118,11 +112,7 @@ fn each_flush_may_fail(rt: HostRuntime) -> Result<(), Fail> {
             let failure = Failure::after(left, ErrorKind::Other);
             let output = Sink::new(&mut held, 100, Failure::NEVER, failure);
             let ended = run(alloc, &words_for(alloc, kind)?, LINES, output);
-            assert_eq!(rt;
-                ended,
-                Err(Fault { number: 6, line }),
-                "{kind}, flush {left}"
-            );
+            assert_eq!(rt; ended, Err(Cause::Stream.at(line)), "{kind}, flush {left}");
             assert!(rt; held.as_slice().starts_with(answers_before(line).as_bytes()));
         }
     }
@@ -157,7 +147,7 @@ fn a_writer_that_takes_nothing_is_a_fault(rt: HostRuntime) -> Result<(), Fail> {
         let mut held = Vec::new(alloc);
         let output = Sink::new(&mut held, 0, Failure::NEVER, Failure::NEVER);
         let ended = run(alloc, &words_for(alloc, kind)?, LINES, output);
-        assert_eq!(rt; ended, Err(Fault { number: 6, line: 1 }), "{kind}");
+        assert_eq!(rt; ended, Err(Cause::Stream.at(1)), "{kind}");
     }
     Ok(())
 }

@@ -1,6 +1,7 @@
 //! What a map over closed ranges answers.
 
 use crate::runs::{assert_answers, assert_faults};
+use rangerun_library::Cause;
 use std::alloc::AllocError;
 
 #[test]
@@ -130,13 +131,13 @@ fn a_line_may_be_at_fault(rt: HostRuntime) -> Result<(), AllocError> {
         &rt,
         &["imap"],
         &[
-            ("insert 8 7 a", "", 4, 1),
-            ("insert 5 5 B", "", 5, 1),
-            ("remove 5 5\nremove 5 4", "", 4, 2),
+            ("insert 8 7 a", "", Cause::EmptyRange, 1),
+            ("insert 5 5 B", "", Cause::Value, 1),
+            ("remove 5 5\nremove 5 4", "", Cause::EmptyRange, 2),
             (
                 "insert 0 9 a\niter\ninsert 3 6 \"b\"\niter",
                 "{0..=9: \"a\"}\n",
-                5,
+                Cause::Value,
                 3,
             ),
         ],

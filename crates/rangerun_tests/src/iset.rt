@@ -1,6 +1,7 @@
 //! What a set of closed ranges answers.
 
 use crate::runs::{assert_answers, assert_faults};
+use rangerun_library::Cause;
 use std::alloc::AllocError;
 
 #[test]
@@ -105,8 +106,13 @@ fn a_line_may_be_at_fault(rt: HostRuntime) -> Result<(), AllocError> {
         &rt,
         &["iset"],
         &[
-            ("insert 7 7\niter\ninsert 8 7", "{7..=7}\n", 4, 3),
-            ("remove 5 5\nremove 5 4", "", 4, 2),
+            (
+                "insert 7 7\niter\ninsert 8 7",
+                "{7..=7}\n",
+                Cause::EmptyRange,
+                3,
+            ),
+            ("remove 5 5\nremove 5 4", "", Cause::EmptyRange, 2),
         ],
     )
 }

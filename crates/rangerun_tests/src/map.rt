@@ -1,6 +1,7 @@
 //! What a map over half-open ranges answers.
 
 use crate::runs::{assert_answers, assert_faults};
+use rangerun_library::Cause;
 use std::alloc::AllocError;
 
 #[test]
@@ -55,13 +56,13 @@ fn a_line_may_be_at_fault(rt: HostRuntime) -> Result<(), AllocError> {
         &rt,
         &["map"],
         &[
-            ("insert 7 7 a", "", 4, 1),
-            ("insert 5 5 B", "", 4, 1),
-            ("remove 5 5", "", 4, 1),
+            ("insert 7 7 a", "", Cause::EmptyRange, 1),
+            ("insert 5 5 B", "", Cause::EmptyRange, 1),
+            ("remove 5 5", "", Cause::EmptyRange, 1),
             (
                 "insert 0 9 a\niter\ninsert 3 6 \"b\"\niter",
                 "{0..9: \"a\"}\n",
-                5,
+                Cause::Value,
                 3,
             ),
         ],

@@ -2,7 +2,7 @@
 
 use crate::runs::words_for;
 use crate::streams::Lines;
-use rangerun_library::{Fault, run_in};
+use rangerun_library::{Cause, run_in};
 use std::alloc::{AllocError, Global};
 use std::process::Abort;
 use tests_support::Refusing;
@@ -136,11 +136,10 @@ fn refused_line<R: AllocGlobal + Abort>(
     let ended = run_in(&heap, rt.alloc(), words, input, &mut held);
     assert_eq!(rt; heap.held(), 0, "{words:?}, request {left}");
     if heap.has_refused() {
-        let number = 7;
         let line = fetched;
         assert_eq!(rt;
             ended,
-            Err(Fault { number, line }),
+            Err(Cause::Memory.at(line)),
             "{words:?}, request {left}"
         );
         assert!(rt; are_answers(&held, rows, line.saturating_sub(1) as usize));

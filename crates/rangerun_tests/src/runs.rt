@@ -1,6 +1,6 @@
 //! Runs of the program over texts in memory.
 
-use rangerun_library::{Fault, run};
+use rangerun_library::{Cause, Fault, run};
 use std::alloc::{AllocError, Global};
 use std::process::Abort;
 
@@ -59,20 +59,16 @@ pub fn assert_answers<R: AllocGlobal + Abort>(
     Ok(())
 }
 
-/// Runs the lines of each row over each kind, and compares what is printed, and the number and the
+/// Runs the lines of each row over each kind, and compares what is printed, and the cause and the
 /// line of the fault that ends the run.
 pub fn assert_faults<R: AllocGlobal + Abort>(
     rt: &R,
     kinds: &[&str],
-    rows: &[(&str, &str, u8, u64)],
+    rows: &[(&str, &str, Cause, u64)],
 ) -> Result<(), AllocError> {
     for kind in kinds {
-        for (lines, printed, number, line) in rows {
-            let fault = Fault {
-                number: *number,
-                line: *line,
-            };
-            assert_run(rt, kind, lines.as_bytes(), printed, Err(fault))?;
+        for (lines, printed, cause, line) in rows {
+            assert_run(rt, kind, lines.as_bytes(), printed, Err(cause.at(*line)))?;
         }
     }
     Ok(())

@@ -1,6 +1,7 @@
 //! What a set of half-open ranges answers.
 
 use crate::runs::{assert_answers, assert_faults};
+use rangerun_library::Cause;
 use std::alloc::AllocError;
 
 #[test]
@@ -48,6 +49,9 @@ fn a_line_may_be_at_fault(rt: HostRuntime) -> Result<(), AllocError> {
     assert_faults(
         &rt,
         &["set"],
-        &[("insert 7 7", "", 4, 1), ("remove 5 5", "", 4, 1)],
+        &[
+            ("insert 7 7", "", Cause::EmptyRange, 1),
+            ("remove 5 5", "", Cause::EmptyRange, 1),
+        ],
     )
 }

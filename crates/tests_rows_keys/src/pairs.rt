@@ -80,6 +80,9 @@ fn pairs_are_stepped_through(rt: HostRuntime) -> Result<(), Fail> {
         insert 0/0..=2/0, insert 2/2..=255/255 | gaps 0/0..=255/255 | 2/1..=2/1
         insert 0/0..=2/0, insert 2/2..=255/255, remove 255/255..=255/255 | holds | \
         0/0..=2/0, 2/2..=255/254
+        insert 0/0..=2/0, insert 2/2..=255/255 | clone | 0/0..=2/0, 2/2..=255/255
+        insert 0/0..=1/255, insert 2/0..=2/0 | equals 0/0..=2/0 | true
+        insert 0/0..=1/255 | equals 0/0..=2/0 | false
         ",
     )?;
     check_letters(
@@ -90,6 +93,8 @@ fn pairs_are_stepped_through(rt: HostRuntime) -> Result<(), Fail> {
         insert 0/0..=2/0 a, insert 1/255..=1/255 b | holds | \
         0/0..=1/254 a, 1/255..=1/255 b, 2/0..=2/0 a
         insert 0/0..=255/255 a, remove 255/255..=255/255 | holds | 0/0..=255/254 a
+        insert 0/0..=1/255 a, insert 2/0..=2/0 b | clone | 0/0..=1/255 a, 2/0..=2/0 b
+        insert 0/0..=1/255 a, insert 2/0..=2/0 a | equals 0/0..=2/0 a | true
         insert 0/0..=1/254 a, insert 2/0..=255/255 a | gaps 0/0..=255/255 | 1/255..=1/255
         ",
     )

@@ -8,12 +8,14 @@ use rangemap_core::kind::Kind;
 use rangemap_core::store::{HandsOver, StoreMut};
 use std::alloc::Global;
 use std::fmt::Debug;
+use std::iter::ExactSizeIterator;
 use std::test::Fail;
 use tests_row_checks::{
     check_both_ends, check_counted_back, check_replay, check_rows, check_three,
 };
 use tests_support::{
-    FromEnds, InRows, Word, changes_of, check_text, lists, map_of, parts, query_of, three_lists,
+    FromEnds, InRows, Word, changes_of, check_same, check_text, lists, map_of, parts, query_of,
+    three_lists,
 };
 
 /// What text asks of maps over any steps.
@@ -100,6 +102,7 @@ where
     let map = map_of::<S>(alloc, pairs)?;
     check_loop(alloc, map.clone()?, texts)?;
     let copy = map.clone()?;
+    check_same(map.clone()?.into_iter().len(), 3)?;
     check_three_handed(alloc, map.into_iter(), copy.into_iter(), texts)
 }
 

@@ -53,6 +53,8 @@ fn the_newest_of_equal_values_stays(rt: HostRuntime) -> Result<(), Fail> {
         insert 4..=7 1/x, insert 0..=3 1/y | holds | 0..=7 1/y
         insert 0..=7 1/x, insert 2..=3 1/y | holds | 0..=7 1/y
         insert 0..=1 1/x, insert 4..=5 1/z, insert 2..=3 1/y | holds | 0..=5 1/y
+        insert 0..=1 1/x, insert 4..=5 1/y, insert 8..=9 1/z | clone | 0..=1 1/x, 4..=5 1/y, 8..=9 1/z
+        insert 0..=7 1/x, insert 10..=11 1/y, remove 2..=3 | holds | 0..=1 1/x, 4..=7 1/x, 10..=11 1/y
         ",
     )
 }

@@ -4,14 +4,16 @@ ghost use Rattle.rangemap.specs.Clones.{KeysCloneFaithfully};
 use crate::asked::Asked;
 use crate::lent::{All, In, Lent};
 use crate::maps::{ask_chunks, ask_tree, ask_vector, lent_by_chunks, lent_by_tree, lent_by_vector};
+use rangemap::RangeMap;
 use rangemap_core::closed::Closed;
 use rangemap_core::half_open::HalfOpen;
 use rangemap_core::kind::Kind;
 use std::alloc::Global;
 use std::fmt::Debug;
+use std::iter::ExactSizeIterator;
 use std::ops::{Range, RangeInclusive};
 use std::test::Fail;
-use tests_support::{FromEnds, Word};
+use tests_support::{FromEnds, Word, check_same, check_text};
 
 /// Compares the three pairs of a map in a sorted vector: as it lends them, and as it hands them over.
 fn check_all<Q: Kind<R, Steps = R::Key>, R: FromEnds<Key: Word<Global> + Debug> + Debug>(
@@ -23,6 +25,17 @@ fn check_all<Q: Kind<R, Steps = R::Key>, R: FromEnds<Key: Word<Global> + Debug> 
 {
     lent_by_vector::<Q, R>(alloc, inserted, Lent::All(All::Three), pairs)?;
     ask_vector::<Q, R, char>(alloc, &Asked::HandedOver(inserted, pairs))
+}
+
+#[test]
+fn a_loop_goes_over_a_map(rt: HostRuntime) -> Result<(), Fail> {
+    let map = RangeMap::from(rt.alloc(), [(4..6u32, 'b'), (0..2, 'a')])?;
+    check_same(map.iter().len(), 2)?;
+    let mut found = Vec::new(rt.alloc());
+    for (range, value) in &map {
+        found.push((range.clone()?, *value))?;
+    }
+    check_text(rt.alloc(), &found, "[(0..2, 'a'), (4..6, 'b')]")
 }
 
 #[test]

@@ -54,6 +54,9 @@ fn the_newest_of_equal_values_stays(rt: HostRuntime) -> Result<(), Fail> {
         insert 4..8 1/x, insert 0..4 1/y | holds | 0..8 1/y
         insert 0..8 1/x, insert 2..4 1/y | holds | 0..8 1/y
         insert 0..2 1/x, insert 4..6 1/z, insert 2..4 1/y | holds | 0..6 1/y
+        insert 0..2 1/x, insert 4..6 1/y, insert 8..10 1/z | clone | 0..2 1/x, 4..6 1/y, 8..10 1/z
+        insert 0..8 1/x, insert 10..12 1/y, remove 2..4 | holds | 0..2 1/x, 4..8 1/x, 10..12 1/y
+        insert 0..2 1/x, insert 4..6 1/y, insert 8..10 2/z | holds | 0..2 1/x, 4..6 1/y, 8..10 2/z
         ",
     )
 }

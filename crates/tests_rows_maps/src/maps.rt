@@ -7,6 +7,8 @@ ghost use Rattle.rangemap.specs.Clones.{KeysCloneFaithfully, ValuesCloneFaithful
 use crate::asked::{Asked, Rows, check_answers, check_asked};
 use crate::lent::{Lent, check_all, check_in_range};
 use crate::made::{Made, check_made};
+use crate::map::collections::check_notes;
+use crate::noted::Noted;
 use rangemap::map::Map;
 use rangemap_chunked::Chunks;
 use rangemap_core::half_open::HalfOpen;
@@ -161,4 +163,19 @@ pub fn made_in_tree(alloc: Global, made: &Made) -> Result<(), Fail> {
 /// Makes them in chunks of up to two pairs.
 pub fn made_in_chunks(alloc: Global, made: &Made) -> Result<(), Fail> {
     check_made::<Chunks<HalfOpen, Range<u32>, char, Global, 2>>(alloc, made)
+}
+
+/// Makes maps from numbers to notes in a sorted vector.
+pub fn noted_in_vector(alloc: Global) -> Result<(), Fail> {
+    check_notes::<SortedVec<HalfOpen, Range<u32>, Noted, Global>>(alloc)
+}
+
+/// Makes them in a tree.
+pub fn noted_in_tree(alloc: Global) -> Result<(), Fail> {
+    check_notes::<Tree<u32, Noted, Global>>(alloc)
+}
+
+/// Makes them in chunks of up to two pairs.
+pub fn noted_in_chunks(alloc: Global) -> Result<(), Fail> {
+    check_notes::<Chunks<HalfOpen, Range<u32>, Noted, Global, 2>>(alloc)
 }

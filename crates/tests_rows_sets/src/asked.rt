@@ -8,12 +8,14 @@ use rangemap_core::kind::Kind;
 use rangemap_core::store::{HandsOver, StoreMut};
 use std::alloc::Global;
 use std::fmt::Debug;
+use std::iter::ExactSizeIterator;
 use std::test::Fail;
 use tests_row_checks::{
     check_both_ends, check_counted_back, check_replay, check_rows, check_three,
 };
 use tests_support::{
-    FromEnds, InRows, Word, changes_of, check_row, parts, set_of, three_lists, two_lists,
+    FromEnds, InRows, Word, changes_of, check_row, check_same, parts, set_of, three_lists,
+    two_lists,
 };
 
 /// What a test asks of sets, which are made of text.
@@ -94,6 +96,7 @@ where
     let (first, middle, last) = three_lists(texts)?;
     let three = [first, middle, last];
     let set = set_of::<S>(alloc, ranges)?;
+    check_same(set.clone()?.into_iter().len(), 3)?;
     check_three(alloc, set.clone()?.into_iter(), three, true)?;
     check_counted_back(alloc, set.into_iter(), three)
 }

@@ -3,10 +3,25 @@
 use crate::asked::Asked;
 use crate::lent::{All, In, Lent, OfBoth};
 use crate::sets::{ask_chunks, ask_tree, ask_vector, lent_by_chunks, lent_by_tree, lent_by_vector};
+use rangemap::RangeSet;
 use rangemap_core::closed::Closed;
 use rangemap_core::half_open::HalfOpen;
+use std::iter::ExactSizeIterator;
 use std::ops::{Range, RangeInclusive};
 use std::test::Fail;
+use tests_support::{check_same, check_text};
+
+#[test]
+fn a_loop_goes_over_a_set(rt: HostRuntime) -> Result<(), Fail> {
+    let ranges: [Range<u32>; 2] = [4..6, 0..2];
+    let set = RangeSet::from(rt.alloc(), ranges)?;
+    check_same(set.iter().len(), 2)?;
+    let mut found = Vec::new(rt.alloc());
+    for range in &set {
+        found.push(range.clone()?)?;
+    }
+    check_text(rt.alloc(), &found, "[0..2, 4..6]")
+}
 
 #[test]
 fn overlapping_ranges_come_from_both_ends(rt: HostRuntime) -> Result<(), Fail> {

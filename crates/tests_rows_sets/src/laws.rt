@@ -2,7 +2,7 @@
 ghost use Rattle.rangemap.specs.Clones.{KeysCloneFaithfully};
 
 use crate::asked::Asked;
-use crate::sets::{ask_chunks, ask_vector};
+use crate::sets::{ask_chunks, ask_tree, ask_vector};
 use rangemap::laws::sets::{Operator, absorbs, associates, commutes, distributes, is_idempotent};
 use rangemap::range_set::Set;
 use rangemap_core::closed::Closed;
@@ -130,7 +130,9 @@ fn operators_keep_their_laws(rt: HostRuntime) -> Result<(), Fail> {
         intersections: "({3..5}, {3..5}); ({}, {}); ({3..7}, {3..7})",
         first: "{0..5}",
     };
-    ask_vector::<HalfOpen, Range<u32>>(rt.alloc(), &Asked::Laws(laws))
+    let asked = Asked::Laws(laws);
+    ask_vector::<HalfOpen, Range<u32>>(rt.alloc(), &asked)?;
+    ask_tree(rt.alloc(), &asked)
 }
 
 #[test]

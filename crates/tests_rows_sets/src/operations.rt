@@ -6,7 +6,7 @@ ghost use Rattle.rangemap.specs.Clones.{KeysCloneFaithfully};
 
 use crate::asked::Asked;
 use crate::lent::{All, Lent, OfBoth};
-use crate::sets::{ask_chunks, ask_vector, lent_by_chunks, lent_by_vector};
+use crate::sets::{ask_chunks, ask_tree, ask_vector, lent_by_chunks, lent_by_tree, lent_by_vector};
 use rangemap_core::closed::Closed;
 use rangemap_core::half_open::HalfOpen;
 use rangemap_core::key_range::KeyRange;
@@ -17,6 +17,34 @@ use std::ops::{Range, RangeInclusive};
 use std::test::Fail;
 use tests_support::{FromEnds, SignedSteps, Word, parts, rows, two_lists};
 
+/// What is asked of two sets: what both lend, and what the operators make.
+#[derive(Drop)]
+struct Row<'t> {
+    lists: (&'t str, &'t str),
+    items: String,
+    joined: Asked<'t>,
+}
+
+/// Reads a row.
+fn read_row<'t>(alloc: Global, row: &'t str) -> Result<Row<'t>, Fail> {
+    let (sets, either, common) = parts(row)?;
+    let (either, common) = (two_lists(either)?, two_lists(common)?);
+    Ok(Row {
+        lists: two_lists(sets)?,
+        items: format!(in alloc; "{}; {}", either.0, common.0)?,
+        joined: Asked::Joined {
+            sets,
+            either: either.1,
+            common: common.1,
+        },
+    })
+}
+
+/// The question for the items of both sets.
+fn items_of_both<R>() -> Lent<R> {
+    Lent::All(All::OfBoth(OfBoth::Items))
+}
+
 /// Compares what the two sets of each row make, in a sorted vector and in chunks.
 fn check_operations<Q: Kind<R, Steps = R::Key>, R: FromEnds<Key: Word<Global> + Debug> + Debug>(
     alloc: Global,
@@ -25,36 +53,28 @@ fn check_operations<Q: Kind<R, Steps = R::Key>, R: FromEnds<Key: Word<Global> + 
     requires { KeysCloneFaithfully R.Key.is_clone R.Key.cmp }
 {
     for row in rows(alloc, table)? {
-        let (sets, either, common) = parts(row)?;
-        let (either, common) = (two_lists(either)?, two_lists(common)?);
-        let lists = two_lists(sets)?;
-        let items = format!(in alloc; "{}; {}", either.0, common.0)?;
-        lent_by_vector::<Q, R>(
-            alloc,
-            lists,
-            Lent::All(All::OfBoth(OfBoth::Items)),
-            items.as_str(),
-        )?;
-        lent_by_chunks::<Q, R>(
-            alloc,
-            lists,
-            Lent::All(All::OfBoth(OfBoth::Items)),
-            items.as_str(),
-        )?;
-        let joined = Asked::Joined {
-            sets,
-            either: either.1,
-            common: common.1,
-        };
-        ask_vector::<Q, R>(alloc, &joined)?;
-        ask_chunks::<Q, R>(alloc, &joined)?;
+        let row = read_row(alloc, row)?;
+        lent_by_vector::<Q, R>(alloc, row.lists, items_of_both(), row.items.as_str())?;
+        lent_by_chunks::<Q, R>(alloc, row.lists, items_of_both(), row.items.as_str())?;
+        ask_vector::<Q, R>(alloc, &row.joined)?;
+        ask_chunks::<Q, R>(alloc, &row.joined)?;
     }
     Ok(())
 }
 
+/// Compares what the two sets of each row make, of half-open ranges, in a tree too.
+fn check_half_open(alloc: Global, table: &str) -> Result<(), Fail> {
+    for row in rows(alloc, table)? {
+        let row = read_row(alloc, row)?;
+        lent_by_tree(alloc, row.lists, items_of_both(), row.items.as_str())?;
+        ask_tree(alloc, &row.joined)?;
+    }
+    check_operations::<HalfOpen, Range<u32>>(alloc, table)
+}
+
 #[test]
 fn both_sets_are_put_together(rt: HostRuntime) -> Result<(), Fail> {
-    check_operations::<HalfOpen, Range<u32>>(
+    check_half_open(
         rt.alloc(),
         "
         0..5; 5..10 | 0..5, 5..10; 0..10 | ;
@@ -117,16 +137,28 @@ fn check_in_part<Q: Kind<R>, R: KeyRange<Key: Word<Global>> + Debug>(
     )
 }
 
+/// The same of sets of half-open ranges, in a tree too.
+fn check_half_open_in_part(
+    alloc: Global,
+    lists: (&str, &str),
+    from_front: bool,
+    texts: &str,
+) -> Result<(), Fail> {
+    let rests = Lent::All(All::OfBoth(OfBoth::Rests { from_front }));
+    lent_by_tree(alloc, lists, rests, texts)?;
+    check_in_part::<HalfOpen, Range<u32>>(alloc, lists, from_front, texts)
+}
+
 #[test]
 fn iterators_may_be_taken_in_part(rt: HostRuntime) -> Result<(), Fail> {
     let lists = ("0..2, 4..6, 8..10", "5..9");
-    check_in_part::<HalfOpen, Range<u32>>(
+    check_half_open_in_part(
         rt.alloc(),
         lists,
         true,
         "(Some(0..2), Some(0..2)); 4..10; 5..6, 8..9",
     )?;
-    check_in_part::<HalfOpen, Range<u32>>(
+    check_half_open_in_part(
         rt.alloc(),
         lists,
         false,

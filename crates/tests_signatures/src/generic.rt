@@ -60,9 +60,13 @@ pub use rangemap::laws::{
 
 pub fn represented<M: Container<Range = Range<u32>, Value = char>>(
     map: &M,
+    query: &Range<u32>,
     out: &mut Vec<(Range<u32>, char), Global>,
+    gaps: &mut Vec<Range<u32>, Global>,
 ) -> Result<(), AllocError> {
-    map.append_all(out)
+    map.append_all(out)?;
+    map.append_overlapping(query, out)?;
+    map.append_gaps(query, gaps)
 }
 
 pub fn laws_alike(

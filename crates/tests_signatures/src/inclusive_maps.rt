@@ -31,6 +31,7 @@ pub fn ask<'a, K: Ord + Clone, V: Eq + Clone, S: StepFns<K>, A: Allocator>(
     let _: Overlapping<'a, K, V> = map.overlapping(range);
     let _: Gaps<'a, K, V, S> = map.gaps(range);
     let _: &'a A = map.allocator();
+    map.known();
 }
 
 pub fn empty<K: StepLite + Clone, V: Eq + Clone, A: Allocator>(

@@ -28,6 +28,8 @@ pub fn ask<'a, T: Ord + Clone, S: StepFns<T>, A: Allocator>(
     let _: Option<&'a RangeInclusive<T>> = set.last();
     let _: usize = set.len();
     let _: bool = set.is_empty();
+    let _: &'a A = set.allocator();
+    set.known();
     let _: bool = set.overlaps(range);
     let _: Iter<'a, T> = set.iter();
     let _: Overlapping<'a, T> = set.overlapping(range);

@@ -1,6 +1,7 @@
 //! Names every public item, from `rangemap` alone, and every call of a container but those by which
-//! the library's crates make parts for one another: `over`, `as_slice` and `new` of iterators other
-//! than `Union` and `Intersection`.
+//! the library's crates make and read parts for one another: `over`, `cursor`, `as_slice` and `new`
+//! of iterators other than `Union` and `Intersection`; and a loop over `&map`, which wants the crate
+//! `rangemap_maps` listed too.
 //!
 //! The modules of one container name its calls over any keys; `keys` has each container at each type
 //! of keys, `literals` what users write there without a function over any keys, `chunked` the

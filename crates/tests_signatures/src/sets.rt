@@ -26,8 +26,11 @@ pub fn ask<'a, T: Ord + Clone, A: Allocator>(
     let _: Option<&'a Range<T>> = set.last();
     let _: usize = set.len();
     let _: bool = set.is_empty();
+    let _: &'a A = set.allocator();
+    set.known();
     let _: bool = set.overlaps(range);
     let _: Iter<'a, T> = set.iter();
+    let _: Iter<'a, T> = set.into_iter();
     let _: Overlapping<'a, T> = set.overlapping(range);
     let _: Gaps<'a, T> = set.gaps(range);
     let _: Union<'a, T> = set.union(other);

@@ -31,6 +31,7 @@ pub fn ask<'a, K: Ord + Clone, V: Eq + Clone, A: Allocator + Clone>(
     let _: Overlapping<'a, K, V> = map.overlapping(range);
     let _: Gaps<'a, K, V> = map.gaps(range);
     let _: &'a A = map.allocator();
+    map.known();
 }
 
 pub fn from<K: Ord + Clone, V: Eq + Clone, A: Allocator + Clone, const N: usize>(

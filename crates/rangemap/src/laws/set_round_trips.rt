@@ -65,10 +65,7 @@ where
     ensures refused { IfErr result (RefusesToWrite S.Kind.kind (set_writer (FnReturnsAt WK.Fn write_key)) (with_unit S.Kind.kind set.now)) }
 {
     set.known();
-    let value = match set.to_value(json, write_key) {
-        Ok(value) => value,
-        Err(error) => return Err(error),
-    };
+    let value = set.to_value(json, write_key)?;
     match Set::from_value(alloc, form, &value, read_key) {
         Ok(again) => Ok((value, again)),
         Err(error) => Err(for_memory(error)),

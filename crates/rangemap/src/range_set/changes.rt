@@ -15,7 +15,7 @@ impl<S: StoreMut<Value = ()>> Set<S> {
     /// # Requires
     ///
     /// The range is not empty; a closed one was not iterated to its end either. A clone of a key
-    /// ties with its original.
+    /// compares equal to its original.
     ///
     /// # Errors
     ///
@@ -25,8 +25,8 @@ impl<S: StoreMut<Value = ()>> Set<S> {
     /// # Examples
     ///
     /// ```text
-    /// {0..3, 6..9}, insert 3..7: {0..9}
-    /// {0..=2, 6..=8}, insert 3..=6: {0..=8}
+    /// let mut set = range_set![in alloc; 0..3, 6..9]?;
+    /// set.insert(3..7)?; // 0..9
     /// ```
     pub fn insert(&mut self, range: S::Range) -> Result<(), AllocError>
         requires non_empty { S.Range.has_key range }
@@ -54,8 +54,8 @@ impl<S: StoreMut<Value = ()>> Set<S> {
     /// # Examples
     ///
     /// ```text
-    /// {0..10}, remove 3..6: {0..3, 6..10}
-    /// {0..=9}, remove 3..=5: {0..=2, 6..=9}
+    /// let mut set = range_inclusive_set![in alloc; 0..=9]?;
+    /// set.remove(3..=5)?; // 0..=2, 6..=9
     /// ```
     pub fn remove(&mut self, range: S::Range) -> Result<(), AllocError>
         requires non_empty { S.Range.has_key range }

@@ -22,7 +22,7 @@ where
     ///
     /// # Requires
     ///
-    /// A clone of a key ties with its original.
+    /// A clone of a key compares equal to its original.
     ///
     /// # Errors
     ///
@@ -49,7 +49,7 @@ where
     /// # Requires
     ///
     /// The iterator ends, each range that it gives is one that `insert` takes, and a clone of a key
-    /// ties with its original.
+    /// compares equal to its original.
     ///
     /// # Errors
     ///

@@ -23,6 +23,10 @@ where
     ///
     /// The start is written before the end, range by range.
     ///
+    /// # Requires
+    ///
+    /// The function may be called with any key.
+    ///
     /// # Errors
     ///
     /// `Caller` has what the function answered that refused a key, the first one refused.
@@ -60,7 +64,7 @@ where
     ///
     /// # Requires
     ///
-    /// A clone of a key ties with its original.
+    /// A clone of a key compares equal to its original.
     ///
     /// # Errors
     ///

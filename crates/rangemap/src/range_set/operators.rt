@@ -26,9 +26,9 @@ where
     /// # Examples
     ///
     /// ```text
-    /// {0..5}.union(&{5..10}): 0..5, 5..10
-    /// {0..5, 9..12}.union(&{3..10}): 0..12
-    /// {0..=4}.union(&{5..=9}): 0..=4, 5..=9
+    /// let left = range_set![in alloc; 0..5, 9..12]?;
+    /// left.union(&range_set![in alloc; 3..10]?) // 0..12
+    /// left.union(&range_set![in alloc; 5..7]?) // 0..5, 5..7, 9..12
     /// ```
     pub fn union(&'a self, other: &'a Self) -> Union<S::Iter>
         ensures hulls { AreHulls S.Kind.kind (self.now ++ other.now) result }
@@ -44,8 +44,8 @@ where
     /// # Examples
     ///
     /// ```text
-    /// {0..10, 20..30}.intersection(&{5..25}): 5..10, 20..25
-    /// {0..=9, 20..=29}.intersection(&{5..=24}): 5..=9, 20..=24
+    /// let left = range_set![in alloc; 0..10, 20..30]?;
+    /// left.intersection(&range_set![in alloc; 5..25]?) // 5..10, 20..25
     /// ```
     pub fn intersection(&'a self, other: &'a Self) -> Intersection<S::Iter>
         ensures { AreCommon S.Kind.kind self.now other.now result }
@@ -70,6 +70,10 @@ where
     ghost bitor_gives = { λ left right result. IfOk result (AreEither S.Kind.kind left.now right.now) };
 
     /// Returns the set of the keys of either set, in memory of a clone of the left one's allocator.
+    ///
+    /// # Requires
+    ///
+    /// A clone of a key compares equal to its original.
     ///
     /// # Errors
     ///
@@ -103,6 +107,10 @@ where
     ghost bitand_gives = { λ left right result. IfOk result (AreCommon S.Kind.kind left.now right.now) };
 
     /// Returns the set of the keys of both sets, in memory of a clone of the left one's allocator.
+    ///
+    /// # Requires
+    ///
+    /// A clone of a key compares equal to its original.
     ///
     /// # Errors
     ///

@@ -19,11 +19,12 @@ le_is_lt Less h = refl
 le_is_lt Equal h = absurd (h refl)
 le_is_lt Greater h = refl
 
--- the key at which a range starts from an endpoint, and that at which it ends before one
+-- the key at which a range starts that goes from an endpoint on
 abbrev pub closed_first : {K : Type 0} → (K → Option K) → EndpointOf (RangeInclusive K) → K
 closed_first after (AtStart r) = range_inclusive_start r
 closed_first after (AtEnd r) = unwrap_or (after (range_inclusive_end r)) (range_inclusive_end r)
 
+-- the key at which a range ends that goes up to an endpoint
 abbrev pub closed_last : {K : Type 0} → (K → Option K) → EndpointOf (RangeInclusive K) → K
 closed_last before (AtStart r) = unwrap_or (before (range_inclusive_start r)) (range_inclusive_start r)
 closed_last before (AtEnd r) = range_inclusive_end r
@@ -49,9 +50,11 @@ module _ {K : Type 0} (is_key : K → Type 0) (cmp : K → K → Ordering) (o : 
 
 module _ {K : Type 0} (is_key : K → Type 0) (cmp : K → K → Ordering) (o : IsTotalOrder cmp) (after before : K → Option K)
     (follows : GivesSuccessors is_key cmp after) (precedes : GivesPredecessors is_key cmp before) where
+  -- where an endpoint lies
   abbrev place : EndpointOf (RangeInclusive K) → Option K
   place = place_of (closed is_key cmp) (closed_end_place after)
 
+  -- the ends of the endpoint's range are keys
   abbrev IsKeyed : EndpointOf (RangeInclusive K) → Type 0
   IsKeyed = IsAskedAt (closed is_key cmp)
 

@@ -73,17 +73,14 @@ where
     ensures refused { IfErr result (RefusesToWrite S.Kind.kind (map_writer (FnReturnsAt WK.Fn writers.0) (FnReturnsAt WV.Fn writers.1)) map.now) }
 {
     map.known();
-    let value = match map.to_value(json, writers.0, writers.1) {
-        Ok(value) => value,
-        Err(error) => return Err(error),
-    };
+    let value = map.to_value(json, writers.0, writers.1)?;
     match Map::from_value(alloc, form, &value, readers.0, readers.1) {
         Ok(again) => Ok((value, again)),
         Err(error) => Err(for_memory(error)),
     }
 }
 
-/// Returns want of memory, which is all that is left of what can go wrong.
+/// Returns `OutOfMemory`, for the laws of a set too: what was written has no other fault.
 pub fn for_memory<E, F: Drop>(error: ReadError<F>) -> WriteError<E>
     requires { error ≡ read_error.OutOfMemory }
     ensures { result ≡ write_error.OutOfMemory }

@@ -18,8 +18,9 @@ impl<S: StoreMut> Map<S> {
     ///
     /// # Requires
     ///
-    /// The range is not empty: `start < end` of `a..b`, `start <= end` of `a..=b`, which was not iterated
-    /// to its end. A clone of a key or value equals its original, which holds for std's types.
+    /// The range is not empty: `start < end` of `a..b`, `start <= end` of `a..=b`, which was not
+    /// iterated to its end. A clone of a key or value compares equal to its original, which holds
+    /// for std's types.
     ///
     /// # Errors
     ///

@@ -24,7 +24,7 @@ where
     ///
     /// # Requires
     ///
-    /// A clone of a key or value equals its original, which holds for std's types.
+    /// A clone of a key or value compares equal to its original, which holds for std's types.
     ///
     /// # Errors
     ///

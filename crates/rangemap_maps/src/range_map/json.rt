@@ -22,6 +22,10 @@ where
     ///
     /// The parts are written in the order start, end, value, pair by pair.
     ///
+    /// # Requires
+    ///
+    /// The functions may be called with any key and any value.
+    ///
     /// # Errors
     ///
     /// `Caller` has what a function answered that refused a part, the first one refused.

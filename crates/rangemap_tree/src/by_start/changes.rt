@@ -204,6 +204,7 @@ fn remove<K: Ord + Drop, V: Drop, A: Allocator>(tree: &mut BTreeMap<K, (Range<K>
     ensures removed { tree.new.entries ≡ remove_entry (is_at (K.cmp key.now)) tree.old.entries }
     ensures was_ordered { IsOrdered K.cmp tree.old }
 {
+    // `len` tells that the keys of a tree at hand are in order.
     let _ = tree.len();
     tree.remove(key);
 }

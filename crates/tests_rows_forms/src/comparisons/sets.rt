@@ -15,7 +15,7 @@ use std::alloc::Global;
 use std::hash::Hash;
 use std::ops::{Range, RangeInclusive};
 use std::test::Fail;
-use tests_support::Word;
+use tests_support::{SignedSteps, Word};
 
 /// Compares a table for sets over a store.
 fn check_sets<S>(alloc: Global, table: &str) -> Result<(), Fail>
@@ -70,6 +70,18 @@ fn each_end_of_a_closed_range_counts(rt: HostRuntime) -> Result<(), Fail> {
         ascending | 0..=1, 4..=5, 8..=9; 0..=1, 4..=5, 8..=9, 12..=13; 0..=1, 4..=5, 9..=9
         hashed | 0..=1, 4..=5, 8..=9, 12..=13; 12..=13, 4..=5, 8..=9, 0..=1; 0..=1, 4..=5, 8..=9, 12..=14
         hashed | 0..=5; 0..=2, 3..=5; 0..=6; 1..=5
+        ",
+    )
+}
+
+// Sets over the steps of another type.
+#[test]
+fn sets_over_any_steps_are_compared(rt: HostRuntime) -> Result<(), Fail> {
+    check_kind::<Closed<SignedSteps>, RangeInclusive<i8>>(
+        rt.alloc(),
+        "
+        ascending | -128..=-1; -128..=-1, 5..=6; -128..=5
+        hashed | -128..=5; -128..=-1, 0..=5; -128..=-1
         ",
     )
 }

@@ -13,6 +13,7 @@ use rangemap_core::key_range::KeyRange;
 use rangemap_core::kind::Kind;
 use rangemap_core::store::{HandsOver, StoreMut};
 use rangemap_sorted::SortedVec;
+use rangemap_tree::Tree;
 use std::alloc::Global;
 use std::fmt::Debug;
 use std::ops::{Range, RangeInclusive};
@@ -113,11 +114,10 @@ fn check_sets<Q: Kind<R, Steps = R::Key>, R: KeyRange<Key = u32> + Debug>(
 
 #[test]
 fn maps_are_made_again(rt: HostRuntime) -> Result<(), Fail> {
-    check_maps::<HalfOpen, Range<u32>>(
-        rt.alloc(),
-        "0..10 1, 3..6 2",
-        "(3, (Some((0..3, 1)), Some((6..10, 1))), {0..3: 1, 3..6: 2, 6..10: 1})",
-    )
+    let pairs = "0..10 1, 3..6 2";
+    let text = "(3, (Some((0..3, 1)), Some((6..10, 1))), {0..3: 1, 3..6: 2, 6..10: 1})";
+    check_maps::<HalfOpen, Range<u32>>(rt.alloc(), pairs, text)?;
+    check_map::<Tree<u32, u32, Global>>(rt.alloc(), pairs, text)
 }
 
 #[test]
@@ -131,11 +131,10 @@ fn closed_maps_are_made_again(rt: HostRuntime) -> Result<(), Fail> {
 
 #[test]
 fn sets_are_made_again(rt: HostRuntime) -> Result<(), Fail> {
-    check_sets::<HalfOpen, Range<u32>>(
-        rt.alloc(),
-        "0..3, 6..10",
-        "(2, (Some(0..3), Some(6..10)), {0..3, 6..10})",
-    )
+    let ranges = "0..3, 6..10";
+    let text = "(2, (Some(0..3), Some(6..10)), {0..3, 6..10})";
+    check_sets::<HalfOpen, Range<u32>>(rt.alloc(), ranges, text)?;
+    check_set::<Tree<u32, (), Global>>(rt.alloc(), ranges, text)
 }
 
 #[test]

@@ -32,6 +32,7 @@ pub fn ask<'a, K: Ord + Clone, V: Eq + Clone>(
     let _: Overlapping<'a, K, V> = map.overlapping(range);
     let _: Gaps<'a, K, V> = map.gaps(range);
     let _: &'a Global = map.allocator();
+    map.known();
 }
 
 pub fn ask_closed<'a, K: Ord + Clone, V: Eq + Clone, S: StepFns<K>>(

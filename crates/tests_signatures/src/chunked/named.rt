@@ -2,7 +2,8 @@
 
 use crate::chunked::maps;
 use rangemap::chunked::{
-    InclusiveIntoIter, IntoIter, RangeInclusiveMap, RangeInclusiveSet, RangeMap, RangeSet,
+    InclusiveIntoIter, InclusiveSetIntoIter, IntoIter, RangeInclusiveMap, RangeInclusiveSet,
+    RangeMap, RangeSet, SetIntoIter,
 };
 use std::alloc::{AllocError, Global};
 use std::iter::IntoIterator;
@@ -52,6 +53,14 @@ pub fn hand_over_maps(
     closed: RangeInclusiveMap<i64, char>,
 ) -> (IntoIter<u64, char>, InclusiveIntoIter<i64, char>) {
     (maps::hand_over(map), closed.into_iter())
+}
+
+pub fn hand_over_set(set: RangeSet<u64>) -> SetIntoIter<u64> {
+    set.into_iter()
+}
+
+pub fn hand_over_closed_set(set: RangeInclusiveSet<i64>) -> InclusiveSetIntoIter<i64> {
+    set.into_iter()
 }
 
 pub fn of_lists(alloc: Global) -> Result<(RangeMap<u32, char>, RangeSet<u32>), AllocError> {

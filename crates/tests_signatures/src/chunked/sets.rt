@@ -7,7 +7,7 @@ use rangemap::chunked::{
     InclusiveUnion, Intersection, RangeInclusiveSet, RangeSet, SetGaps, SetIter, SetOverlapping,
     Union,
 };
-use std::alloc::AllocError;
+use std::alloc::{AllocError, Global};
 use std::ops::{Range, RangeInclusive};
 
 pub fn ask<'a, T: Ord + Clone>(
@@ -22,6 +22,8 @@ pub fn ask<'a, T: Ord + Clone>(
     let _: Option<&'a Range<T>> = set.last();
     let _: usize = set.len();
     let _: bool = set.is_empty();
+    let _: &'a Global = set.allocator();
+    set.known();
     let _: bool = set.overlaps(range);
     let _: SetIter<'a, T> = set.iter();
     let _: SetOverlapping<'a, T> = set.overlapping(range);

@@ -9,8 +9,8 @@ pub returns-in-Ok-split_off-clause-whole : goal.returns-in-Ok-split_off-clause-w
 returns-in-Ok-split_off-clause-whole g c =
     let chunks = c.reserve.new.self.items in
     let bound = subst (λ (ps : List (List (g.row.R.Denot × g.row.V.Denot))). c.args.at < length ps) (sym c.reserve.ensures.items) c.requires.in_bounds in
-    ap (λ (ps : List (List (g.row.R.Denot × g.row.V.Denot))). whole ps) c.give_back_at.ensures ∙ split_whole chunks (set chunks c.args.at c.split_off.new.self) c.put_in.new.chunks.items c.args.at _ c.index_mut-chunk.result.now c.in-Ok-split_off.back bound c.index_mut-chunk.ensures.value
-    (ap (λ (xs : List (g.row.R.Denot × g.row.V.Denot)). set chunks c.args.at xs) c.in-Ok-split_off.ensures.ok) c.in-Ok-split_off.ensures.rest c.put_in.ensures
+    split_whole chunks (set chunks c.args.at c.split_off.new.self) c.insert_reserved.new.list.items c.args.at _ c.index_mut-chunk.result.now c.in-Ok-split_off.back bound c.index_mut-chunk.ensures.value
+    (ap (λ (xs : List (g.row.R.Denot × g.row.V.Denot)). set chunks c.args.at xs) c.in-Ok-split_off.ensures.ok) c.in-Ok-split_off.ensures.rest c.insert_reserved.ensures
     ∙ ap (λ (ps : List (List (g.row.R.Denot × g.row.V.Denot))). whole ps) c.reserve.ensures.items
 
 pub returns-in-Ok-split_off-clause-filled : goal.returns-in-Ok-split_off-clause-filled
@@ -19,6 +19,6 @@ returns-in-Ok-split_off-clause-filled g c =
     let bound = subst (λ (ps : List (List (g.row.R.Denot × g.row.V.Denot))). c.args.at < length ps) (sym c.reserve.ensures.items) c.requires.in_bounds in
     let mid = c.index_mut-chunk.result.now in
     let len : length mid ≡ c.len-len.result = ap length (c.index_mut-chunk.ensures.value ∙ ap (λ (ps : List (List (g.row.R.Denot × g.row.V.Denot))). get_or ps c.args.at mid) c.reserve.ensures.items ∙ get_or_default c.args.chunks.now.items c.args.at mid c.index.result.now c.requires.in_bounds ∙ sym c.index.ensures) ∙ sym c.len-len.ensures in
-    subst (λ (ps : List (List (g.row.R.Denot × g.row.V.Denot))). AreFilled ps) (sym c.give_back_at.ensures) (split_filled chunks (set chunks c.args.at c.split_off.new.self) c.put_in.new.chunks.items c.args.at _ mid c.in-Ok-split_off.back bound c.index_mut-chunk.ensures.value
-    (ap (λ (xs : List (g.row.R.Denot × g.row.V.Denot)). set chunks c.args.at xs) c.in-Ok-split_off.ensures.ok) c.in-Ok-split_off.ensures.rest c.put_in.ensures
-    c.split_place-place.ensures.some (omega (arith, c.split_place-place.ensures.less, len)) (subst (λ (ps : List (List (g.row.R.Denot × g.row.V.Denot))). AreFilled ps) (sym c.reserve.ensures.items) c.requires.filled))
+    split_filled chunks (set chunks c.args.at c.split_off.new.self) c.insert_reserved.new.list.items c.args.at _ mid c.in-Ok-split_off.back bound c.index_mut-chunk.ensures.value
+    (ap (λ (xs : List (g.row.R.Denot × g.row.V.Denot)). set chunks c.args.at xs) c.in-Ok-split_off.ensures.ok) c.in-Ok-split_off.ensures.rest c.insert_reserved.ensures
+    c.split_place-place.ensures.some (omega (arith, c.split_place-place.ensures.less, len)) (subst (λ (ps : List (List (g.row.R.Denot × g.row.V.Denot))). AreFilled ps) (sym c.reserve.ensures.items) c.requires.filled)

@@ -2,8 +2,8 @@ use Rattle.std.proofs.Common.{◌≡◌, Equal, ◌∙◌, ap, sym}
 use Rattle.rangemap_unions.proofs.ItemLemmas.{taken_between}
 use Rattle.rangemap_unions.proofs.item.between.Goals as goal
 
-pub returns : goal.returns
-returns g c =
+pub returns-clause-made : goal.returns-clause-made
+returns-clause-made g c =
     let k = g.R.KeyRange.read in
     let keys = g.met.R.KeyRange.order in
     let start = c.in_ok-start.start in

@@ -5,17 +5,17 @@ use Rattle.rangemap_formats.proofs.RoundTripLemmas.{set_refused, set_round_trip}
 use Rattle.rangemap.proofs.SetRoundTripLemmas.{as_pairs, unit_equiv}
 use Rattle.rangemap.proofs.laws.set_round_trips.reading_what_was_written_is_equal.Goals as goal
 
-pub returns-in-Ok-from_value-clause-equal : goal.returns-in-Ok-from_value-clause-equal
-returns-in-Ok-from_value-clause-equal g c =
+pub returns-in-Ok-clause-equal : goal.returns-in-Ok-clause-equal
+returns-in-Ok-clause-equal g c =
     let k = g.S.Kind.Kind.kind in
     let list = c.args.set.now in
-    let again = c.in-Ok-from_value.again in
+    let again = c.in-Ok.again in
     sym (as_pairs k list again)
     ∙ set_round_trip k g.met.S.Kind.Kind.placed (unit_equiv k) (FnReturnsAt g.WK.Fn c.args.write_key) (FnReturnsAt g.RK.Fn c.args.read_key) c.requires.keys_read_back
-    (with_unit k list) c.in-Ok.value c.args.form c.known.ensures c.in-Ok.ensures.ok (with_unit k again) c.in-Ok-from_value.ensures.ok
+    (with_unit k list) c.in_ok-value.value c.args.form c.known.ensures c.in_ok-value.ensures.ok (with_unit k again) c.in-Ok.ensures.ok
 
 pub for_memory-requires : goal.for_memory-requires
 for_memory-requires g c =
     let k = g.S.Kind.Kind.kind in
     set_refused k g.met.S.Kind.Kind.placed (unit_equiv k) (FnReturnsAt g.WK.Fn c.args.write_key) (FnReturnsAt g.RK.Fn c.args.read_key) c.requires.keys_read_back
-    (with_unit k c.args.set.now) c.in-Ok.value c.args.form c.known.ensures c.in-Ok.ensures.ok c.in-Err-from_value.error c.in-Err-from_value.ensures.err
+    (with_unit k c.args.set.now) c.in_ok-value.value c.args.form c.known.ensures c.in_ok-value.ensures.ok c.in-Err.error c.in-Err.ensures.err

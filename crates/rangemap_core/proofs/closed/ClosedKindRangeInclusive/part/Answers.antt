@@ -6,8 +6,8 @@ use Rattle.rangemap_core.proofs.ClosedEndpointLemmas.{same_part}
 use Rattle.rangemap_core.proofs.closed.ClosedKindRangeInclusive.part.Goals as goal
 use Rattle.rangemap_core.proofs.closed.ClosedKindRangeInclusive.part.Goals.{in-Start+in_ok-start-in-Start, in-End, in-Start-to, in-End-to+in_ok-end-in-End-to}
 
-pub returns : goal.returns
-returns g c =
+pub returns-clause-ok : goal.returns-clause-ok
+returns-clause-ok g c =
     let k = g.StepFnsT.StepFns in
     let s = g.met.StepFnsT.StepFns in
     let cmp = g.K.Ord.cmp in

@@ -22,4 +22,4 @@ returns-clause-same g c =
       starts = eq_turn p.total cut.from;
       ends = eq_turn p.total (p.ends _ _ cut.storable stored ∙ cut.to);
     })
-    c.part.ensures
+    c.part.ensures.ok

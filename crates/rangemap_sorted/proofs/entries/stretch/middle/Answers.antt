@@ -48,4 +48,4 @@ returns g c =
     (asked k _ (taken_storable xs c.args.places.now.start pair all c.requires.range c.args.left.now.is_taken (λ h. omega (arith, taken.first_in_stretch h, taken.in_bounds))))
     (asked k _ (taken_storable xs (c.args.places.now.end - 1) pair all c.requires.range c.args.right.now.is_taken (λ h. omega (arith, taken.last_in_stretch h, taken.in_bounds))))
     (has_middle p eq xs pair c.args.places.now.start c.args.places.now.end c.args.left.now.is_taken c.args.right.now.is_taken taken c.requires.range)
-    (rw (first, last) c.part.ensures)
+    (rw (first, last) c.part.ensures.ok)

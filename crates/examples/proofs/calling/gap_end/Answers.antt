@@ -1,0 +1,18 @@
+use Rattle.std.proofs.Common.{Ok, Some, None, refl, subst}
+use Rattle.std.specs.Ordering.{nat_cmp}
+use Rattle.rangemap.specs.MadeRanges.{TakesRange}
+use Rattle.rangemap.specs.Ranges.{half_open}
+use Rattle.rangemap.proofs.Loops.{asks_first_gap}
+use Rattle.rangemap.proofs.SetNumberLemmas.{first_gap, some_gap}
+use Rattle.examples.proofs.calling.gap_end.Goals as goal
+
+pub returns : goal.returns
+returns c =
+    let taken = subst (λ item. TakesRange (half_open nat_cmp) c.gaps.result item c.try_next.new.self) c.in-Ok-Some.field-0-is c.in-Ok-Some.ensures.ok in
+    let gap = first_gap c.args.map.now (record { start = c.args.at; end = c.args.limit }) (asks_first_gap {result = Some (Ok c.in-Ok-Some.gap)} _ _ c.gaps.ensures taken) (refl, refl) c.requires.forward c.requires.free in
+    (gap.forward, gap.within, gap.free)
+
+pub unreachable-requires : goal.unreachable-requires
+unreachable-requires c =
+    let taken = subst (λ item. TakesRange (half_open nat_cmp) c.gaps.result item c.try_next.new.self) c.in-Ok-None.field-0-is c.in-Ok-None.ensures.ok in
+    some_gap c.args.map.now (record { start = c.args.at; end = c.args.limit }) (asks_first_gap {result = None} _ _ c.gaps.ensures taken) refl c.requires.forward c.requires.free
