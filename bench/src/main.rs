@@ -4,10 +4,10 @@
 //! error.
 //!
 //! To add a container: its type in `store.rt` of `crates/bench_workloads` (of a set `SetStore`
-//! too), its number in `containers.rt` and its arm in `exports.rt` of `crates/bench_map`; a
+//! too), its number in `containers.rt` and its arm in `run.rt` of `crates/bench_map`; a
 //! `map_store!` or `set_store!` in `rust_side`, and its `Container` in `containers`.
 //!
-//! To add a workload: a function in `workloads.rt` of `crates/bench_workloads`, its arm and export in
+//! To add a workload: a function in `workloads.rt` of `crates/bench_workloads`, its export in
 //! `exports.rt` of `crates/bench_map`, a field in `side`, a `Workload` in `workloads`, and a test with
 //! an answer worked out by hand.
 

@@ -9,3 +9,4 @@
 
 mod containers;
 pub mod exports;
+mod run;

@@ -85,7 +85,7 @@ impl<A: Allocator> Calendar<A> {
         self.book_days(first..=last, guest)
     }
 
-    /// Gives the days of a range that comes whole to the guest, as `book` does.
+    /// Gives the days of a range to the guest, as `book` does.
     ///
     /// # Errors
     ///
@@ -108,7 +108,7 @@ impl<A: Allocator> Calendar<A> {
         Ok(())
     }
 
-    /// Returns whether someone holds one of the days.
+    // Whether someone holds one of the days.
     fn is_held(&self, days: &RangeInclusive<u32>) -> bool
         requires { HasDay days.now }
         ensures held { OnTrue result (IsHeld (holder_of self.now) (range_inclusive_start days.now) (range_inclusive_end days.now)) }

@@ -1,3 +1,4 @@
+mod ArrayLemmas
 mod CidrLemmas
 mod ExtentLemmas
 mod MemoryLemmas

@@ -37,8 +37,7 @@ impl BlockList {
         ensures blocked { OnOk result ((address : ℕ) → address < 2 ^ 32 → covers (closed (λ x. x < 2 ^ 32) nat_cmp) self.new.blocked address ≡ (covers (closed (λ x. x < 2 ^ 32) nat_cmp) self.old.blocked address || (nat_le first address && nat_le address last))) }
         ensures refused { OnErr result (self.new.blocked ≡ self.old.blocked) }
     {
-        self.blocked.insert(first..=last)?;
-        Ok(())
+        self.blocked.insert(first..=last)
     }
 
     /// Returns whether the address is blocked.

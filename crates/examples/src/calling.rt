@@ -56,8 +56,14 @@ pub fn add(set: &mut RangeSet<u64>, from: u64, to: u64) -> Result<(), AllocError
     requires { from < to }
     ensures { OnOk result ((key : ℕ) → covers (half_open nat_cmp) set.new key ≡ (covers (half_open nat_cmp) set.old key || (nat_le from key && nat_lt key to))) }
 {
-    set.insert(from..to)?;
-    Ok(())
+    set.insert(from..to)
+}
+
+/// Adds the hours of two shifts to a set: those from 0 up to 5, and those from 7 up to 9.
+pub fn add_shifts(hours: &mut RangeSet<u32>) -> Result<(), AllocError>
+    ensures { OnOk result ((hour : ℕ) → covers (half_open nat_cmp) hours.new hour ≡ (covers (half_open nat_cmp) hours.old hour || (nat_lt hour 5 || (nat_le 7 hour && nat_lt hour 9)))) }
+{
+    hours.extend([0..5, 7..9])
 }
 
 /// Puts the ranges of a second list behind those of a first.
@@ -201,8 +207,7 @@ pub fn note(seen: &mut tree_set::RangeSet<u64>, from: u64, to: u64) -> Result<()
     requires { from < to }
     ensures { OnOk result ((number : ℕ) → covers (half_open nat_cmp) seen.new number ≡ (covers (half_open nat_cmp) seen.old number || (nat_le from number && nat_lt number to))) }
 {
-    seen.insert(from..to)?;
-    Ok(())
+    seen.insert(from..to)
 }
 
 /// Makes two inserts on equal maps, in either order, and returns whether the maps are equal.

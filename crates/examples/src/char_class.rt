@@ -24,7 +24,7 @@ impl CharClass {
     ///
     /// # Errors
     ///
-    /// Memory was refused, as for every call here that makes a class.
+    /// Memory was refused.
     pub fn from_ranges<const N: usize>(
         alloc: Global,
         ranges: [RangeInclusive<char>; N],
@@ -37,6 +37,10 @@ impl CharClass {
     }
 
     /// Returns `[a-zA-Z0-9_]`.
+    ///
+    /// # Errors
+    ///
+    /// Memory was refused.
     pub fn word(alloc: Global) -> Result<Self, AllocError>
         ensures { IfOk result (λ class. IsCanonOfPoints characters is_word class.members) }
     {
@@ -52,6 +56,10 @@ impl CharClass {
     }
 
     /// Returns the class of the characters that are in this class or in the other.
+    ///
+    /// # Errors
+    ///
+    /// Memory was refused.
     pub fn union(&self, other: &CharClass) -> Result<CharClass, AllocError>
         ensures { IfOk result (λ class. IsCanonOfPoints characters (λ c. has self.now.members c || has other.now.members c) class.members) }
     {
@@ -61,6 +69,10 @@ impl CharClass {
     }
 
     /// Returns the class of the characters that are in this class and in the other.
+    ///
+    /// # Errors
+    ///
+    /// Memory was refused.
     pub fn intersection(&self, other: &CharClass) -> Result<CharClass, AllocError>
         ensures { IfOk result (λ class. IsCanonOfPoints characters (λ c. has self.now.members c && has other.now.members c) class.members) }
     {
@@ -70,6 +82,10 @@ impl CharClass {
     }
 
     /// Returns the class of the characters that are not in this class: its gaps in all characters.
+    ///
+    /// # Errors
+    ///
+    /// Memory was refused.
     pub fn complement(&self, alloc: Global) -> Result<CharClass, AllocError>
         ensures { IfOk result (λ class. IsCanonOfPoints characters (λ c. not (has self.now.members c)) class.members) }
     {
@@ -114,6 +130,5 @@ pub fn complement_twice(alloc: Global, class: &CharClass) -> Result<CharClass, A
     ensures equal { IfOk result (λ twice. same_ranges characters twice.members class.now.members ≡ true) }
 {
     class.members.known();
-    let twice = class.complement(alloc)?.complement(alloc)?;
-    Ok(twice)
+    class.complement(alloc)?.complement(alloc)
 }

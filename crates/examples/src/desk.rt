@@ -42,6 +42,10 @@ pub fn is_closed_only_within(days: &RangeInclusiveSet<u32>, first: u32, last: u3
 }
 
 /// Returns a number as JSON.
+///
+/// # Errors
+///
+/// None: every number has a form. The answer is a `Result` since `to_value` asks for one.
 pub fn write_number(number: &u32) -> Result<Value, NotANumber>
     ensures { writes_number number.now result }
 {
@@ -49,6 +53,10 @@ pub fn write_number(number: &u32) -> Result<Value, NotANumber>
 }
 
 /// Returns the number that a JSON value is.
+///
+/// # Errors
+///
+/// The value is no number of 32 bits.
 pub fn read_number(value: &Value) -> Result<u32, NotANumber>
     ensures { reads_number value.now result }
 {
@@ -57,6 +65,10 @@ pub fn read_number(value: &Value) -> Result<u32, NotANumber>
 }
 
 /// Returns the bookings as JSON, a list of `[[start, end], guest]`.
+///
+/// # Errors
+///
+/// Memory was refused.
 pub fn to_json(alloc: Global, sheet: &RangeMap<u32, u32>) -> Result<Value, WriteError<NotANumber>>
     ensures { IfOk result (IsForm (half_open nat_cmp) (map_writer writes_number writes_number) sheet.now) }
 {
@@ -68,6 +80,11 @@ pub fn to_json(alloc: Global, sheet: &RangeMap<u32, u32>) -> Result<Value, Write
 }
 
 /// Returns the bookings that a JSON value holds, whose entries are in order and joined.
+///
+/// # Errors
+///
+/// The value is no list of such entries: then the first that is at fault is named, and how. Or memory
+/// was refused.
 pub fn from_json(alloc: Global, value: &Value) -> Result<RangeMap<u32, u32>, ReadError<NotANumber>>
     ensures { IfOk result (IsReading (half_open nat_cmp) (map_reader reads_number reads_number) nat_eq Form.Canonical value.now) }
 {

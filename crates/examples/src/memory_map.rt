@@ -152,8 +152,8 @@ impl MemoryMap {
     ///
     /// # Errors
     ///
-    /// A gap is made of clones, which may be refused. Clones of a `u64` never are, but no contract
-    /// says so.
+    /// None in fact: a gap is made of clones, and those of a `u64` are never refused. The contract
+    /// of `try_next` says so; what a loop learns of `next` does not, so the answer is a `Result`.
     pub fn find_free(&self, start: u64, end: u64, size: u64) -> Result<Option<u64>, AllocError>
         requires { 0 < size }
         ensures found { IfOk result (λ found. IfSome found (λ first. IsLowestFree self.now.regions start end size first)) }

@@ -83,8 +83,8 @@ impl Planner {
     ///
     /// # Errors
     ///
-    /// A gap is made of clones, which may be refused. Clones of a `u32` never are, but no contract
-    /// says so.
+    /// None in fact: a gap is made of clones, and those of a `u32` are never refused. The contract
+    /// of `try_next` says so; what a loop learns of `next` does not, so the answer is a `Result`.
     pub fn first_free(&self, size: u32) -> Result<Option<u32>, AllocError>
         requires { 0 < size }
         ensures found { IfOk result (λ found. IfSome found (λ first. IsLowestFree self.now.blocks size first)) }

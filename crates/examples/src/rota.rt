@@ -36,21 +36,18 @@ impl Rota {
     /// # Requires
     ///
     /// Nobody is on at `hour`, which comes before `limit`.
-    ///
-    /// # Errors
-    ///
-    /// Memory was refused.
-    pub fn off_until(&self, hour: u32, limit: u32) -> Result<u32, AllocError>
+    pub fn off_until(&self, hour: u32, limit: u32) -> u32
         requires forward { hour < limit }
         requires off { on_duty self.now.shifts hour ≡ None }
-        ensures forward { IfOk result (λ end. hour < end) }
-        ensures off { IfOk result (λ end. (later : ℕ) → hour ≤ later → later < end → on_duty self.now.shifts later ≡ None) }
+        ensures forward { hour < result }
+        ensures within { result ≤ limit }
+        ensures off { (later : ℕ) → hour ≤ later → later < result → on_duty self.now.shifts later ≡ None }
     {
         let rest = hour..limit;
-        let mut gaps = self.shifts.gaps(&rest);
-        match gaps.next() {
-            Some(gap) => Ok(gap?.end),
-            None => unreachable!(),
+        match self.shifts.gaps(&rest).try_next() {
+            Ok(Some(gap)) => gap.end,
+            Ok(None) => unreachable!(),
+            Err(AllocError) => unreachable!(),
         }
     }
 

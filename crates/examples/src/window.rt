@@ -40,8 +40,7 @@ impl Window {
         ensures refused { OnErr result (self.new.waiting ≡ self.old.waiting) }
         ensures next { self.new.next ≡ self.old.next }
     {
-        self.waiting.insert(from..to)?;
-        Ok(())
+        self.waiting.insert(from..to)
     }
 
     /// Drops the numbers up to and without `to`, which were delivered.

@@ -1,5 +1,6 @@
 pub mod MapLemmas
 pub use Rattle.rangemap_core.proofs.IncomingLemmas
+pub use Rattle.rangemap_core.proofs.IncomingRangeLemmas
 pub mod CallerLemmas
 pub mod Loops
 pub mod GapLoopLemmas

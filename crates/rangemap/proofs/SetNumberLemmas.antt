@@ -115,7 +115,7 @@ one_more_added old before here h i j = grind (arith, h, i, j)
 alone : {V : Type 0} (list : List (Range ℕ × V)) (at : ℕ) → value_at (half_open nat_cmp) list at ≡ None → IsFreeBetween half_open_unsigned list at (at + 1)
 alone {V} list at bare x from to = let same : at ≡ x = omega arith in let P : ℕ → Type 0 = λ y. value_at (half_open nat_cmp) list y ≡ None in subst P same bare
 
--- the gap begins there, and reaches up to a number that has a value, or up to the range's end
+-- the gap has the first number of the range, lies within it, and from there on none of its numbers has a value
 pub record IsFirstGap {V : Type 0} (list : List (Range ℕ × V)) (q : Range ℕ) (gap : Range ℕ) : Type 0 where
   pub starts : gap.start ≤ q.start
   pub forward : q.start < gap.end

@@ -23,6 +23,11 @@ module _ {K X : Type 0} (k : RangeKind K X) (ls : List (List X)) where
   abbrev Shows : (K → Option ⊤) → List X → Type 0
   Shows f m = IsCanonOf k (unit_eq k) f (with_unit k m)
 
+  -- an operator that was refused changes nothing
+  pub not_joined : (A : Type 0) (i j : ℕ) (o : Operator) → Makes k (unit_eq k) (with_unit k) (SetStep {A = A} k) ls (joining o i j) false ls
+  not_joined A i j Union fs h = (fs, refl, h)
+  not_joined A i j Intersection fs h = (fs, refl, h)
+
   module _ (A : Type 0) (i j : ℕ) (l r m : List X) (here : i < length ls) (is : l ≡ get_or ls i l) (there : j < length ls) (it : r ≡ get_or ls j r) where
     -- what the operator makes of the sets at two places is added at the end
     pub joined_here : (o : Operator) → IsCanonOfPoints k (joined o (covers k l) (covers k r)) m → Makes k (unit_eq k) (with_unit k) (SetStep {A = A} k) ls (joining o i j) true (ls ++ m ∷ [])

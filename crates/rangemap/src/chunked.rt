@@ -22,28 +22,152 @@ use std::ops::{Range, RangeInclusive};
 
 /// A map of disjoint half-open ranges, `a..b`, to values, in chunks.
 ///
-/// It has the calls that stand at `map::RangeMap`, each described, with its contract, at `Map`.
+/// # Calls
+///
+/// ```text
+/// new(alloc: A) -> Self
+/// new_with_step_fns(alloc: A) -> Self
+/// from<const N: usize>(alloc: A, value: [(Range<K>, V); N]) -> Result<Self, AllocError>
+/// from_iter<I: IntoIterator<Item = (Range<K>, V)>>(alloc: A, iter: I) -> Result<Self, AllocError>
+/// insert(&mut self, range: Range<K>, value: V) -> Result<(), AllocError>
+/// remove(&mut self, range: Range<K>) -> Result<(), AllocError>
+/// extend<I: IntoIterator<Item = (Range<K>, V)>>(&mut self, iter: I) -> Result<(), AllocError>
+/// clear(&mut self)
+/// clone(&self) -> Result<Self, AllocError>
+/// get(&self, key: &K) -> Option<&V>
+/// get_key_value(&self, key: &K) -> Option<(&Range<K>, &V)>
+/// contains_key(&self, key: &K) -> bool
+/// first_range_value(&self) -> Option<(&Range<K>, &V)>
+/// last_range_value(&self) -> Option<(&Range<K>, &V)>
+/// len(&self) -> usize
+/// is_empty(&self) -> bool
+/// known(&self)
+/// allocator(&self) -> &A
+/// iter(&self) -> Iter<'_, K, V, A>
+/// into_iter(self) -> IntoIter<K, V, A>
+/// overlapping(&self, range: &Range<K>) -> Overlapping<'_, K, V, A>
+/// overlaps(&self, range: &Range<K>) -> bool
+/// gaps(&self, outer_range: &Range<K>) -> Gaps<'_, K, V, A>
+/// to_value(&self, alloc: Global, write_key, write_value) -> Result<Value, WriteError<E>>
+/// from_value(alloc: A, form: Form, value: &Value, read_key, read_value) -> Result<Self, ReadError<E>>
+/// ```
+///
+/// Each is described, with its contract, at `Map`; with `==`, the orders, `Hash` and `{:?}` beside.
 pub type RangeMap<K, V, A = Global> = Map<Chunks<HalfOpen, Range<K>, V, A, SIZE>>;
 
 /// A map of disjoint closed ranges, `a..=b`, to values, in chunks. `StepFnsT` is the type whose
-/// steps tell which of them touch, mostly `K` itself.
+/// steps tell which of them touch, mostly `K` itself: `inclusive_map::RangeInclusiveMap` says what
+/// exists where it is.
 ///
-/// It has the calls that stand at `inclusive_map::RangeInclusiveMap`, each described, with its
-/// contract, at `Map`.
+/// # Calls
+///
+/// ```text
+/// new(alloc: A) -> Self
+/// new_with_step_fns(alloc: A) -> Self
+/// from<const N: usize>(alloc: A, value: [(RangeInclusive<K>, V); N]) -> Result<Self, AllocError>
+/// from_iter<I: IntoIterator<Item = (RangeInclusive<K>, V)>>(alloc: A, iter: I) -> Result<Self, AllocError>
+/// insert(&mut self, range: RangeInclusive<K>, value: V) -> Result<(), AllocError>
+/// remove(&mut self, range: RangeInclusive<K>) -> Result<(), AllocError>
+/// extend<I: IntoIterator<Item = (RangeInclusive<K>, V)>>(&mut self, iter: I) -> Result<(), AllocError>
+/// clear(&mut self)
+/// clone(&self) -> Result<Self, AllocError>
+/// get(&self, key: &K) -> Option<&V>
+/// get_key_value(&self, key: &K) -> Option<(&RangeInclusive<K>, &V)>
+/// contains_key(&self, key: &K) -> bool
+/// first_range_value(&self) -> Option<(&RangeInclusive<K>, &V)>
+/// last_range_value(&self) -> Option<(&RangeInclusive<K>, &V)>
+/// len(&self) -> usize
+/// is_empty(&self) -> bool
+/// known(&self)
+/// allocator(&self) -> &A
+/// iter(&self) -> InclusiveIter<'_, K, V, A>
+/// into_iter(self) -> InclusiveIntoIter<K, V, A>
+/// overlapping(&self, range: &RangeInclusive<K>) -> InclusiveOverlapping<'_, K, V, A>
+/// overlaps(&self, range: &RangeInclusive<K>) -> bool
+/// gaps(&self, outer_range: &RangeInclusive<K>) -> InclusiveGaps<'_, K, V, StepFnsT, A>
+/// to_value(&self, alloc: Global, write_key, write_value) -> Result<Value, WriteError<E>>
+/// from_value(alloc: A, form: Form, value: &Value, read_key, read_value) -> Result<Self, ReadError<E>>
+/// ```
+///
+/// Each is described, with its contract, at `Map`; with `==`, the orders, `Hash` and `{:?}` beside.
 pub type RangeInclusiveMap<K, V, StepFnsT = K, A = Global> = Map<
     Chunks<Closed<StepFnsT>, RangeInclusive<K>, V, A, SIZE>,
 >;
 
 /// A set of keys in disjoint half-open ranges, `a..b`, in chunks.
 ///
-/// It has the calls that stand at `set::RangeSet`, each described, with its contract, at `Set`.
+/// # Calls
+///
+/// ```text
+/// new(alloc: A) -> Self
+/// new_with_step_fns(alloc: A) -> Self
+/// from<const N: usize>(alloc: A, value: [Range<T>; N]) -> Result<Self, AllocError>
+/// from_iter<I: IntoIterator<Item = Range<T>>>(alloc: A, iter: I) -> Result<Self, AllocError>
+/// insert(&mut self, range: Range<T>) -> Result<(), AllocError>
+/// remove(&mut self, range: Range<T>) -> Result<(), AllocError>
+/// extend<I: IntoIterator<Item = Range<T>>>(&mut self, iter: I) -> Result<(), AllocError>
+/// clear(&mut self)
+/// clone(&self) -> Result<Self, AllocError>
+/// get(&self, value: &T) -> Option<&Range<T>>
+/// contains(&self, value: &T) -> bool
+/// first(&self) -> Option<&Range<T>>
+/// last(&self) -> Option<&Range<T>>
+/// len(&self) -> usize
+/// is_empty(&self) -> bool
+/// known(&self)
+/// allocator(&self) -> &A
+/// iter(&self) -> SetIter<'_, T, A>
+/// into_iter(self) -> SetIntoIter<T, A>
+/// overlapping(&self, range: &Range<T>) -> SetOverlapping<'_, T, A>
+/// overlaps(&self, range: &Range<T>) -> bool
+/// gaps(&self, outer_range: &Range<T>) -> SetGaps<'_, T, A>
+/// union(&self, other: &Self) -> Union<'_, T, A>
+/// intersection(&self, other: &Self) -> Intersection<'_, T, A>
+/// &left | &right, &left & &right -> Result<Self, AllocError>
+/// to_value(&self, alloc: Global, write_key) -> Result<Value, WriteError<E>>
+/// from_value(alloc: A, form: Form, value: &Value, read_key) -> Result<Self, ReadError<E>>
+/// ```
+///
+/// Each is described, with its contract, at `Set`; with `==`, the orders, `Hash` and `{:?}` beside.
 pub type RangeSet<T, A = Global> = Set<Chunks<HalfOpen, Range<T>, (), A, SIZE>>;
 
 /// A set of keys in disjoint closed ranges, `a..=b`, in chunks. `StepFnsT` is the type whose steps
-/// tell which of them touch, mostly `T` itself.
+/// tell which of them touch, mostly `T` itself: `inclusive_set::RangeInclusiveSet` says what exists
+/// where it is.
 ///
-/// It has the calls that stand at `inclusive_set::RangeInclusiveSet`, each described, with its
-/// contract, at `Set`.
+/// # Calls
+///
+/// ```text
+/// new(alloc: A) -> Self
+/// new_with_step_fns(alloc: A) -> Self
+/// from<const N: usize>(alloc: A, value: [RangeInclusive<T>; N]) -> Result<Self, AllocError>
+/// from_iter<I: IntoIterator<Item = RangeInclusive<T>>>(alloc: A, iter: I) -> Result<Self, AllocError>
+/// insert(&mut self, range: RangeInclusive<T>) -> Result<(), AllocError>
+/// remove(&mut self, range: RangeInclusive<T>) -> Result<(), AllocError>
+/// extend<I: IntoIterator<Item = RangeInclusive<T>>>(&mut self, iter: I) -> Result<(), AllocError>
+/// clear(&mut self)
+/// clone(&self) -> Result<Self, AllocError>
+/// get(&self, value: &T) -> Option<&RangeInclusive<T>>
+/// contains(&self, value: &T) -> bool
+/// first(&self) -> Option<&RangeInclusive<T>>
+/// last(&self) -> Option<&RangeInclusive<T>>
+/// len(&self) -> usize
+/// is_empty(&self) -> bool
+/// known(&self)
+/// allocator(&self) -> &A
+/// iter(&self) -> InclusiveSetIter<'_, T, A>
+/// into_iter(self) -> InclusiveSetIntoIter<T, A>
+/// overlapping(&self, range: &RangeInclusive<T>) -> InclusiveSetOverlapping<'_, T, A>
+/// overlaps(&self, range: &RangeInclusive<T>) -> bool
+/// gaps(&self, outer_range: &RangeInclusive<T>) -> InclusiveSetGaps<'_, T, StepFnsT, A>
+/// union(&self, other: &Self) -> InclusiveUnion<'_, T, A>
+/// intersection(&self, other: &Self) -> InclusiveIntersection<'_, T, A>
+/// &left | &right, &left & &right -> Result<Self, AllocError>
+/// to_value(&self, alloc: Global, write_key) -> Result<Value, WriteError<E>>
+/// from_value(alloc: A, form: Form, value: &Value, read_key) -> Result<Self, ReadError<E>>
+/// ```
+///
+/// Each is described, with its contract, at `Set`; with `==`, the orders, `Hash` and `{:?}` beside.
 pub type RangeInclusiveSet<T, StepFnsT = T, A = Global> = Set<
     Chunks<Closed<StepFnsT>, RangeInclusive<T>, (), A, SIZE>,
 >;

@@ -22,12 +22,12 @@
 //!
 //! # Containers
 //!
-//! | Container | Keys | Fast at |
-//! |---|---|---|
-//! | `RangeMap`, `RangeSet` | any with an order, in half-open ranges `a..b` | lookups, iteration, and changes among up to about a thousand ranges, or in order |
-//! | `RangeInclusiveMap`, `RangeInclusiveSet` | integers, `char`, and keys with steps of your own, in closed ranges `a..=b`, so that the greatest key has its place | the same |
-//! | `chunked::RangeMap`, `chunked::RangeSet`, `chunked::RangeInclusiveMap`, `chunked::RangeInclusiveSet` | as those above, in many sorted vectors | changes at random places among more than about a thousand ranges |
-//! | `tree_map::RangeMap`, `tree_set::RangeSet` | as `RangeMap`, in a B-tree | the same |
+//! | Container | Keys |
+//! |---|---|
+//! | `RangeMap`, `RangeSet` | any with an order, in half-open ranges `a..b`, in a sorted vector |
+//! | `RangeInclusiveMap`, `RangeInclusiveSet` | integers, `char`, and keys with steps of your own, in closed ranges `a..=b`, so that the greatest key has its place |
+//! | `chunked::RangeMap`, `chunked::RangeSet`, `chunked::RangeInclusiveMap`, `chunked::RangeInclusiveSet` | as those above, in many sorted vectors, for more than about a thousand ranges that change at random places |
+//! | `tree_map::RangeMap`, `tree_set::RangeSet` | as `RangeMap`, in a B-tree |
 //!
 //! Each container is an alias of `map::Map` or `range_set::Set`, where its calls are described with
 //! their contracts. `container` has what code over any container asks of it; `laws` says what holds of
@@ -35,17 +35,9 @@
 //!
 //! # Beside the Rust crate
 //!
-//! | There | Here |
-//! |---|---|
-//! | `RangeMap::new()` | `RangeMap::new(alloc)`: the allocator is handed over, and is the last type parameter |
-//! | a panic at an empty range | a condition on the caller, `non_empty` |
-//! | an abort where memory is wanting | `Result<_, AllocError>`; a refused call changes nothing, a refused `extend` keeps a beginning |
-//! | `Clone`, `Extend`, `FromIterator`, `From` | the calls `clone`, `extend`, `from_iter`, `from` |
-//! | items of `gaps`, `union`, `intersection` | they are `Result`s, since their ends are clones |
-//! | `serde` | `to_value`, `from_value` |
-//! | `range_map!` and its like | the same, with `in alloc;` before the list |
-//! | steps of eleven integer types | of twelve, and of `char` |
-//! | | `chunked`, `tree_map`, `tree_set`, `segments`, `collect_gaps`, `laws`, `replay` |
+//! The allocator is handed to `new`, what takes memory answers a `Result`, and that a range is not
+//! empty is a condition on the caller. All that differs stands in docs/DIFFERENCES.md, with a program
+//! there and here.
 #![tactic(auto)]
 
 pub mod chunked;

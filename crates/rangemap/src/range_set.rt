@@ -23,15 +23,12 @@ mod text;
 
 /// A set of keys in disjoint ranges, which joins ranges that overlap or touch.
 ///
-/// `S` keeps the ranges: a sorted vector, a tree, chunks. Of *n* stored ranges, and *m* of another
-/// set, all stores have this in common:
+/// `S` keeps the ranges: a sorted vector, a tree, chunks. A call costs what the map's of its name
+/// does, as the page of `Map` says; `get` and `contains` are lookups. Of *n* stored ranges, and *m* of
+/// another set, those that only sets have:
 ///
 /// | Call | Time |
 /// |---|---|
-/// | `new`, `new_with_step_fns`, `allocator`, `len`, `is_empty` | *O*(1) |
-/// | `extend`, `from`, `from_iter`, `from_value` | an `insert` for each item |
-/// | `clone`, `hash`, `fmt`, `to_value` | *O*(*n*) |
-/// | `==`, `cmp` | *O*(min(*n*, *m*)) |
 /// | all items of `union` and `intersection` | *O*(*n* + *m*) |
 /// | `\|`, `&` | an `insert` at the end for each item |
 ///
@@ -58,7 +55,7 @@ impl<S: StoreMut<Value = ()>> Set<S>
 where
     S::Kind: Kind<S::Range, Steps = <S::Range as KeyRange>::Key>,
 {
-    /// Returns the empty set, whose memory comes from `alloc`.
+    /// Returns the empty set, whose memory will come from `alloc`.
     pub fn new(alloc: S::Alloc) -> Self
         ensures { result ≡ [] }
     {
@@ -171,8 +168,9 @@ where
     /// Returns the stored ranges that end after the start of `range` and start before its end, and
     /// of closed ranges also those that end or start just there, in order, from both ends.
     ///
-    /// Nothing is asked of `range`: an empty or reversed one whose ends lie inside a stored range
-    /// gives that one.
+    /// Nothing is asked of `range`. An empty one strictly inside a stored range meets it, and so
+    /// does a reversed one both of whose ends lie strictly inside; of closed ranges a reversed one
+    /// meets it also where its ends are the stored ones.
     pub fn overlapping(&'a self, range: &'a S::Range) -> OverlappingRanges<S::Overlapping>
         ensures met { result ≡ met S.Kind.kind self.now range.now }
         ensures canonical { IsCanonicalSet S.Kind.kind result }

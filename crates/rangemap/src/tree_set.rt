@@ -19,7 +19,7 @@ use std::ops::Range;
 /// # Examples
 ///
 /// ```text
-/// seen.insert(from..to)?;
+/// seen.insert(from..to)
 /// ```
 ///
 /// # Calls

@@ -12,4 +12,4 @@ pub mod WideLemmas
 pub mod OverLemmas
 pub mod TouchLemmas
 pub mod HalvesLemmas
-pub mod PeekLemmas
+pub mod EndLemmas

@@ -8,27 +8,31 @@ ghost use Rattle.rangemap_chunked.specs.Chunks.{AreChunks, AreFilled, AreFilledB
 
 use crate::chunk::Chunk;
 use crate::joins::settle;
-use crate::search::{begins_by_end, end_from, first_failing, is_refused, start_of};
+use crate::search::{chunk_starts_by_end, end_from, first_failing, may_overflow, start_of};
 use crate::wide::change_over;
 use rangemap_core::key_range::KeyRange;
 use rangemap_core::kind::{Kind, known_ends};
 use std::alloc::{AllocError, Allocator};
 
-/// How many pairs a change took out, and how many it put there.
+/// How many pairs stood in the stretch of chunks that a change went over, before it and after it.
 #[derive(Drop)]
-pub struct Change {
-    /// Those that it took out.
+pub struct Counts {
+    /// Before it.
     pub before: usize,
-    /// Those that it put there.
+    /// After it.
     pub after: usize,
 }
 
 /// Gives every key of the range the value, in the chunks of a store.
+///
+/// # Errors
+///
+/// Memory or a clone was refused: then no pair is changed.
 pub fn insert_into<Q: Kind<R>, R: KeyRange, V: Eq + Clone, A: Allocator + Clone, const N: usize>(
     chunks: &mut Vec<Chunk<R, V, A>, A>,
     range: R,
     value: V,
-) -> Result<Change, AllocError>
+) -> Result<Counts, AllocError>
     requires chunked { AreChunks Q.kind V.eq chunks.old.items }
     requires fits { length (whole chunks.old.items) ≤ 18446744073709551615 }
     requires non_empty { Q.kind.IsNonEmpty range }
@@ -37,7 +41,7 @@ pub fn insert_into<Q: Kind<R>, R: KeyRange, V: Eq + Clone, A: Allocator + Clone,
     ensures ok { OnOk result (IsChanged Q.kind V.eq (value_at Q.kind (whole chunks.old.items)) range (SomeWord value) (whole chunks.new.items)) }
     ensures filled { AreFilled chunks.new.items }
     ensures err { OnErr result (whole chunks.new.items ≡ whole chunks.old.items) }
-    ensures counted { IfOk result (λ change. IsCounted V.eq 2 (whole chunks.old.items) (whole chunks.new.items) change.before change.after) }
+    ensures counted { IfOk result (λ counts. IsCounted V.eq 2 (whole chunks.old.items) (whole chunks.new.items) counts.before counts.after) }
 {
     if chunks.is_empty() {
         return insert_first::<Q, R, V, A>(chunks, range, value);
@@ -46,11 +50,11 @@ pub fn insert_into<Q: Kind<R>, R: KeyRange, V: Eq + Clone, A: Allocator + Clone,
     let end = first_failing(
         chunks,
         at,
-        |chunk| begins_by_end::<Q, R, V, A>(chunk, &range),
+        |chunk| chunk_starts_by_end::<Q, R, V, A>(chunk, &range),
     );
-    let change = change_over::<Q, R, V, A>(chunks, at, end, range, Some(value))?;
+    let counts = change_over::<Q, R, V, A>(chunks, at, end, range, Some(value))?;
     settle::<R, V, A, N>(chunks, at, true);
-    Ok(change)
+    Ok(counts)
 }
 
 // Gives every key of the range the value, where there is no chunk yet.
@@ -58,7 +62,7 @@ fn insert_first<Q: Kind<R>, R: KeyRange, V: Eq + Clone, A: Allocator + Clone>(
     chunks: &mut Vec<Chunk<R, V, A>, A>,
     range: R,
     value: V,
-) -> Result<Change, AllocError>
+) -> Result<Counts, AllocError>
     requires none { chunks.old.items ≡ [] }
     requires non_empty { Q.kind.IsNonEmpty range }
     requires faithful_keys { KeysCloneFaithfully R.Key.is_clone R.Key.cmp }
@@ -66,22 +70,27 @@ fn insert_first<Q: Kind<R>, R: KeyRange, V: Eq + Clone, A: Allocator + Clone>(
     ensures ok { OnOk result (IsChanged Q.kind V.eq (value_at Q.kind (whole chunks.old.items)) range (SomeWord value) (whole chunks.new.items)) }
     ensures filled { AreFilled chunks.new.items }
     ensures err { OnErr result (chunks.new.items ≡ chunks.old.items) }
-    ensures counted { IfOk result (λ change. IsCounted V.eq 2 (whole chunks.old.items) (whole chunks.new.items) change.before change.after) }
+    ensures counted { IfOk result (λ counts. IsCounted V.eq 2 (whole chunks.old.items) (whole chunks.new.items) counts.before counts.after) }
 {
     known_ends::<Q, R>(&range);
     let mut chunk = Chunk::empty(chunks.allocator().clone()?);
     chunk.change::<Q>(range, Some(value))?;
     let after = chunk.len();
     chunks.push(chunk)?;
-    Ok(Change { before: 0, after })
+    Ok(Counts { before: 0, after })
 }
 
 /// Takes every key of the range out of the chunks of a store.
+///
+/// # Errors
+///
+/// Memory or a clone was refused, or the removal may leave more pairs than a `usize` can count: then no
+/// pair is changed. A removal that meets nothing is not refused.
 pub fn remove_from<Q: Kind<R>, R: KeyRange, V: Eq + Clone, A: Allocator + Clone, const N: usize>(
     chunks: &mut Vec<Chunk<R, V, A>, A>,
     len: usize,
     range: R,
-) -> Result<Change, AllocError>
+) -> Result<Counts, AllocError>
     requires chunked { AreChunks Q.kind V.eq chunks.old.items × (len ≡ length (whole chunks.old.items)) }
     requires non_empty { Q.kind.IsNonEmpty range }
     requires faithful_keys { KeysCloneFaithfully R.Key.is_clone R.Key.cmp }
@@ -89,36 +98,40 @@ pub fn remove_from<Q: Kind<R>, R: KeyRange, V: Eq + Clone, A: Allocator + Clone,
     ensures ok { OnOk result (IsCanonOf Q.kind V.eq (erase Q.kind (value_at Q.kind (whole chunks.old.items)) range) (whole chunks.new.items)) }
     ensures filled { AreFilled chunks.new.items }
     ensures err { OnErr result (whole chunks.new.items ≡ whole chunks.old.items) }
-    ensures counted { IfOk result (λ change. IsCounted V.eq 1 (whole chunks.old.items) (whole chunks.new.items) change.before change.after) }
-    ensures fits { IfOk result (λ change. length (whole chunks.new.items) ≤ 18446744073709551615) }
+    ensures counted { IfOk result (λ counts. IsCounted V.eq 1 (whole chunks.old.items) (whole chunks.new.items) counts.before counts.after) }
+    ensures fits { IfOk result (λ _. length (whole chunks.new.items) ≤ 18446744073709551615) }
     ensures meets_nothing { overlapped Q.kind (whole chunks.old.items) range ≡ [] → IsOk result × (whole chunks.new.items ≡ whole chunks.old.items) }
 {
     if chunks.is_empty() {
-        return Ok(Change {
+        return Ok(Counts {
             before: 0,
             after: 0,
         });
     }
     let at = start_of::<Q, R, V, A>(chunks, &range);
     let end = end_from::<Q, R, V, A>(chunks, &range, at);
-    if is_refused::<Q, R, V, A>(chunks, len, at, end, &range) {
+    if may_overflow::<Q, R, V, A>(chunks, len, at, end, &range) {
         return Err(AllocError);
     }
-    let change = change_over::<Q, R, V, A>(chunks, at, end, range, None)?;
+    let counts = change_over::<Q, R, V, A>(chunks, at, end, range, None)?;
     // A removal that meets nothing asks for no memory: it changes no chunk's size.
-    let is_resized = at + 1 < end || change.before != change.after;
+    let is_resized = at + 1 < end || counts.before != counts.after;
     settle::<R, V, A, N>(chunks, at, is_resized);
-    Ok(change)
+    Ok(counts)
 }
 
 /// Gives every key of the range the value, or takes it out where there is none, in the one chunk that
-/// has all that the range overlaps or touches. Where there is no value, it may be empty then.
+/// has all that the range overlaps or touches. Without a value, that chunk may be left empty.
+///
+/// # Errors
+///
+/// Memory or a clone was refused: then no pair is changed.
 pub fn change_at<Q: Kind<R>, R: KeyRange, V: Eq + Clone, A: Allocator>(
     chunks: &mut Vec<Chunk<R, V, A>, A>,
     at: usize,
     range: R,
     value: Option<V>,
-) -> Result<Change, AllocError>
+) -> Result<Counts, AllocError>
     requires chunked { AreChunks Q.kind V.eq chunks.old.items }
     requires in_bounds { at < length chunks.old.items }
     requires before { IsClearBefore (shape_of Q.kind Q.end_place V.eq) chunks.old.items range at }
@@ -131,7 +144,7 @@ pub fn change_at<Q: Kind<R>, R: KeyRange, V: Eq + Clone, A: Allocator>(
     ensures filled { AreFilledBut value at chunks.new.items }
     ensures count { length chunks.new.items ≡ length chunks.old.items }
     ensures err { OnErr result (chunks.new.items ≡ chunks.old.items) }
-    ensures counted { IfOk result (λ change. IsCounted V.eq (grown value) (whole chunks.old.items) (whole chunks.new.items) change.before change.after) }
+    ensures counted { IfOk result (λ counts. IsCounted V.eq (grown value) (whole chunks.old.items) (whole chunks.new.items) counts.before counts.after) }
     ensures stays { value ≡ NoneWord → overlapped Q.kind (slice_index_or chunks.old.items at []) range ≡ [] → IsOk result × (chunks.new.items ≡ chunks.old.items) }
 {
     known_ends::<Q, R>(&range);
@@ -139,5 +152,5 @@ pub fn change_at<Q: Kind<R>, R: KeyRange, V: Eq + Clone, A: Allocator>(
     let before = chunk.len();
     chunk.change::<Q>(range, value)?;
     let after = chunk.len();
-    Ok(Change { before, after })
+    Ok(Counts { before, after })
 }

@@ -114,11 +114,10 @@ impl<R, V, A: Allocator> Chunk<R, V, A> {
         self.pairs.append(&mut other.pairs)
     }
 
-    /// Gives memory back where not more than half of the room and one pair are used, as after a growth,
-    /// which doubles the room, or after removals. Room for a third more pairs than there are stays then,
-    /// but for no fewer than `least`, and for no more than `most` unless there are more pairs. Where that
-    /// is refused all room stays.
-    pub fn give_back(&mut self, least: usize, most: usize)
+    /// Shrinks the room where at most half of it, and one pair, is used, as after a growth, which doubles
+    /// it, or after removals. What stays is room for a third more pairs than there are, within `least` and
+    /// `most`, and for those that there are. A refusal leaves all room.
+    pub fn shrink_to(&mut self, least: usize, most: usize)
         ensures { self.new ≡ self.old }
     {
         let room = self.pairs.capacity();

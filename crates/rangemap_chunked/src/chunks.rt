@@ -138,17 +138,18 @@ impl<Q: Kind<R>, R: KeyRange, V: Eq + Clone, A: Allocator + Clone, const N: usiz
     }
 
     fn insert(&mut self, range: R, value: V) -> Result<(), AllocError> {
+        // An insert adds two pairs at most, and `len` has to count them all. Memory ends long before.
         if usize::MAX - 2 < self.len {
             return Err(AllocError);
         }
-        let change = insert_into::<Q, R, V, A, N>(&mut self.chunks, range, value)?;
-        self.len = self.len - change.before + change.after;
+        let counts = insert_into::<Q, R, V, A, N>(&mut self.chunks, range, value)?;
+        self.len = self.len - counts.before + counts.after;
         Ok(())
     }
 
     fn remove(&mut self, range: R) -> Result<(), AllocError> {
-        let change = remove_from::<Q, R, V, A, N>(&mut self.chunks, self.len, range)?;
-        self.len = self.len - change.before + change.after;
+        let counts = remove_from::<Q, R, V, A, N>(&mut self.chunks, self.len, range)?;
+        self.len = self.len - counts.before + counts.after;
         Ok(())
     }
 

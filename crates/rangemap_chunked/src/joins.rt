@@ -1,5 +1,5 @@
 //! How chunks become fewer or more.
-ghost use Rattle.std.specs.Prelude.{◌≡◌, ◌+◌, ◌<◌, ◌≤◌, ◌++◌, ◌∷◌, [], length, take, drop, slice_index_or, slice_set, IsOk, OnOk, OnErr, vec_len, vec_capacity};
+ghost use Rattle.std.specs.Prelude.{◌≡◌, true, false, ◌+◌, ◌<◌, ◌≤◌, ◌++◌, [], length, take, drop, slice_index_or, slice_set, OnOk, OnErr};
 ghost use Rattle.rangemap_chunked.specs.Chunks.{AreFilled, whole};
 
 use crate::chunk::Chunk;
@@ -15,20 +15,19 @@ fn take_out<R: Drop, V: Drop, A: Allocator>(chunks: &mut Vec<Chunk<R, V, A>, A>,
     let _chunk = chunks.remove(at);
 }
 
-// Moves the pairs of a chunk of one slice into a chunk of another.
-fn move_pairs<R: Drop, V: Drop, A: Allocator>(
+// Moves the pairs of the first chunk of one slice into a chunk of another.
+fn move_first<R: Drop, V: Drop, A: Allocator>(
+    from: &mut [Chunk<R, V, A>],
     to: &mut [Chunk<R, V, A>],
     at: usize,
-    from: &mut [Chunk<R, V, A>],
-    next: usize,
 ) -> Result<(), AllocError>
+    requires some { 0 < length from.old }
     requires in_bounds { at < length to.old }
-    requires some { next < length from.old }
-    ensures to { OnOk result (to.new ≡ slice_set to.old at (slice_index_or to.old at [] ++ slice_index_or from.old next [])) }
-    ensures from { OnOk result (from.new ≡ slice_set from.old next []) }
-    ensures err { OnErr result ((to.new ≡ to.old) × (from.new ≡ from.old)) }
+    ensures from { OnOk result (from.new ≡ slice_set from.old 0 []) }
+    ensures to { OnOk result (to.new ≡ slice_set to.old at (slice_index_or to.old at [] ++ slice_index_or from.old 0 [])) }
+    ensures err { OnErr result ((from.new ≡ from.old) × (to.new ≡ to.old)) }
 {
-    to[at].append(&mut from[next])
+    to[at].append(&mut from[0])
 }
 
 // Takes the chunks from one place up to another out.
@@ -44,12 +43,12 @@ fn take_out_between<R: Drop, V: Drop, A: Allocator>(
     let _chunks = chunks.drain(from..to);
 }
 
-// How many pairs a chunk has room for, at least, whose room is given back.
+// The fewest pairs that a chunk keeps room for when it gives room back.
 const LEAST: usize = 32;
 
-/// Gives the memory of a chunk back that it does not use, as `Chunk::give_back` says. What stays is
-/// room for up to `most` pairs or for those that there are, and always for `LEAST`.
-pub fn give_back_at<R: Drop, V: Drop, A: Allocator>(
+/// Gives back the memory that a chunk does not use, as `Chunk::shrink_to` says: what stays is room for up
+/// to `most` pairs, or for those that there are. A chunk with room for no more than `LEAST` keeps it.
+pub fn shrink_at<R: Drop, V: Drop, A: Allocator>(
     chunks: &mut Vec<Chunk<R, V, A>, A>,
     at: usize,
     most: usize,
@@ -57,7 +56,7 @@ pub fn give_back_at<R: Drop, V: Drop, A: Allocator>(
     requires { at < length chunks.old.items }
     ensures { chunks.new.items ≡ chunks.old.items }
 {
-    chunks[at].give_back(LEAST, most);
+    chunks[at].shrink_to(LEAST, most);
 }
 
 // How many pairs a chunk has before it is cut in two, at most: an insert into a full one that cuts a
@@ -147,7 +146,7 @@ pub fn settle<R: Drop, V: Drop, A: Allocator + Clone, const N: usize>(
         return;
     }
     split::<R, V, A, N>(chunks, at);
-    give_back_at(chunks, at, most_pairs::<N>());
+    shrink_at(chunks, at, most_pairs::<N>());
     // First with the one before: so no pair is moved into a neighbour twice.
     let at = if 0 < at && join_small::<R, V, A, N>(chunks, at - 1) {
         at - 1
@@ -166,6 +165,8 @@ fn join_small<R: Drop, V: Drop, A: Allocator, const N: usize>(
     requires { AreFilled chunks.old.items }
     ensures whole { whole chunks.new.items ≡ whole chunks.old.items }
     ensures filled { AreFilled chunks.new.items }
+    ensures joined { result ≡ true → length chunks.new.items + 1 ≡ length chunks.old.items }
+    ensures apart { result ≡ false → chunks.new.items ≡ chunks.old.items }
 {
     let count = chunks.len();
     if count <= 1 || count - 1 <= at {
@@ -189,9 +190,11 @@ fn join_next<R: Drop, V: Drop, A: Allocator>(
     requires in_bounds { at + 1 < length chunks.old.items }
     ensures whole { whole chunks.new.items ≡ whole chunks.old.items }
     ensures filled { AreFilled chunks.new.items }
+    ensures fewer { OnOk result (length chunks.new.items + 1 ≡ length chunks.old.items) }
+    ensures err { OnErr result (chunks.new.items ≡ chunks.old.items) }
 {
     let (front, back) = chunks.split_at_mut(at + 1);
-    move_pairs(front, at, back, 0)?;
+    move_first(back, front, at)?;
     take_out(chunks, at + 1);
     Ok(())
 }

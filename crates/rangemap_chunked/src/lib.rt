@@ -1,5 +1,5 @@
-//! A store of disjoint ranges that stays fast at any size: its pairs stand in chunks, each a sorted
-//! vector of some hundred.
+//! The pairs of a map or a set in chunks, each a sorted vector of some hundred pairs, so that changes at
+//! random places stay fast at any size.
 #![tactic(auto)]
 
 mod changes;

@@ -25,7 +25,7 @@ struct Sought<'a, R: KeyRange> {
 }
 
 // Whether the first start of a chunk is not after the key.
-fn starts_by<Q: Kind<R>, R: KeyRange, V: Eq, A: Allocator>(
+fn chunk_starts_by<Q: Kind<R>, R: KeyRange, V: Eq, A: Allocator>(
     chunk: &Chunk<R, V, A>,
     sought: &Sought<'_, R>,
 ) -> bool
@@ -38,7 +38,7 @@ fn starts_by<Q: Kind<R>, R: KeyRange, V: Eq, A: Allocator>(
 }
 
 // Whether the first range of a chunk starts before an endpoint of the given one.
-fn starts_before<Q: Kind<R>, R: KeyRange, V: Eq, A: Allocator>(
+fn chunk_starts_before<Q: Kind<R>, R: KeyRange, V: Eq, A: Allocator>(
     chunk: &Chunk<R, V, A>,
     endpoint: Endpoint<'_, R>,
 ) -> bool
@@ -51,14 +51,14 @@ fn starts_before<Q: Kind<R>, R: KeyRange, V: Eq, A: Allocator>(
 }
 
 /// Returns whether the first range of a chunk starts before the given one ends, or there.
-pub fn begins_by_end<Q: Kind<R>, R: KeyRange, V: Eq, A: Allocator>(
+pub fn chunk_starts_by_end<Q: Kind<R>, R: KeyRange, V: Eq, A: Allocator>(
     chunk: &Chunk<R, V, A>,
     range: &R,
 ) -> bool
     ensures { result ≡ chunk_by (shape_of Q.kind Q.end_place V.eq) (Q.end_place range.now) chunk.now }
 {
     match chunk.as_slice().first() {
-        Some(pair) => !Q::is_before(Endpoint::End(range), Endpoint::Start(&pair.0)),
+        Some(pair) => starts_by_end::<Q, R, V>(pair, range),
         None => true,
     }
 }
@@ -74,7 +74,7 @@ pub fn chunk_with<'a, Q: Kind<R>, R: KeyRange, V: Eq, A: Allocator>(
 {
     Q::known(key);
     let sought = Sought { key };
-    let count = chunks.partition_point(|chunk| starts_by::<Q, R, V, A>(chunk, &sought));
+    let count = chunks.partition_point(|chunk| chunk_starts_by::<Q, R, V, A>(chunk, &sought));
     let at = count.saturating_sub(1);
     if at < chunks.len() {
         Some(&chunks[at])
@@ -94,7 +94,7 @@ pub fn start_of<Q: Kind<R>, R: KeyRange, V: Eq, A: Allocator>(
     ensures clear { IsClearBefore (shape_of Q.kind Q.end_place V.eq) chunks.now range.now result }
     ensures past { IsPastStart (shape_of Q.kind Q.end_place V.eq) chunks.now range.now (result + 1) }
 {
-    let count = chunks.partition_point(|chunk| starts_before::<Q, R, V, A>(
+    let count = chunks.partition_point(|chunk| chunk_starts_before::<Q, R, V, A>(
         chunk,
         Endpoint::Start(range),
     ));
@@ -135,7 +135,7 @@ pub fn end_from<Q: Kind<R>, R: KeyRange, V: Eq, A: Allocator>(
     first_failing(
         chunks,
         at,
-        |chunk| starts_before::<Q, R, V, A>(chunk, Endpoint::End(range)),
+        |chunk| chunk_starts_before::<Q, R, V, A>(chunk, Endpoint::End(range)),
     )
 }
 
@@ -172,9 +172,9 @@ fn overlaps<Q: Kind<R>, R: KeyRange, V: Eq, A: Allocator>(chunk: &Chunk<R, V, A>
         .is_some()
 }
 
-/// Returns whether a removal may make the map longer than a number can say, and is to be refused.
+/// Returns whether a removal may leave more pairs than a `usize` can count, so that it is to be refused.
 /// The range overlaps only chunks from `at` up to `end`.
-pub fn is_refused<Q: Kind<R>, R: KeyRange, V: Eq, A: Allocator>(
+pub fn may_overflow<Q: Kind<R>, R: KeyRange, V: Eq, A: Allocator>(
     chunks: &[Chunk<R, V, A>],
     len: usize,
     at: usize,
@@ -192,12 +192,11 @@ pub fn is_refused<Q: Kind<R>, R: KeyRange, V: Eq, A: Allocator>(
     ensures allowed { result ≡ false → (len < 18446744073709551615) ⊎ ((end ≤ at + 1) × (overlapped Q.kind (slice_index_or chunks.now at []) range.now ≡ [])) }
 {
     known_ends::<Q, R>(range);
-    let chunk = &chunks[at];
     if len < usize::MAX {
         return false;
     }
     if at + 1 < end {
         return true;
     }
-    overlaps::<Q, R, V, A>(chunk, range)
+    overlaps::<Q, R, V, A>(&chunks[at], range)
 }

@@ -12,24 +12,27 @@ ghost use Rattle.rangemap_core.specs.engine.Shape.{shape_of};
 ghost use Rattle.rangemap_sorted.specs.Changes.{IsChanged, grown};
 ghost use Rattle.rangemap_chunked.specs.Chunks.{AreChunks, AreFilledBut, IsClearBefore, IsClearBehind, IsCounted, IsPastBehind, IsPastStart, chunk_by, whole};
 
-use crate::changes::{Change, change_at};
+use crate::changes::{Counts, change_at};
 use crate::chunk::Chunk;
-use crate::joins::{drop_between, give_back_at};
+use crate::joins::{drop_between, shrink_at};
 use crate::search::last_touched;
 use rangemap_core::key_range::KeyRange;
 use rangemap_core::kind::{Kind, known_ends};
 use std::alloc::{AllocError, Allocator};
 
 /// Gives every key of the range the value, or takes it out where there is none. The range overlaps
-/// or touches only chunks from `at` up to `end`. Where there is no value, the chunk at `at` may be
-/// empty then.
+/// or touches only chunks from `at` up to `end`. Without a value, the chunk at `at` may be left empty.
+///
+/// # Errors
+///
+/// Memory or a clone was refused: then no pair is changed.
 pub fn change_over<Q: Kind<R>, R: KeyRange, V: Eq + Clone, A: Allocator>(
     chunks: &mut Vec<Chunk<R, V, A>, A>,
     at: usize,
     end: usize,
     range: R,
     value: Option<V>,
-) -> Result<Change, AllocError>
+) -> Result<Counts, AllocError>
     requires chunked { AreChunks Q.kind V.eq chunks.old.items }
     requires fits { length (whole chunks.old.items) ≤ 18446744073709551615 }
     requires start { at < length chunks.old.items }
@@ -46,7 +49,7 @@ pub fn change_over<Q: Kind<R>, R: KeyRange, V: Eq + Clone, A: Allocator>(
     ensures filled { AreFilledBut value at chunks.new.items }
     ensures in_bounds { at < length chunks.new.items }
     ensures err { OnErr result (chunks.new.items ≡ chunks.old.items) }
-    ensures counted { IfOk result (λ change. IsCounted V.eq (grown value) (whole chunks.old.items) (whole chunks.new.items) change.before change.after) }
+    ensures counted { IfOk result (λ counts. IsCounted V.eq (grown value) (whole chunks.old.items) (whole chunks.new.items) counts.before counts.after) }
     ensures stays { value ≡ NoneWord → end ≤ at + 1 → overlapped Q.kind (slice_index_or chunks.old.items at []) range ≡ [] → IsOk result × (chunks.new.items ≡ chunks.old.items) }
 {
     if end <= at + 1 {
@@ -58,9 +61,9 @@ pub fn change_over<Q: Kind<R>, R: KeyRange, V: Eq + Clone, A: Allocator>(
     let before = count(&chunks[at..last]) + place + 1;
     change_between::<Q, R, V, A>(chunks, at, last, place, range, value)?;
     let after = chunks[at].len();
-    give_back_at(chunks, last, usize::MAX);
+    shrink_at(chunks, last, usize::MAX);
     drop_between(chunks, at + 1, last);
-    Ok(Change { before, after })
+    Ok(Counts { before, after })
 }
 
 // How many pairs chunks have.

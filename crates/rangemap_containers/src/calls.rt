@@ -12,6 +12,6 @@ pub enum Change<R, V> {
     Remove { at: usize, range: R },
     /// Empties the container at the place.
     Clear { at: usize },
-    /// Makes a clone of the map at the place.
+    /// Makes a clone of the container at the place.
     Clone { at: usize },
 }

@@ -7,11 +7,11 @@
 //!
 //! Where these ask for another call that every container has, it is added here, and in the file
 //! `container.rt` of the map and of the set.
-ghost use Rattle.std.specs.Prelude.{◌≡◌, ◌-◌, List, [], IfOk, IsOk, OnErr, OnOk, is_some, length, map, nat_eq, nat_lt, slice_get, true};
+ghost use Rattle.std.specs.Prelude.{◌≡◌, ◌+◌, ◌-◌, ◌≤◌, List, [], IfOk, IfSome, IsOk, OnErr, OnOk, is_some, length, map, nat_eq, nat_lt, slice_get, true};
 ghost use Rattle.std.specs.Option.{option_copied, option_map};
 ghost use Rattle.rangemap_core.specs.Appends.{Appends, AppendsGaps};
 ghost use Rattle.rangemap_core.specs.Clones.{KeysCloneFaithfully, ValuesCloneFaithfully};
-ghost use Rattle.rangemap_core.specs.Ranges.{AreGaps, IsCanonOf, IsCanonical, covering, erase, overlapped, override, same_pairs, value_at};
+ghost use Rattle.rangemap_core.specs.Ranges.{AreGaps, IsCanonOf, IsCanonical, IsNewest, covering, erase, overlapped, override, same_pairs, value_at};
 
 use rangemap_core::key_range::KeyRange;
 use rangemap_core::kind::Kind;
@@ -23,7 +23,7 @@ mod inserts;
 pub use appends::Appending;
 pub use inserts::insert_pairs;
 
-/// A container of disjoint ranges to values, two of which are equal where their pairs are.
+/// A container of disjoint ranges to values. Two containers are equal where their pairs are.
 ///
 /// A method that bears the name of a public call makes that call, at its cost; of sets those that
 /// speak of values or pairs make `contains`, `get`, `first` and `last`. So code that is generic over
@@ -54,36 +54,56 @@ pub trait Container: PartialEq + Drop {
     fn new_with_step_fns(alloc: Self::Alloc) -> Self
         ensures { pairs result ≡ [] };
 
-    /// Gives every key of `range`, which is not empty, the `value`, whatever it had before. The
-    /// caller sees to it that a clone of a key or value compares equal to its original. `Err` says
-    /// that memory or a clone was refused: then the container is as it was.
+    /// Gives every key of `range` the `value`, whatever it had before. It adds two ranges at most.
+    ///
+    /// # Requires
+    ///
+    /// The range is not empty, and a clone of a key or value compares equal to its original.
+    ///
+    /// # Errors
+    ///
+    /// Memory or a clone was refused: then the container is as it was.
     fn insert(&mut self, range: Self::Range, value: Self::Value) -> Result<(), AllocError>
         requires non_empty { Self.Kind.kind.IsNonEmpty range }
         requires faithful_keys { KeysCloneFaithfully Self.Range.Key.is_clone Self.Range.Key.cmp }
         requires faithful_values { ValuesCloneFaithfully Self.Value.is_clone Self.Value.eq }
         ensures ok { OnOk result (IsCanonOf Self.Kind.kind Self.Value.eq (override Self.Kind.kind (value_at Self.Kind.kind (pairs self.old)) range value) (pairs self.new)) }
-        ensures err { OnErr result (pairs self.new ≡ pairs self.old) };
+        ensures newest { OnOk result (IsNewest Self.Kind.kind range value (pairs self.new)) }
+        ensures err { OnErr result (pairs self.new ≡ pairs self.old) }
+        ensures growth { OnOk result (length (pairs self.new) ≤ length (pairs self.old) + 2) };
 
-    /// Takes every key of `range` out. The conditions, and what `Err` says, are those of `insert`.
-    /// Where nothing stored overlaps the range, nothing is refused and nothing changes.
+    /// Takes every key of `range` out. It adds one range at most.
+    ///
+    /// # Requires
+    ///
+    /// What `insert` does.
+    ///
+    /// # Errors
+    ///
+    /// As for `insert`. Where no stored range overlaps the given one, the call takes no memory,
+    /// succeeds and changes nothing.
     fn remove(&mut self, range: Self::Range) -> Result<(), AllocError>
         requires non_empty { Self.Kind.kind.IsNonEmpty range }
         requires faithful_keys { KeysCloneFaithfully Self.Range.Key.is_clone Self.Range.Key.cmp }
         requires faithful_values { ValuesCloneFaithfully Self.Value.is_clone Self.Value.eq }
         ensures ok { OnOk result (IsCanonOf Self.Kind.kind Self.Value.eq (erase Self.Kind.kind (value_at Self.Kind.kind (pairs self.old)) range) (pairs self.new)) }
         ensures err { OnErr result (pairs self.new ≡ pairs self.old) }
+        ensures growth { OnOk result (length (pairs self.new) ≤ length (pairs self.old) + 1) }
         ensures meets_nothing { overlapped Self.Kind.kind (pairs self.old) range ≡ [] → IsOk result × (pairs self.new ≡ pairs self.old) };
 
     /// Takes every key out. It takes no memory.
     fn clear(&mut self)
         ensures { pairs self.new ≡ [] };
 
-    /// Makes an equal container out of clones, in memory of a clone of this one's allocator. The
-    /// conditions are those of `insert`.
+    /// Makes an equal container out of clones, in memory of a clone of this one's allocator.
+    ///
+    /// # Requires
+    ///
+    /// A clone of a key or value compares equal to its original.
     ///
     /// # Errors
     ///
-    /// `Err` says that memory or a clone was refused.
+    /// Memory or a clone was refused.
     fn clone(&self) -> Result<Self, AllocError>
         requires faithful_keys { KeysCloneFaithfully Self.Range.Key.is_clone Self.Range.Key.cmp }
         requires faithful_values { ValuesCloneFaithfully Self.Value.is_clone Self.Value.eq }
@@ -115,19 +135,28 @@ pub trait Container: PartialEq + Drop {
 
     /// Returns the first stored range and its value.
     fn first_range_value(&self) -> Option<(&Self::Range, &Self::Value)>
-        ensures { option_map (λ pair. (pair.0.now, pair.1.now)) result ≡ slice_get (pairs self.now) 0 };
+        ensures found { option_map (λ pair. (pair.0.now, pair.1.now)) result ≡ slice_get (pairs self.now) 0 }
+        ensures non_empty { IfSome result (λ pair. Self.Kind.kind.IsNonEmpty pair.0.now) };
 
     /// Returns the last stored range and its value.
     fn last_range_value(&self) -> Option<(&Self::Range, &Self::Value)>
-        ensures { option_map (λ pair. (pair.0.now, pair.1.now)) result ≡ slice_get (pairs self.now) (length (pairs self.now) - 1) };
+        ensures found { option_map (λ pair. (pair.0.now, pair.1.now)) result ≡ slice_get (pairs self.now) (length (pairs self.now) - 1) }
+        ensures non_empty { IfSome result (λ pair. Self.Kind.kind.IsNonEmpty pair.0.now) };
 
     /// Returns whether a stored range overlaps `range`, of which nothing is asked.
     fn overlaps(&self, range: &Self::Range) -> bool
         ensures { result ≡ nat_lt 0 (length (overlapped Self.Kind.kind (pairs self.now) range.now)) };
 
-    /// Appends clones of all pairs, in order, so that they outlive the container. The caller sees
-    /// to it that a clone of a key or value compares equal to its original. `Err` says that a
-    /// clone, or the growth of `out`, was refused: then `out` is as it was.
+    /// Appends clones of all pairs, in order, so that they outlive the container. Their ranges may
+    /// be stored again.
+    ///
+    /// # Requires
+    ///
+    /// A clone of a key or value compares equal to its original.
+    ///
+    /// # Errors
+    ///
+    /// A clone, or the growth of `out`, was refused: then `out` is as it was.
     fn append_all<B: Allocator>(
         &self,
         out: &mut Vec<(Self::Range, Self::Value), B>,
@@ -137,8 +166,15 @@ pub trait Container: PartialEq + Drop {
         ensures ok { OnOk result (Appends Self.Kind.kind Self.Value.eq (pairs self.now) out.old.items out.new.items) }
         ensures err { OnErr result (out.new.items ≡ out.old.items) };
 
-    /// Appends clones of the pairs that overlap `range`, in order. Nothing is asked of `range`; the
-    /// other conditions, and what `Err` says, are those of `append_all`.
+    /// Appends clones of the pairs that overlap `range`, in order. Nothing is asked of `range`.
+    ///
+    /// # Requires
+    ///
+    /// What `append_all` does.
+    ///
+    /// # Errors
+    ///
+    /// As for `append_all`.
     fn append_overlapping<B: Allocator>(
         &self,
         range: &Self::Range,
@@ -150,8 +186,15 @@ pub trait Container: PartialEq + Drop {
         ensures err { OnErr result (out.new.items ≡ out.old.items) };
 
     /// Appends the parts of `outer_range` that no stored range covers, in order. Nothing is asked
-    /// of `outer_range`; the caller sees to it that a clone of a key compares equal to its
-    /// original, and `Err` says what it says of `append_all`.
+    /// of `outer_range`.
+    ///
+    /// # Requires
+    ///
+    /// A clone of a key compares equal to its original.
+    ///
+    /// # Errors
+    ///
+    /// As for `append_all`.
     fn append_gaps<B: Allocator>(
         &self,
         outer_range: &Self::Range,
@@ -161,7 +204,7 @@ pub trait Container: PartialEq + Drop {
         ensures ok { OnOk result (AppendsGaps Self.Kind.kind (map (λ pair. pair.0) (pairs self.now)) outer_range.now out.old.items out.new.items) }
         ensures err { OnErr result (out.new.items ≡ out.old.items) };
 
-    /// Maps are equal where their pairs are.
+    /// Containers are equal where their pairs are.
     ghost equal: { (left right : Self) → Self.eq left right ≡ same_pairs Self.Kind.kind Self.Value.eq (pairs left) (pairs right) };
 }
 
@@ -175,7 +218,7 @@ pub trait Container: PartialEq + Drop {
 ///
 /// # Errors
 ///
-/// `Err` says that the memory of the vector, or a clone of a key, was refused.
+/// The memory of the vector, or a clone of a key, was refused.
 pub fn collect_gaps<M: Container, B: Allocator>(
     alloc: B,
     stored: &M,

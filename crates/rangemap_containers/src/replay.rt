@@ -14,7 +14,7 @@ use std::alloc::AllocError;
 
 mod changes;
 
-pub use changes::add;
+pub use changes::push_made;
 
 /// A call on a list of containers of type `M`.
 pub trait CallOn<M: Container>: Drop {

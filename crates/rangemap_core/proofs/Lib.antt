@@ -29,4 +29,5 @@ pub mod UnitValueLemmas
 pub mod SetLemmas
 pub mod IncomingRangeLemmas
 pub mod HandedLemmas
+pub mod MadeRangeLemmas
 pub mod MetLemmas

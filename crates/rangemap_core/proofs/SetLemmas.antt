@@ -84,6 +84,10 @@ module _ {K X : Type 0} (k : RangeKind K X) where
       by rest true = refl
       by rest false = rest
 
+  pub count_with : (rs : List X) → length (with_unit k rs) ≡ length rs
+  count_with [] = refl
+  count_with (r ∷ rs) = ap (λ n. suc n) (count_with rs)
+
   pub met_count : (rs : List X) (q : X) → length (overlapped k (with_unit k rs) q) ≡ length (met k rs q)
   met_count [] q = refl
   met_count (r ∷ rs) q = by (met_count rs q) (k.meets q r)

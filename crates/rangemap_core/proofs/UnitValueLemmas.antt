@@ -2,7 +2,7 @@
 use Rattle.std.proofs.Common.{◌≡◌, Bool, true, false, not, ◌&&◌, ◌||◌, cond, List, [], ◌∷◌, ◌++◌, Option, Some, None, option_map, is_some, refl, sym, ap, subst, ◌∙◌, true≢false}
 use Rattle.std.specs.Bool.{⊤}
 use Rattle.std.specs.Option.{option_eq}
-use Rattle.rangemap_core.specs.Ranges.{RangeKind, IsCanonical, IsCanonOf, IsCanonOfPoints, covering, covers, erase, overlapped, override, unit_eq, value_at, with_unit}
+use Rattle.rangemap_core.specs.Ranges.{RangeKind, IsCanonical, IsCanonOf, IsCanonOfPoints, IsNewest, covering, covers, erase, overlapped, override, unit_eq, value_at, with_unit}
 use Rattle.rangemap_core.specs.Sets.{Adds, IsCanonicalSet, TakesOut, met, range_at, ranges}
 
 module _ {K X : Type 0} (k : RangeKind K X) where
@@ -64,6 +64,15 @@ module _ {K X : Type 0} (k : RangeKind K X) where
   same_option None (Some v) h = absurd (true≢false (sym h))
   same_option (Some v) None h = absurd (true≢false h)
   same_option (Some v) (Some w) h = refl
+
+  -- any value that says nothing is the newest one
+  pub newest_unit : (r : X) (v : ⊤) (f : K → Option ⊤) (ps : List (X × ⊤)) → IsCanonOf k (unit_eq k) (override k f r v) ps → IsNewest k r v ps
+  newest_unit r v f ps h x key held = by (value_at k ps x) (k.holds r x) held (h.represents x key)
+    where
+      by : (o : Option ⊤) (b : Bool) → b ≡ true → option_eq (unit_eq k) o (cond b (Some v) (f x)) ≡ true → o ≡ Some v
+      by o false held same = absurd (true≢false (sym held))
+      by None true held same = absurd (true≢false (sym same))
+      by (Some w) true held same = refl
 
   pub points_of : (f : K → Option ⊤) (test : K → Bool) (ps : List (X × ⊤)) → ((x : K) → k.is_key x → is_some (f x) ≡ test x) → IsCanonOf k (unit_eq k) f ps → IsCanonOfPoints k test (ranges ps)
   points_of f test ps same h = record {

@@ -23,7 +23,7 @@ use std::marker::{Model, PhantomData};
 pub struct Gaps<'a, Q: Kind<R>, R: KeyRange, C: Cursor<Range = R>> {
     // Where the next gap may start: with the outer range, or behind the last stored range.
     from: Endpoint<'a, R>,
-    // The range up to which a gap was to go whose clones were refused, and the pairs behind it.
+    // The pair in front of which a gap was refused, to be asked for again.
     refused: Option<(C::Given, C::GivenValue)>,
     pairs: C,
     outer_range: &'a R,
@@ -110,15 +110,12 @@ impl<'a, Q: Kind<R>, R: KeyRange + 'a, C: LentCursor<'a, R, GivenValue: Drop>> I
     /// Returns the next gap, made of clones. Where a clone was refused it says so once, as
     /// `Some(Err(AllocError))`, and has ended then.
     fn next(&mut self) -> Option<Result<R, AllocError>> {
-        match self.try_next() {
-            Ok(None) => None,
-            Ok(Some(gap)) => Some(Ok(gap)),
-            Err(error) => {
-                // A refusal is the last answer.
-                self.is_done = true;
-                Some(Err(error))
-            }
+        let gap = self.try_next();
+        if gap.is_err() {
+            // A refusal is the last answer.
+            self.is_done = true;
         }
+        gap.transpose()
     }
 
     fn size_hint(&self) -> (usize, Option<usize>)
@@ -146,6 +143,10 @@ where
 }
 
 /// Appends the gaps that pairs leave in `outer_range`, where they are those that overlap it.
+///
+/// # Requires
+///
+/// A clone of a key compares equal to its original.
 ///
 /// # Errors
 ///

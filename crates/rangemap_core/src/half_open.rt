@@ -73,6 +73,7 @@ impl<K: Ord + Clone> Kind<Range<K>> for HalfOpen {
     }
 }
 
+// The key at which the endpoint lies.
 fn key_at<'a, K>(endpoint: Endpoint<'a, Range<K>>) -> &'a K
     ensures { result.now ≡ half_open_key (endpoint_of endpoint.entry) }
 {

@@ -30,7 +30,7 @@ pub trait KeyRange: Drop {
     /// What a text has between the ends.
     ghost dots: { List ℕ };
 
-    /// Returns it.
+    /// Returns what a text has between the ends: `..` or `..=`.
     fn dots() -> &'static str
         ensures { result.now ≡ dots };
 

@@ -52,7 +52,7 @@ pub trait Kind<R: KeyRange> {
     fn known(key: &R::Key)
         ensures { kind.is_key key.now };
 
-    /// Returns how the first range lies to the second: the touch test of `std_ext` for the kind.
+    /// Returns how the first range lies relative to the second: the touch test of `std_ext` for the kind.
     fn touch_test(first: &R, second: &R) -> Touch
         ensures { IsTouch kind first.now second.now result };
 
@@ -60,7 +60,15 @@ pub trait Kind<R: KeyRange> {
     fn is_before(from: Endpoint<'_, R>, to: Endpoint<'_, R>) -> bool
         ensures { result ≡ is_before kind end_place (endpoint_of from.entry) (endpoint_of to.entry) };
 
-    /// Returns that part, where it has a key. `Err` says that a clone was refused.
+    /// Returns that part, which has a key, made of clones.
+    ///
+    /// # Requires
+    ///
+    /// The part has a key, and a clone of a key compares equal to its original.
+    ///
+    /// # Errors
+    ///
+    /// A clone was refused, which those of numbers, characters and references never are.
     fn part(from: Endpoint<'_, R>, to: Endpoint<'_, R>) -> Result<R, AllocError>
         requires is_before { is_before kind end_place (endpoint_of from) (endpoint_of to) ≡ true }
         requires faithful_keys { KeysCloneFaithfully R.Key.is_clone R.Key.cmp }

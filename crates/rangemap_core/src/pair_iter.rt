@@ -14,7 +14,7 @@ use std::marker::Model;
 #[derive(Drop)]
 pub struct PairIter<C: Cursor> {
     cursor: C,
-    // How many pairs that are.
+    // How many are left.
     len: usize,
 }
 
@@ -29,7 +29,7 @@ impl<C: Cursor> Model for PairIter<C> {
 }
 
 impl<C: Cursor> PairIter<C> {
-    /// Returns the pairs of a cursor, which are so many.
+    /// Returns the pairs of a cursor, of which there are `len`.
     pub fn over(cursor: C, len: usize) -> Self
         requires { len ≡ length (C.left cursor) }
         ensures { result ≡ C.left cursor }
@@ -85,8 +85,8 @@ impl<C: Cursor> ExactSizeIterator for PairIter<C> {
     }
 }
 
-/// The pairs of a map that overlap a range and are still to come, in order and from both ends. How
-/// many these are it does not know.
+/// The pairs of a map that overlap a range and are still to come, in order and from both ends. It does
+/// not count them.
 #[derive(Drop)]
 pub struct OverlappingPairs<C: Cursor> {
     cursor: C,

@@ -28,6 +28,10 @@ pub fn is_same<Q: Kind<R>, R: KeyRange, V: Eq>(
 
 /// Returns the same pair, cloned: two clones of a key and one of the value.
 ///
+/// # Requires
+///
+/// The range may be stored, and a clone of a key or value compares equal to its original.
+///
 /// # Errors
 ///
 /// A clone was refused.
@@ -46,6 +50,10 @@ pub fn clone_pair<Q: Kind<R>, R: KeyRange, V: Eq + Clone>(
 }
 
 /// Returns what lies between two endpoints, with the value, if a key does: all made of clones.
+///
+/// # Requires
+///
+/// The ends of the ranges are keys, and a clone of a key or value compares equal to its original.
 ///
 /// # Errors
 ///

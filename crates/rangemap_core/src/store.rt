@@ -85,6 +85,10 @@ pub trait Store {
     /// Appends the parts of `outer_range` that no stored range covers, in order. Nothing is asked of
     /// `outer_range`.
     ///
+    /// # Requires
+    ///
+    /// A clone of a key compares equal to its original.
+    ///
     /// # Errors
     ///
     /// A clone of a key, or the growth of `out`, was refused: then `out` is as it was.
@@ -109,6 +113,10 @@ pub trait StoreMut: Store {
 
     /// Gives every key of `range` the `value`, whatever it had before.
     ///
+    /// # Requires
+    ///
+    /// The range is not empty, and a clone of a key or value compares equal to its original.
+    ///
     /// # Errors
     ///
     /// Memory, or a clone of a key or value, was refused: then the store is as it was.
@@ -122,12 +130,16 @@ pub trait StoreMut: Store {
         ensures growth { OnOk result (length (Self.pairs self.new) ≤ length (Self.pairs self.old) + 2) }
         ensures growth_where_all_are_equal { OnOk result (((v w : Self.Value) → Self.Value.eq v w ≡ true) → length (Self.pairs self.new) ≤ length (Self.pairs self.old) + 1) };
 
-    /// Takes every key of `range` out. Where no stored range overlaps it, the call takes no memory,
-    /// succeeds and changes nothing.
+    /// Takes every key of `range` out.
+    ///
+    /// # Requires
+    ///
+    /// What `insert` does.
     ///
     /// # Errors
     ///
-    /// As for `insert`.
+    /// As for `insert`. Where no stored range overlaps the given one, the call takes no memory,
+    /// succeeds and changes nothing.
     fn remove(&mut self, range: Self::Range) -> Result<(), AllocError>
         requires non_empty { Self.Kind.kind.IsNonEmpty range }
         requires faithful_keys { KeysCloneFaithfully Self.Range.Key.is_clone Self.Range.Key.cmp }
@@ -141,8 +153,12 @@ pub trait StoreMut: Store {
     fn clear(&mut self)
         ensures { Self.pairs self.new ≡ [] };
 
-    /// Makes an equal store out of clones, in memory of `alloc`, which is a clone of this store's own
-    /// allocator. A store that is cloned whole, as a tree is, may make clones of its own besides.
+    /// Makes an equal store out of clones, in memory of `alloc`, a clone of this store's own allocator,
+    /// or of further clones of it: a tree is cloned whole, and each chunk owns a handle.
+    ///
+    /// # Requires
+    ///
+    /// A clone of a key or value compares equal to its original.
     ///
     /// # Errors
     ///

@@ -13,7 +13,7 @@ use rangemap_core::store::Store;
 use std::cmp::Ordering;
 use std::marker::PhantomData;
 
-/// Returns whether two stores hold equal pairs. It compares their numbers first, and stops at the
+/// Returns whether two stores hold equal pairs. It compares how many they hold first, and stops at the
 /// first two pairs that differ.
 pub fn are_same<S: Store>(left: &S, right: &S) -> bool
     ensures { result ≡ same_pairs S.Kind.kind S.Value.eq (S.pairs left.now) (S.pairs right.now) }
@@ -21,8 +21,7 @@ pub fn are_same<S: Store>(left: &S, right: &S) -> bool
     left.len() == right.len() && left.read_both::<Same<S::Kind>>(right, &mut ())
 }
 
-/// Returns how two stores lie to one another: by the first two pairs that differ, else by how many
-/// pairs they hold.
+/// Compares two stores: by the first two pairs that differ, else by how many pairs they hold.
 pub fn compare<S: Store<Value: Ord>>(left: &S, right: &S) -> Ordering
     ensures { result ≡ pairs_cmp S.Kind.kind S.Value.cmp (S.pairs left.now) (S.pairs right.now) }
 {
@@ -58,7 +57,7 @@ impl<Q: Kind<R>, R: KeyRange, V: Eq> ReaderOfBoth<R, V> for Same<Q> {
     }
 }
 
-// Finds how the pairs of one lie to those of the other.
+// Compares the pairs of one with those of the other.
 struct Compared<Q>(PhantomData<Q>);
 
 impl<Q: Kind<R>, R: KeyRange, V: Ord> ReaderOfBoth<R, V> for Compared<Q> {
@@ -92,8 +91,8 @@ impl<Q: Kind<R>, R: KeyRange, V: Ord> ReaderOfBoth<R, V> for Compared<Q> {
     }
 }
 
-// How two pairs lie to one another: by the starts, where these are equal by the ends, and where the
-// ranges are equal by the values.
+// Compares two pairs: by the starts, where these are equal by the ends, and where the ranges are equal
+// by the values.
 fn compare_pairs<Q: Kind<R>, R: KeyRange, V: Ord>(
     range: &R,
     value: &V,

@@ -135,6 +135,7 @@ impl<'a, T: PairText<R, V>, R, V> Debug for Written<'a, T, R, V> {
     }
 }
 
+// Writes the pairs in braces.
 fn write_all<T: PairText<S::Range, S::Value>, S: Store, W: fmt::Write>(
     stored: &S,
     f: &mut Formatter<W>,
@@ -190,6 +191,7 @@ fn write_others<
     Ok(())
 }
 
+// Writes the start, the dots and the end.
 fn write_range<Q: Kind<R>, R: KeyRange, W: fmt::Write>(
     range: &R,
     f: &mut Formatter<W>,

@@ -18,7 +18,7 @@ use Rattle.rangemap_laws.specs.declared.commands.command.Answer.{Answer}
 use Rattle.rangemap_laws.specs.declared.commands.command.Answer.TheVariants as answer
 use Rattle.rangemap_laws.specs.declared.commands.command.Command.{Command}
 use Rattle.rangemap_laws.specs.declared.commands.command.Command.TheVariants.{Insert, Remove, Clear, Len, Get, GetKeyValue, All, Overlapping}
-use Rattle.rangemap_laws.specs.Runs.{Accepts, CommandStep, IsAllowed, IsSameAnswer, IsSameResult, Ran}
+use Rattle.rangemap_laws.specs.Runs.{IsAccepted, CommandStep, IsAllowed, IsSameAnswer, IsSameResult, Ran}
 
 -- one more command
 pub Ran-last : {S C R : Type 0} (step : S → C → R → S → Type 0) (old mid new : S) (commands : List C) (answers : List R) (command : C) (given : R)
@@ -103,7 +103,7 @@ module _ {K X V : Type 0} (k : RangeKind K X) {end_place : X → Option K} {part
 
     -- one command
     accepted_alike : (command : Command K X V) (one other new after : List (X × V)) (given : Answer X V A) (reply : Answer X V B) → IsAllowed k command → AreEqual one other
-        → Accepts k eq one command given new → Accepts k eq other command reply after → IsSameAnswer k eq given reply × AreEqual new after
+        → IsAccepted k eq one command given new → IsAccepted k eq other command reply after → IsSameAnswer k eq given reply × AreEqual new after
     accepted_alike (Insert range value) one other new after given reply allowed h n a =
         let before = alike_from_same k p eq e one other h.0 h.1 h.2 in (
           named given reply answer.Done answer.Done n.0 a.0 tt,
@@ -127,17 +127,17 @@ module _ {K X V : Type 0} (k : RangeKind K X) {end_place : X → Option K} {part
     accepted_alike (GetKeyValue key) one other new after given reply allowed h n a = (
       named given reply (answer.Pair n.0) (answer.Pair a.0) n.1 a.1
           (joined (options_equiv pair_equiv) (covering k one key) n.0 (covering k other key) a.0 n.2 (same_covering key allowed one other h.0 h.1 h.2) a.2),
-      unchanged one other new after h n.3 a.3,
+      unchanged one other new after h n.4 a.4,
     )
     accepted_alike All one other new after given reply allowed h n a = (
       named given reply (answer.Pairs n.0) (answer.Pairs a.0) n.1 a.1 (joined (same_pairs_equiv k p.total e) one n.0.items other a.0.items n.2 h.2 a.2),
-      unchanged one other new after h n.3 a.3,
+      unchanged one other new after h n.4 a.4,
     )
     accepted_alike (Overlapping query) one other new after given reply allowed h n a =
         let ends_are_keys : IsAsked k query = record { start_is_key = allowed.0; end_is_key = allowed.1 } in (
           named given reply (answer.Pairs n.0) (answer.Pairs a.0) n.1 a.1
               (joined (same_pairs_equiv k p.total e) (overlapped k one query) n.0.items (overlapped k other query) a.0.items n.2 (same_overlapped query ends_are_keys one other h.0 h.1 h.2) a.2),
-          unchanged one other new after h n.3 a.3,
+          unchanged one other new after h n.4 a.4,
         )
 
     -- commands, one after another, all of which are accepted

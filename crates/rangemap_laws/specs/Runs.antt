@@ -1,12 +1,12 @@
 -- What commands on a map answer, and what they make of its pairs.
-use Rattle.std.specs.Prelude.{◌≡◌, ◌≢◌, ⊤, Bool, true, List, [], ◌∷◌, length, Option, None, Result, Ok, Err, Vec}
+use Rattle.std.specs.Prelude.{◌≡◌, ◌≢◌, ⊤, IfSome, Bool, true, List, [], ◌∷◌, length, Option, None, Result, Ok, Err, Vec}
 use Rattle.std.specs.Option.{option_eq}
 use Rattle.std.specs.declared.alloc.AllocError.{AllocError}
 use Rattle.rangemap_laws.specs.declared.commands.command.Answer.{Answer}
 use Rattle.rangemap_laws.specs.declared.commands.command.Answer.TheVariants as answer
 use Rattle.rangemap_laws.specs.declared.commands.command.Command.{Command}
 use Rattle.rangemap_laws.specs.declared.commands.command.Command.TheVariants.{Insert, Remove, Clear, Len, Get, GetKeyValue, All, Overlapping}
-use Rattle.rangemap_core.specs.Ranges.{RangeKind, IsCanonOf, covering, erase, overlapped, override, same_pair, same_pairs, value_at}
+use Rattle.rangemap_core.specs.Ranges.{RangeKind, AreStorable, IsCanonOf, IsStorable, covering, erase, overlapped, override, same_pair, same_pairs, value_at}
 
 -- The range that a command changes is not empty. A key that it asks about is one, and so are the ends of a range that it asks about.
 abbrev pub IsAllowed : {K X V : Type 0} → RangeKind K X → Command K X V → Type 0
@@ -21,32 +21,32 @@ IsAllowed k (Overlapping query) = k.is_key (k.start query) × k.is_key (k.end qu
 
 module _ {K X V : Type 0} (k : RangeKind K X) (eq : V → V → Bool) where
   -- A command was accepted on a map of the pairs `old`, answered, and left the pairs `new`. What it asked for it answers up to
-  -- equality, and then nothing changed.
-  abbrev pub Accepts : {A : Type 0} → List (X × V) → Command K X V → Answer X V A → List (X × V) → Type 0
-  Accepts old (Insert range value) given new = (given ≡ answer.Done) × IsCanonOf k eq (override k (value_at k old) range value) new
-  Accepts old (Remove range) given new = (given ≡ answer.Done) × IsCanonOf k eq (erase k (value_at k old) range) new
-  Accepts old Clear given new = (given ≡ answer.Done) × (new ≡ [])
-  Accepts old Len given new = (given ≡ answer.Len (length old)) × (new ≡ old)
-  Accepts old (Get key) given new = (value : Option V) × (given ≡ answer.Value value) × (option_eq eq (value_at k old key) value ≡ true) × (new ≡ old)
-  Accepts old (GetKeyValue key) given new = (pair : Option (X × V)) × (given ≡ answer.Pair pair) × (option_eq (same_pair k eq) (covering k old key) pair ≡ true) × (new ≡ old)
-  Accepts {A} old All given new = (pairs : Vec (X × V) A) × (given ≡ answer.Pairs pairs) × (same_pairs k eq old pairs.items ≡ true) × (new ≡ old)
-  Accepts {A} old (Overlapping query) given new = (pairs : Vec (X × V) A) × (given ≡ answer.Pairs pairs) × (same_pairs k eq (overlapped k old query) pairs.items ≡ true) × (new ≡ old)
+  -- equality, in ranges that may be stored again, and then nothing changed.
+  abbrev pub IsAccepted : {A : Type 0} → List (X × V) → Command K X V → Answer X V A → List (X × V) → Type 0
+  IsAccepted old (Insert range value) given new = (given ≡ answer.Done) × IsCanonOf k eq (override k (value_at k old) range value) new
+  IsAccepted old (Remove range) given new = (given ≡ answer.Done) × IsCanonOf k eq (erase k (value_at k old) range) new
+  IsAccepted old Clear given new = (given ≡ answer.Done) × (new ≡ [])
+  IsAccepted old Len given new = (given ≡ answer.Len (length old)) × (new ≡ old)
+  IsAccepted old (Get key) given new = (value : Option V) × (given ≡ answer.Value value) × (option_eq eq (value_at k old key) value ≡ true) × (new ≡ old)
+  IsAccepted old (GetKeyValue key) given new = (pair : Option (X × V)) × (given ≡ answer.Pair pair) × (option_eq (same_pair k eq) (covering k old key) pair ≡ true) × IfSome pair (λ p. IsStorable k p.0) × (new ≡ old)
+  IsAccepted {A} old All given new = (pairs : Vec (X × V) A) × (given ≡ answer.Pairs pairs) × (same_pairs k eq old pairs.items ≡ true) × AreStorable k pairs.items × (new ≡ old)
+  IsAccepted {A} old (Overlapping query) given new = (pairs : Vec (X × V) A) × (given ≡ answer.Pairs pairs) × (same_pairs k eq (overlapped k old query) pairs.items ≡ true) × AreStorable k pairs.items × (new ≡ old)
 
 -- A command was refused, and nothing changed. What takes no memory is never refused, nor is what asks of a key that no range has.
-abbrev pub Refuses : {K X V : Type 0} → RangeKind K X → List (X × V) → Command K X V → List (X × V) → Type 0
-Refuses k old (Insert range value) new = new ≡ old
-Refuses k old (Remove range) new = (new ≡ old) × (overlapped k old range ≢ [])
-Refuses k old Clear new = ⊥
-Refuses k old Len new = ⊥
-Refuses k old (Get key) new = (new ≡ old) × (covering k old key ≢ None)
-Refuses k old (GetKeyValue key) new = (new ≡ old) × (covering k old key ≢ None)
-Refuses k old All new = new ≡ old
-Refuses k old (Overlapping query) new = new ≡ old
+abbrev pub IsRefused : {K X V : Type 0} → RangeKind K X → List (X × V) → Command K X V → List (X × V) → Type 0
+IsRefused k old (Insert range value) new = new ≡ old
+IsRefused k old (Remove range) new = (new ≡ old) × (overlapped k old range ≢ [])
+IsRefused k old Clear new = ⊥
+IsRefused k old Len new = ⊥
+IsRefused k old (Get key) new = (new ≡ old) × (covering k old key ≢ None)
+IsRefused k old (GetKeyValue key) new = (new ≡ old) × (covering k old key ≢ None)
+IsRefused k old All new = new ≡ old
+IsRefused k old (Overlapping query) new = new ≡ old
 
 -- what one command answers and makes
 abbrev pub CommandStep : {K X V A : Type 0} → RangeKind K X → (V → V → Bool) → List (X × V) → Command K X V → Result (Answer X V A) AllocError → List (X × V) → Type 0
-CommandStep k eq old command (Ok given) new = Accepts k eq old command given new
-CommandStep k eq old command (Err e) new = Refuses k old command new
+CommandStep k eq old command (Ok given) new = IsAccepted k eq old command given new
+CommandStep k eq old command (Err e) new = IsRefused k old command new
 
 -- `step` says what one command answers and makes; this says it of commands in turn, with an answer each
 abbrev pub Ran : {S C R : Type 0} → (S → C → R → S → Type 0) → S → List C → List R → S → Type 0

@@ -2,7 +2,8 @@
 //!
 //! A function here that takes containers makes the calls that its law speaks of, and its contract
 //! says what they leave; one that takes nothing states a fact about lists of ranges. It serves
-//! every map and every set of the library: what they are to it is said by `Container`.
+//! every map and every set of the library: what they are to it is said by `Container`. No range that
+//! is inserted or removed is empty, and clones are faithful, as for `insert`.
 //!
 //! A law holds where all of its calls are accepted. `Err(AllocError)` says that one was refused. A
 //! law of one call says that nothing changed then. A law of more leaves open what the containers
@@ -43,7 +44,7 @@ pub fn lists_are_unique<Q: Kind<R>, R: KeyRange, V: Eq>()
         ↔ Alike Q.kind V.eq (value_at Q.kind left) (value_at Q.kind right)) }
 {}
 
-/// Two maps are equal exactly when they give alike answers at every key. The answers are those of
+/// Two containers are equal exactly when they give alike answers at every key. The answers are those of
 /// `==` and `!=`.
 pub fn equal_exactly_when_alike<M: Container>(left: &M, right: &M) -> (bool, bool)
     ensures answer { result.0 ≡ M.eq left.now right.now }

@@ -33,9 +33,13 @@ mod text;
 /// | `overlapping` | *O*(log *n*), and *O*(*k*) for all items | none |
 /// | `gaps` | *O*(log *n*), and *O*(*k*) for all items | clones for a gap |
 /// | `insert`, `remove` | by the store | growth, clones |
-/// | `extend`, `from_iter`, `from` | that of an `insert` for each item | growth, clones |
+/// | `clear` | by the store | none |
+/// | `extend`, `from_iter`, `from`, `from_value` | that of an `insert` for each item | growth, clones |
 /// | `clone` | *O*(*n*) | growth, clones |
 /// | `==` | *O*(*n*), *O*(1) where the numbers differ | none |
+/// | `cmp` | *O*(min(*n*, *m*)), *m* of the other map | none |
+/// | `hash`, `{:?}` | *O*(*n*) | none |
+/// | `to_value` | *O*(*n*) | that of the value |
 #[derive(Drop)]
 pub struct Map<S: Store> {
     stored: S,
@@ -178,7 +182,8 @@ where
     /// also those that end or start just there, in order.
     ///
     /// Nothing is asked of `range`. An empty one strictly inside a stored range meets it, and so
-    /// does a reversed one whose ends lie inside.
+    /// does a reversed one both of whose ends lie strictly inside; of closed ranges a reversed one
+    /// meets it also where its ends are the stored ones.
     ///
     /// # Examples
     ///

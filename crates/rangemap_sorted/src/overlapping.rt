@@ -19,6 +19,14 @@ use rangemap_core::kind::{Endpoint, Kind, known_ends};
 use std::marker::Model;
 use std::ops::Range;
 
+// Up to how many pairs are looked at one by one for the end of a query. They lie side by side, and most
+// queries meet no more; a search looks at pairs that are far from each other.
+const QUERY_SCAN: usize = 16;
+
+// Up to how many pairs are looked at one by one for the end of what a change meets. It mostly meets no
+// more, and then a look at each is shorter than a search among all.
+const CHANGE_SCAN: usize = 4;
+
 /// The pairs that overlap a range, in order.
 ///
 /// One search finds the first of them, when this is made. `take_first` stops at the first pair that
@@ -147,10 +155,6 @@ pub fn overlapping_pairs<'a, Q: Kind<R>, R: KeyRange, V: Eq>(
     take_begun::<R, V>(overlapping_tail::<Q, R, V>(pairs, query), query)
 }
 
-// Up to how many pairs are looked at one by one for the end of a query. They lie side by side, and most
-// queries meet no more; a search looks at pairs that are far from each other.
-const ASKED: usize = 16;
-
 // The pairs that start before the query ends, where these come first.
 fn take_begun<'a, R: KeyRange, V>(pairs: &'a [(R, V)], query: &R) -> &'a [(R, V)]
     requires { IsPartitionedBy (is_begun R.read R.has_end query.now) pairs.now }
@@ -166,7 +170,7 @@ fn count_begun<R: KeyRange, V>(pairs: &[(R, V)], query: &R) -> usize
     ensures bound { result ≤ length pairs.now }
     ensures point { PassesUpTo (is_begun R.read R.has_end query.now) pairs.now result }
 {
-    if ASKED < pairs.len() && query.reaches(pairs[ASKED].0.start()) {
+    if QUERY_SCAN < pairs.len() && query.reaches(pairs[QUERY_SCAN].0.start()) {
         return pairs.partition_point(|pair| query.reaches(pair.0.start()));
     }
     let mut at = 0;
@@ -210,10 +214,6 @@ fn overlap_start<Q: Kind<R>, R: KeyRange, V: Eq>(pairs: &[(R, V)], query: &R) ->
     near - usize::from(reaches)
 }
 
-// Up to how many pairs are looked at one by one for the end of an overlap. A change mostly meets no
-// more, and then a look at each is shorter than a search among all.
-const LOOKED_AT: usize = 4;
-
 // How far on from a place the pairs start before the query ends.
 fn overlap_end<Q: Kind<R>, R: KeyRange, V: Eq>(pairs: &[(R, V)], query: &R, start: usize) -> usize
     requires canonical { IsCanonical Q.kind V.eq pairs.now }
@@ -221,8 +221,8 @@ fn overlap_end<Q: Kind<R>, R: KeyRange, V: Eq>(pairs: &[(R, V)], query: &R, star
     ensures { IsOverlapEnd (shape_of Q.kind Q.end_place V.eq) pairs.now query.now start result }
 {
     let end = Endpoint::End(query);
-    if LOOKED_AT < pairs.len() - start
-        && Q::is_before(Endpoint::Start(&pairs[start + LOOKED_AT].0), end)
+    if CHANGE_SCAN < pairs.len() - start
+        && Q::is_before(Endpoint::Start(&pairs[start + CHANGE_SCAN].0), end)
     {
         return searched_end::<Q, R, V>(pairs, query, start);
     }

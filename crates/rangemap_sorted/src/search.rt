@@ -67,7 +67,7 @@ pub fn count_up_to<'a, Q: Kind<R>, R: KeyRange + 'a, V>(
     base
 }
 
-// The start is not after the key.
+// Whether the start is not after the key.
 #[inline(always)]
 fn is_up_to<Q: Kind<R>, R: KeyRange>(start: &R::Key, key: &R::Key) -> bool
     ensures { result ≡ is_up_to Q.kind.cmp key.now start.now }

@@ -43,8 +43,8 @@ impl<K: Ord, V, A: Allocator> Model for ByStart<K, V, A> {
 }
 
 impl<K: Ord, V, A: Allocator> ByStart<K, V, A> {
-    /// Returns no pairs.
-    pub fn new(alloc: A) -> Self
+    /// Returns the tree without pairs, whose memory comes from `alloc`. It takes none yet.
+    pub fn empty(alloc: A) -> Self
         ensures { result ≡ [] }
     {
         ByStart { tree: None, alloc }
@@ -75,8 +75,8 @@ impl<K: Ord, V, A: Allocator> ByStart<K, V, A> {
         }
     }
 
-    /// Returns the pairs, in order, handed over.
-    pub fn into_iter(self) -> IntoIter<K, V, A>
+    /// Hands the pairs over, in order.
+    pub fn into_pairs(self) -> IntoIter<K, V, A>
         ensures { result ≡ self }
     {
         let ByStart { tree, alloc: _ } = self;
@@ -121,13 +121,14 @@ impl<K: Ord, V, A: Allocator> ByStart<K, V, A> {
 }
 
 impl<K: Ord + Clone, V: Clone, A: Allocator + Clone> ByStart<K, V, A> {
-    /// Returns the same pairs, cloned. The tree's own memory comes from a clone of this one's
-    /// allocator, and what later changes take from `alloc`.
+    /// Returns the same pairs, cloned. The tree's memory, now and as it grows, comes from a clone of this
+    /// one's allocator; the lists of keys that changes make, and a tree that is made after `clear`, take
+    /// theirs from `alloc`.
     ///
     /// # Errors
     ///
     /// The memory of the tree, or a clone of the allocator, of a key or of a value, was refused.
-    pub fn clone(&self, alloc: A) -> Result<Self, AllocError>
+    pub fn copy(&self, alloc: A) -> Result<Self, AllocError>
         requires { KeysCloneFaithfully K.is_clone K.cmp }
         ensures { IfOk result (λ copy. AreClones K.is_clone V.is_clone self.now copy) }
     {

@@ -10,6 +10,7 @@ ghost use Rattle.rangemap_tree.specs.Starts.{AreStarts, before, from, past, up_t
 ghost use Rattle.std.specs.Option.{unwrap_or};
 
 use crate::by_start::ByStart;
+use crate::pieces::{piece_behind, range_before};
 use std::alloc::{AllocError, Allocator};
 use std::ops::{Bound, Range};
 
@@ -61,8 +62,9 @@ pub fn insert<K: Ord + Clone, V: Eq + Clone, A: Allocator + Clone>(
     pairs.replace(key, middle, value, left.cut, right.piece, starts.as_slice())
 }
 
-// Of the pairs that start before the new range only the last can reach it. `near` is the last that
-// starts no later than its end.
+// Returns what becomes of the pair that the new range meets at its start. Of the pairs that start
+// before it only the last can reach it. `near` is the last that starts no later than the new range
+// ends.
 fn left_side<K: Ord + Clone, V: Eq, A: Allocator + Clone>(
     pairs: &ByStart<K, V, A>,
     near: Option<(&Range<K>, &V)>,
@@ -93,7 +95,7 @@ fn left_side<K: Ord + Clone, V: Eq, A: Allocator + Clone>(
         });
     }
     if reach.is_gt() {
-        let rest = first.start.clone()?..range.start.clone()?;
+        let rest = range_before(first, range)?;
         return Ok(Left {
             start: None,
             cut: Some(rest),
@@ -103,7 +105,7 @@ fn left_side<K: Ord + Clone, V: Eq, A: Allocator + Clone>(
 }
 
 // The last pair that starts before the range, where `near` is the last that starts no later than
-// its end. Mostly that is the one, and then the tree is not searched.
+// the range ends. Mostly that is the one, and then the tree is not searched.
 fn last_before<'a, K: Ord, V: Eq, A: Allocator>(
     pairs: &'a ByStart<K, V, A>,
     near: Option<(&'a Range<K>, &'a V)>,
@@ -122,8 +124,8 @@ fn last_before<'a, K: Ord, V: Eq, A: Allocator>(
     }
 }
 
-// Of the pairs that start no later than the end of the new range only the last, `near`, can reach
-// past it.
+// Returns what becomes of the pair that the new range meets at its end. Of the pairs that start no
+// later than the new range ends only the last, `near`, can reach past it.
 fn right_side<K: Ord + Clone, V: Eq + Clone, A: Allocator + Clone>(
     pairs: &ByStart<K, V, A>,
     near: Option<(&Range<K>, &V)>,
@@ -154,12 +156,10 @@ fn right_side<K: Ord + Clone, V: Eq + Clone, A: Allocator + Clone>(
         });
     }
     if last.start.cmp(&range.end).is_lt() {
-        let rest = range.end.clone()?..last.end.clone()?;
-        let key = range.end.clone()?;
-        let rest_value = last_value.clone()?;
+        let rest = piece_behind(range, last, last_value)?;
         return Ok(Right {
             end: None,
-            piece: Some((key, (rest, rest_value))),
+            piece: Some(rest),
         });
     }
     Ok(neither)

@@ -11,6 +11,7 @@ mod insert;
 pub mod into_iter;
 mod overlapping;
 pub mod pairs;
+mod pieces;
 mod remove;
 mod tree;
 

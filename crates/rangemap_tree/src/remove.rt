@@ -6,6 +6,7 @@ ghost use Rattle.rangemap_tree.specs.Sides.{IsLeftCut, IsRightCut};
 ghost use Rattle.rangemap_tree.specs.Starts.{before};
 
 use crate::by_start::ByStart;
+use crate::pieces::{piece_behind, range_before};
 use std::alloc::{AllocError, Allocator};
 use std::ops::{Bound, Range};
 
@@ -56,7 +57,7 @@ fn left_rest<K: Ord + Clone, V: Eq, A: Allocator + Clone>(
     if first.end.cmp(&range.start).is_le() {
         return Ok(None);
     }
-    let rest = first.start.clone()?..range.start.clone()?;
+    let rest = range_before(first, range)?;
     Ok(Some(rest))
 }
 
@@ -78,8 +79,6 @@ fn right_rest<K: Ord + Clone, V: Eq + Clone, A: Allocator + Clone>(
     if last.end.cmp(&range.end).is_le() {
         return Ok(None);
     }
-    let rest = range.end.clone()?..last.end.clone()?;
-    let key = range.end.clone()?;
-    let rest_value = last_value.clone()?;
-    Ok(Some((key, (rest, rest_value))))
+    let rest = piece_behind(range, last, last_value)?;
+    Ok(Some(rest))
 }

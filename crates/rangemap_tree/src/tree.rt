@@ -119,7 +119,7 @@ impl<K: Ord + Clone, V: Eq + Clone, A: Allocator + Clone> Store for Tree<K, V, A
 impl<K: Ord + Clone, V: Eq + Clone, A: Allocator + Clone> StoreMut for Tree<K, V, A> {
     fn empty(alloc: A) -> Self {
         Tree {
-            pairs: ByStart::new(alloc),
+            pairs: ByStart::empty(alloc),
         }
     }
 
@@ -136,7 +136,7 @@ impl<K: Ord + Clone, V: Eq + Clone, A: Allocator + Clone> StoreMut for Tree<K, V
     }
 
     fn copy(&self, alloc: A) -> Result<Self, AllocError> {
-        let pairs = self.pairs.clone(alloc)?;
+        let pairs = self.pairs.copy(alloc)?;
         Ok(Tree { pairs })
     }
 }
@@ -148,7 +148,7 @@ impl<K: Ord + Clone, V: Eq + Clone, A: Allocator + Clone> HandsOver for Tree<K, 
 
     fn into_pairs(self) -> IntoIter<K, V, A> {
         let Tree { pairs } = self;
-        pairs.into_iter()
+        pairs.into_pairs()
     }
 
     ghost gives = { λ pair. refl };

@@ -5,7 +5,7 @@ use Rattle.std.proofs.Math.Bool.{or_assoc, or_comm}
 use Rattle.std.proofs.lemmas.List.Folds.{list_any-append, list_all-append}
 use Rattle.std.specs.List.{AllByRecursion, list_all, list_any}
 use Rattle.rangemap_core.specs.operations.PlaceLaws.{HasPlaces, lt_true}
-use Rattle.rangemap_unions.specs.Items.{reaches, later_end, merged, hulls, hulls_from, union_items}
+use Rattle.rangemap_unions.specs.Items.{reaches, later_end, merged, items_from, items_of, union_items}
 use Rattle.rangemap_core.specs.operations.Places.{RangePlaces}
 use Rattle.rangemap_core.specs.laws.Orders.{le_Less, le_Equal, lt_le, itself, not_lt}
 use Rattle.rangemap_core.specs.Ranges.{RangeKind, IsStorable, IsCanonical, unit_eq, with_unit}
@@ -180,34 +180,34 @@ module _ {K X P : Type 0} {k : RangeKind K X} {l : RangePlaces P X} {at cut : K 
           h.uncut x (subst (λ q. l.order q (cut x) ≡ Less) (p.between_start_place first last) (lt_true _ (and_first _ _ both))) (subst (λ q. l.order (cut x) q ≡ Less) (p.between_end_place first last) (lt_true _ (and_second _ _ both)));
     }
 
-    all_hulls : (first last : X) (rest : List X) (floor : P) → IsBegun first last → is_le (l.order (l.start_place first) floor) ≡ true → AreReady given (Some floor) rest → AllByRecursion (IsHull k given) (hulls_from l first last rest)
+    all_hulls : (first last : X) (rest : List X) (floor : P) → IsBegun first last → is_le (l.order (l.start_place first) floor) ≡ true → AreReady given (Some floor) rest → AllByRecursion (IsHull k given) (items_from l first last rest)
     all_hulls first last [] floor h from ready = (item_hull first last h, tt)
     all_hulls first last (r ∷ rest) floor h from ready = decided (AllByRecursion (IsHull k given)) (reaches l last r)
         (λ e. let above = le_le p _ _ _ from ready.2 in all_hulls first (later_end l last r) rest (l.start_place r) (extend first last r h ready.0 ready.1 above e) above ready.3)
         (λ e. (item_hull first last h, all_hulls r r rest (l.start_place r) (begin r ready.0 ready.1) (le_Equal (itself p.total (l.start_place r))) ready.3))
 
   -- an item before `first` lies before the items from there on
-  apart_from : (item first last : X) (rest : List X) → is_le (l.order (l.end_place item) (l.start_place first)) ≡ true → IsApartFrom k item (hulls_from l first last rest)
+  apart_from : (item first last : X) (rest : List X) → is_le (l.order (l.end_place item) (l.start_place first)) ≡ true → IsApartFrom k item (items_from l first last rest)
   apart_from item first last [] h = p.before_from item (l.between first last) (item_after first last (l.end_place item) h)
   apart_from item first last (r ∷ rest) h = decided (IsApartFrom k item) (reaches l last r)
       (λ _. apart_from item first (later_end l last r) rest h)
       (λ _. p.before_from item (l.between first last) (item_after first last (l.end_place item) h))
 
-  all_apart : (first last : X) (rest : List X) → AreApart k (hulls_from l first last rest)
+  all_apart : (first last : X) (rest : List X) → AreApart k (items_from l first last rest)
   all_apart first last [] = (tt, tt)
   all_apart first last (r ∷ rest) = decided (AreApart k) (reaches l last r)
       (λ _. all_apart first (later_end l last r) rest)
       (λ e. (apart_from (l.between first last) r r rest (item_before first last (l.start_place r) (unreached p last r e)), all_apart r r rest))
 
   -- a range within what is joined so far lies within an item
-  within_some : (first last x : X) (rest : List X) → is_le (l.order (l.start_place first) (l.start_place x)) ≡ true → is_le (l.order (l.end_place x) (l.end_place last)) ≡ true → list_any (λ item. is_within k item x) (hulls_from l first last rest) ≡ true
+  within_some : (first last x : X) (rest : List X) → is_le (l.order (l.start_place first) (l.start_place x)) ≡ true → is_le (l.order (l.end_place x) (l.end_place last)) ≡ true → list_any (λ item. is_within k item x) (items_from l first last rest) ≡ true
   within_some first last x [] up down = or_first (is_within k (l.between first last) x) false (item_within first last x up down)
   within_some first last x (r ∷ rest) up down = decided (λ items. list_any (λ item. is_within k item x) items ≡ true) (reaches l last r)
       (λ _. within_some first (later_end l last r) x rest up (le_le p _ _ _ down (later_first p last r)))
-      (λ _. or_first (is_within k (l.between first last) x) (list_any (λ item. is_within k item x) (hulls_from l r r rest)) (item_within first last x up down))
+      (λ _. or_first (is_within k (l.between first last) x) (list_any (λ item. is_within k item x) (items_from l r r rest)) (item_within first last x up down))
 
   all_within : (given : List X) (first last : X) (rest : List X) (floor : P) → is_le (l.order (l.start_place first) floor) ≡ true → AreReady given (Some floor) rest
-      → list_all (λ r. list_any (λ item. is_within k item r) (hulls_from l first last rest)) rest ≡ true
+      → list_all (λ r. list_any (λ item. is_within k item r) (items_from l first last rest)) rest ≡ true
   all_within given first last [] floor from ready = refl
   all_within given first last (r ∷ rest) floor from ready = decided (λ items. list_all (λ s. list_any (λ item. is_within k item s) items) (r ∷ rest) ≡ true) (reaches l last r)
       (λ _.
@@ -216,14 +216,14 @@ module _ {K X P : Type 0} {k : RangeKind K X} {l : RangePlaces P X} {at cut : K 
       (λ _.
       let same = le_Equal (itself p.total (l.start_place r)) in
       and_true
-      (or_second (is_within k (l.between first last) r) (list_any (λ item. is_within k item r) (hulls_from l r r rest)) (within_some r r r rest same (le_Equal (itself p.total (l.end_place r)))))
-      (list_all-map (λ s. list_any (λ item. is_within k item s) (hulls_from l r r rest)) (λ s. list_any (λ item. is_within k item s) (l.between first last ∷ hulls_from l r r rest))
-      (λ s h. or_second (is_within k (l.between first last) s) (list_any (λ item. is_within k item s) (hulls_from l r r rest)) h) rest (all_within given r r rest (l.start_place r) same ready.3)))
+      (or_second (is_within k (l.between first last) r) (list_any (λ item. is_within k item r) (items_from l r r rest)) (within_some r r r rest same (le_Equal (itself p.total (l.end_place r)))))
+      (list_all-map (λ s. list_any (λ item. is_within k item s) (items_from l r r rest)) (λ s. list_any (λ item. is_within k item s) (l.between first last ∷ items_from l r r rest))
+      (λ s h. or_second (is_within k (l.between first last) s) (list_any (λ item. is_within k item s) (items_from l r r rest)) h) rest (all_within given r r rest (l.start_place r) same ready.3)))
 
   -- ---- the theorem
 
   merged_hulls : (given rs : List X) → AreReady given None rs
-      → AreApart k (hulls l rs) × AllByRecursion (IsHull k given) (hulls l rs) × (list_all (λ r. list_any (λ item. is_within k item r) (hulls l rs)) rs ≡ true)
+      → AreApart k (items_of l rs) × AllByRecursion (IsHull k given) (items_of l rs) × (list_all (λ r. list_any (λ item. is_within k item r) (items_of l rs)) rs ≡ true)
   merged_hulls given [] ready = (tt, tt, refl)
   merged_hulls given (r ∷ rest) ready =
       let same = le_Equal (itself p.total (l.start_place r)) in (

@@ -33,19 +33,19 @@ module _ {P X : Type 0} (l : RangePlaces P X) where
   merged (p ∷ ps) qs = merged_from p (merged ps) qs
 
   -- an item that starts with `first` and ends with `last`, as far as what comes overlaps it, and the items behind it
-  abbrev pub hulls_from : X → X → List X → List X
-  hulls_from first last [] = l.between first last ∷ []
-  hulls_from first last (r ∷ rest) =
-      if reaches last r then hulls_from first (later_end last r) rest else l.between first last ∷ hulls_from r r rest
+  abbrev pub items_from : X → X → List X → List X
+  items_from first last [] = l.between first last ∷ []
+  items_from first last (r ∷ rest) =
+      if reaches last r then items_from first (later_end last r) rest else l.between first last ∷ items_from r r rest
 
   -- the items of ranges by their starts
-  abbrev pub hulls : List X → List X
-  hulls [] = []
-  hulls (r ∷ rest) = hulls_from r r rest
+  abbrev pub items_of : List X → List X
+  items_of [] = []
+  items_of (r ∷ rest) = items_from r r rest
 
   -- the items of a union
   abbrev pub union_items : List X → List X → List X
-  union_items ps qs = hulls (merged ps qs)
+  union_items ps qs = items_of (merged ps qs)
 
   -- ---- intersection
 

@@ -1,7 +1,7 @@
 -- Two lists of ranges merged step by step.
 use Rattle.std.specs.Prelude.{◌≡◌, ⊤, Bool, true, false, List, [], ◌∷◌, Option, Some, None}
 use Rattle.std.specs.Ordering.{is_lt}
-use Rattle.rangemap_unions.specs.Items.{hulls, hulls_from, reaches}
+use Rattle.rangemap_unions.specs.Items.{items_from, items_of, reaches}
 use Rattle.rangemap_core.specs.operations.Places.{RangePlaces}
 
 module _ {P X : Type 0} (l : RangePlaces P X) where
@@ -18,5 +18,5 @@ module _ {P X : Type 0} (l : RangePlaces P X) where
 
   -- the items of a union, of which one may be begun: from its first range up to its last so far
   abbrev pub items_behind : Option (X × X) → List X → List X
-  items_behind None rest = hulls l rest
-  items_behind (Some ends) rest = hulls_from l ends.0 ends.1 rest
+  items_behind None rest = items_of l rest
+  items_behind (Some ends) rest = items_from l ends.0 ends.1 rest

@@ -99,15 +99,12 @@ impl<C: Peek> Iterator for Intersection<C> {
     /// Returns the next item, made of clones. Where a clone was refused it says so once, as
     /// `Some(Err(AllocError))`, and has ended then.
     fn next(&mut self) -> Option<Result<C::Range, AllocError>> {
-        match self.try_next() {
-            Ok(None) => None,
-            Ok(Some(item)) => Some(Ok(item)),
-            Err(error) => {
-                // A refusal is the last answer.
-                self.is_done = true;
-                Some(Err(error))
-            }
+        let item = self.try_next();
+        if item.is_err() {
+            // A refusal is the last answer.
+            self.is_done = true;
         }
+        item.transpose()
     }
 
     fn size_hint(&self) -> (usize, Option<usize>)

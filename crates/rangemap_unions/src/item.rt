@@ -30,7 +30,17 @@ pub fn is_reached<R: KeyRange>(first: &R, second: &R) -> bool
     first.reaches(second.start())
 }
 
-/// Makes the item from the start of the first range up to the end of the last, of clones.
+/// Returns the item from the start of the first range up to the end of the last, made of clones: there
+/// is one.
+///
+/// # Requires
+///
+/// The first range starts before the last one ends, and a clone of a key compares equal to its
+/// original.
+///
+/// # Errors
+///
+/// A clone was refused, which those of numbers, characters and references never are.
 pub fn between<R: KeyRange>(first: &R, last: &R) -> Result<Option<R>, AllocError>
     requires in_order { R.places.order (R.places.start_place first.now) (R.places.end_place last.now) ≡ Less }
     requires faithful_keys { KeysCloneFaithfully R.Key.is_clone R.Key.cmp }

@@ -15,7 +15,7 @@ use std::marker::Model;
 #[derive(Drop)]
 pub struct Ranges<C: Cursor<Range: KeyRange>> {
     cursor: C,
-    // How many ranges that are.
+    // How many are left.
     len: usize,
 }
 
@@ -31,7 +31,7 @@ impl<C: Cursor<Range: KeyRange>> Model for Ranges<C> {
 }
 
 impl<C: Cursor<Range: KeyRange>> Ranges<C> {
-    /// Returns the ranges of the pairs of a cursor, which are so many.
+    /// Returns the ranges of the pairs of a cursor, of which there are `len`.
     pub fn over(cursor: C, len: usize) -> Self
         requires canonical { IsCanonicalSet C.Range.read (ranges (C.left cursor)) }
         requires len { len ≡ length (C.left cursor) }
@@ -89,8 +89,8 @@ impl<C: Cursor<Range: KeyRange, GivenValue: Drop>> ExactSizeIterator for Ranges<
     }
 }
 
-/// The ranges of a set that overlap a range and are still to come, in order and from both ends. How
-/// many these are it does not know.
+/// The ranges of a set that overlap a range and are still to come, in order and from both ends. It does
+/// not count them.
 #[derive(Drop)]
 pub struct OverlappingRanges<C: Cursor> {
     cursor: C,

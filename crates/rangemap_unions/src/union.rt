@@ -8,7 +8,7 @@ ghost use Rattle.std.specs.Map.Iter.{TakesFirst};
 ghost use Rattle.std.specs.Option.{option_map};
 ghost use Rattle.rangemap_core.specs.Sets.{AreHulls, AreNonEmptyRanges, CoverEither, IsCanonicalSet, ranges};
 ghost use Rattle.rangemap_core.specs.Shown.{shown_range};
-ghost use Rattle.rangemap_unions.specs.Items.{hulls, hulls_from, merged, reaches, union_items};
+ghost use Rattle.rangemap_unions.specs.Items.{items_from, items_of, merged, reaches, union_items};
 ghost use Rattle.rangemap_unions.specs.Merged.{IsUnreached, items_behind, left_first};
 
 use crate::item::{between, compare_ends, compare_starts};
@@ -111,15 +111,12 @@ impl<C: Peek> Iterator for Union<C> {
     /// Returns the next item, made of clones. Where a clone was refused it says so once, as
     /// `Some(Err(AllocError))`, and has ended then.
     fn next(&mut self) -> Option<Result<C::Range, AllocError>> {
-        match self.try_next() {
-            Ok(None) => None,
-            Ok(Some(item)) => Some(Ok(item)),
-            Err(error) => {
-                // A refusal is the last answer.
-                self.is_done = true;
-                Some(Err(error))
-            }
+        let item = self.try_next();
+        if item.is_err() {
+            // A refusal is the last answer.
+            self.is_done = true;
         }
+        item.transpose()
     }
 
     fn size_hint(&self) -> (usize, Option<usize>)
@@ -196,10 +193,10 @@ fn join<C: Peek>(
     left: &mut C,
     right: &mut C,
 )
-    ensures same { hulls_from C.Range.places (shown_range C.given first.now) (shown_range C.given (unwrap_or last.old first.now)) (merged C.Range.places (ranges (C.left left.old)) (ranges (C.left right.old)))
-        ≡ hulls_from C.Range.places (shown_range C.given first.now) (shown_range C.given (unwrap_or last.new first.now)) (merged C.Range.places (ranges (C.left left.new)) (ranges (C.left right.new))) }
-    ensures ended { hulls_from C.Range.places (shown_range C.given first.now) (shown_range C.given (unwrap_or last.new first.now)) (merged C.Range.places (ranges (C.left left.new)) (ranges (C.left right.new)))
-        ≡ C.Range.places.between (shown_range C.given first.now) (shown_range C.given (unwrap_or last.new first.now)) ∷ hulls C.Range.places (merged C.Range.places (ranges (C.left left.new)) (ranges (C.left right.new))) }
+    ensures same { items_from C.Range.places (shown_range C.given first.now) (shown_range C.given (unwrap_or last.old first.now)) (merged C.Range.places (ranges (C.left left.old)) (ranges (C.left right.old)))
+        ≡ items_from C.Range.places (shown_range C.given first.now) (shown_range C.given (unwrap_or last.new first.now)) (merged C.Range.places (ranges (C.left left.new)) (ranges (C.left right.new))) }
+    ensures ended { items_from C.Range.places (shown_range C.given first.now) (shown_range C.given (unwrap_or last.new first.now)) (merged C.Range.places (ranges (C.left left.new)) (ranges (C.left right.new)))
+        ≡ C.Range.places.between (shown_range C.given first.now) (shown_range C.given (unwrap_or last.new first.now)) ∷ items_of C.Range.places (merged C.Range.places (ranges (C.left left.new)) (ranges (C.left right.new))) }
 {
     'joined: while let Some(next) = take_reached(last_of::<C>(first, last), left, right) {
         if compare_ends(last_of::<C>(first, last), C::parts(&next).0).is_lt() {
@@ -226,7 +223,7 @@ impl<C: Peek> Sides<C> {
         ensures begun { MatchOption result
             ((items_behind C.Range.places (option_map (λ first. (shown_range C.given first, shown_range C.given (unwrap_or self.old.last first))) self.old.first) (merged C.Range.places (ranges (C.left self.old.left)) (ranges (C.left self.old.right))) ≡ []) × (merged C.Range.places (ranges (C.left self.new.left)) (ranges (C.left self.new.right)) ≡ []))
             (λ begun. items_behind C.Range.places (option_map (λ first. (shown_range C.given first, shown_range C.given (unwrap_or self.old.last first))) self.old.first) (merged C.Range.places (ranges (C.left self.old.left)) (ranges (C.left self.old.right)))
-            ≡ hulls_from C.Range.places (shown_range C.given begun.0) (shown_range C.given (unwrap_or begun.1 begun.0)) (merged C.Range.places (ranges (C.left self.new.left)) (ranges (C.left self.new.right)))) }
+            ≡ items_from C.Range.places (shown_range C.given begun.0) (shown_range C.given (unwrap_or begun.1 begun.0)) (merged C.Range.places (ranges (C.left self.new.left)) (ranges (C.left self.new.right)))) }
     {
         if let Some(first) = self.first.take() {
             return Some((first, self.last.take()));

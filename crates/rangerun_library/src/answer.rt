@@ -9,9 +9,11 @@ use crate::listing::{write_gaps, write_item_or_none, write_json, write_overlappi
 use std::alloc::{AllocError, Allocator, Global};
 
 /// Carries out a command, and appends the line that it prints, if any, to `text`. A JSON form is
-/// made in memory of `json`.
+/// made in memory of `json`. A command that only asks leaves the container as it is.
 ///
-/// Where memory runs out, the container is as it was; so it is after a command that only asks.
+/// # Errors
+///
+/// Memory ran out: then the container is as it was.
 pub fn answer<A: Allocator, C: Container<Alloc = A>>(
     alloc: A,
     json: Global,

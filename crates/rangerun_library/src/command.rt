@@ -39,7 +39,10 @@ impl<'a, R: NumberRange> Command<'a, R> {
     /// Reads a line, given without its newline, as a command on a container whose inserts have a
     /// value or have none.
     ///
-    /// Of several faults in a line the one whose cause has the least number is told.
+    /// # Errors
+    ///
+    /// Of several faults in a line the one whose cause has the least number is told: `Cause::Command`,
+    /// `Cause::Number`, `Cause::EmptyRange` or `Cause::Value`.
     pub fn parse(line: &'a [u8], has_value: bool) -> Result<Command<'a, R>, Cause> {
         let (name, operands) = words::divide(line);
         match operands {
@@ -53,7 +56,7 @@ impl<'a, R: NumberRange> Command<'a, R> {
         }
     }
 
-    /// The command of one word.
+    // The command of one word.
     fn of_name(name: &[u8]) -> Result<Command<'a, R>, Cause> {
         match name {
             b"clear" => Ok(Command::Clear),
@@ -66,7 +69,7 @@ impl<'a, R: NumberRange> Command<'a, R> {
         }
     }
 
-    /// The command on a key.
+    // The command on a key.
     fn of_key(name: &[u8], key: &[u8]) -> Result<Command<'a, R>, Cause> {
         match name {
             b"get" => Ok(Command::Get(words::number(key)?)),
@@ -74,7 +77,7 @@ impl<'a, R: NumberRange> Command<'a, R> {
         }
     }
 
-    /// The command on two ends. `insert` is one where it has no value.
+    // The command on two ends. `insert` is one where it has no value.
     fn of_ends(
         name: &[u8],
         start: &[u8],
@@ -91,7 +94,7 @@ impl<'a, R: NumberRange> Command<'a, R> {
         }
     }
 
-    /// The command on two ends and a value.
+    // The command on two ends and a value.
     fn of_pair(
         name: &[u8],
         start: &[u8],
@@ -108,7 +111,7 @@ impl<'a, R: NumberRange> Command<'a, R> {
     }
 }
 
-/// The range that two words give the ends of, and the value that a third is.
+// The range that two words give the ends of, and the value that a third is.
 fn parse_pair<'a, R: NumberRange>(
     start: &[u8],
     end: &[u8],
@@ -125,7 +128,7 @@ fn parse_pair<'a, R: NumberRange>(
     Ok((span, value))
 }
 
-/// The range, with a key in it, that two words give the ends of.
+// The range, with a key in it, that two words give the ends of.
 fn parse_span<R: NumberRange>(start: &[u8], end: &[u8]) -> Result<Span<R>, Cause>
     ensures ok { IfOk result (λ span. (span.start ≡ number_of start.now) × (span.end ≡ number_of end.now)) }
     ensures succeeds { IsOk result ↔ AreEnds R.has_end start.now end.now }
@@ -137,7 +140,7 @@ fn parse_span<R: NumberRange>(start: &[u8], end: &[u8]) -> Result<Span<R>, Cause
     Span::new(start, end).ok_or(Cause::EmptyRange)
 }
 
-/// The range that two words give the ends of, in whichever order they are.
+// The range that two words give the ends of, in whichever order they are.
 fn parse_query<R: NumberRange>(start: &[u8], end: &[u8]) -> Result<R, Cause>
     ensures ok { IfOk result (λ range. (R.read.start range ≡ number_of start.now) × (R.read.end range ≡ number_of end.now)) }
     ensures succeeds { IsOk result ↔ IsNumber start.now × IsNumber end.now }

@@ -18,9 +18,17 @@ use std::fmt::Debug;
 /// Its debug text is what the program prints of all its items.
 pub trait Container: LibraryContainer<Range: NumberRange, Value: Stored> + Debug {
     /// Makes the value that an insert gives, of its word where it has one.
+    ///
+    /// # Errors
+    ///
+    /// Memory for the value was refused.
     fn value(alloc: Self::Alloc, word: Option<&str>) -> Result<Self::Value, AllocError>;
 
     /// Makes its JSON form, in memory of `json`.
+    ///
+    /// # Errors
+    ///
+    /// Memory for the form was refused.
     fn to_value(&self, json: Global) -> Result<Value, WriteError<AllocError>>;
 }
 

@@ -9,16 +9,16 @@ mod answer;
 mod booking;
 mod command;
 mod container;
-mod desk;
 mod fault;
 mod lines;
 mod listing;
 mod program;
 mod range;
 mod session;
+mod target;
 mod value;
 mod words;
 
 pub use fault::{Cause, Fault};
-pub use program::{end, serve, unread};
+pub use program::{arguments_fault, report, serve};
 pub use session::{run, run_in};

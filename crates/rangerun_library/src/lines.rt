@@ -26,10 +26,14 @@ impl<R: Read> Read for Source<R> {
     }
 }
 
-/// Fetches the next line of a `Source`, without its newline, in place of what `line` has. False
+/// Fetches the next line of a `Source`, without its newline, in place of what `line` has. Returns false
 /// where the input has ended.
 ///
 /// The last line may lack its newline.
+///
+/// # Errors
+///
+/// `Cause::Memory` where there was no memory for the line, and `Cause::Stream` where a read failed.
 pub fn fetch<R: BufRead, A: Allocator>(input: &mut R, line: &mut Vec<u8, A>) -> Result<bool, Cause>
     ensures line { OnOk result (IfSome (R.remaining input.old) (λ bytes. line.new.items ≡ first_piece 10 bytes)) }
     ensures rest { OnOk result (DropsThrough (R.remaining input.old) (R.remaining input.new) 10) }

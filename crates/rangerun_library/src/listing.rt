@@ -12,6 +12,10 @@ use std::alloc::{AllocError, Allocator, Global};
 /// One item of an answer.
 pub trait Item: Drop {
     /// Appends the item to the text.
+    ///
+    /// # Errors
+    ///
+    /// Memory for the text was refused, or what the item is made of.
     fn write<A: Allocator>(self, text: &mut String<A>) -> Result<(), AllocError>;
 }
 
@@ -32,6 +36,10 @@ impl<R: NumberRange> Item for Result<R, AllocError> {
 }
 
 /// Writes the line of the item, or of `none`.
+///
+/// # Errors
+///
+/// As for `Item::write`.
 pub fn write_item_or_none<A: Allocator, I: Item>(
     text: &mut String<A>,
     item: Option<I>,
@@ -44,6 +52,10 @@ pub fn write_item_or_none<A: Allocator, I: Item>(
 }
 
 /// Writes the line of the items that an iterator gives, in braces.
+///
+/// # Errors
+///
+/// As for `Item::write`.
 pub fn write_items<A: Allocator, I: Item, Items: Iterator<Item = I> + Drop>(
     text: &mut String<A>,
     items: Items,
@@ -64,6 +76,10 @@ pub fn write_items<A: Allocator, I: Item, Items: Iterator<Item = I> + Drop>(
 }
 
 /// Writes the line of the items that the range overlaps.
+///
+/// # Errors
+///
+/// Memory or a clone was refused.
 pub fn write_overlapping<A: Allocator, C: Container<Alloc = A>>(
     alloc: A,
     text: &mut String<A>,
@@ -76,6 +92,10 @@ pub fn write_overlapping<A: Allocator, C: Container<Alloc = A>>(
 }
 
 /// Writes the line of the parts of the range that no item has.
+///
+/// # Errors
+///
+/// Memory or a clone was refused.
 pub fn write_gaps<A: Allocator, C: Container<Alloc = A>>(
     alloc: A,
     text: &mut String<A>,
@@ -87,8 +107,11 @@ pub fn write_gaps<A: Allocator, C: Container<Alloc = A>>(
     write_items(text, gaps.into_iter().map(|gap| Ok(gap)))
 }
 
-/// Writes the line of the JSON form, which is made in memory of `json`. Where it answers `Ok`,
-/// something was written: want of memory is not passed over.
+/// Writes the line of the JSON form, which is made in memory of `json`.
+///
+/// # Errors
+///
+/// Memory was refused. It is not passed over: where this answers `Ok`, something was written.
 pub fn write_json<A: Allocator, C: Container>(
     json: Global,
     text: &mut String<A>,

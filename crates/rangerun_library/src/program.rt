@@ -10,27 +10,26 @@ use std::{env, process};
 pub fn serve(rt: &HostRuntime) -> process::ExitCode {
     let ended = match arguments(rt) {
         Ok(args) => run(rt.alloc(), &args, rt.reader(), io::writer(rt)),
-        Err(error) => Err(unread(&error)),
+        Err(error) => Err(arguments_fault(&error)),
     };
-    process::ExitCode::from(end(ended, rt.stderr()))
+    process::ExitCode::from(report(ended, rt.stderr()))
 }
 
-/// The words after the program's name.
+// The words after the program's name.
 fn arguments(rt: &HostRuntime) -> io::Result<Vec<String>> {
     Ok(env::args(rt)?.skip(1).collect(rt.alloc())?)
 }
 
 /// Returns the fault where the words after the program's name were not read.
-pub fn unread(error: &io::Error) -> Fault {
+pub fn arguments_fault(error: &io::Error) -> Fault {
     match error.kind() {
         ErrorKind::OutOfMemory => Cause::Memory.at(0),
         _ => Cause::Arguments.at(0),
     }
 }
 
-/// Tells of the fault that ended a run, if one did, by a line on `errors`, and returns the exit
-/// status.
-pub fn end<W: Write + Drop>(ended: Result<(), Fault>, mut errors: W) -> u8 {
+/// Reports the fault that ended a run, if one did, by a line on `errors`, and returns the exit status.
+pub fn report<W: Write + Drop>(ended: Result<(), Fault>, mut errors: W) -> u8 {
     match ended {
         Ok(()) => 0,
         Err(fault) => {

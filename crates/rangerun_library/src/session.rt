@@ -1,9 +1,9 @@
 //! The program from its arguments to its last answer.
 
 use crate::container::{ClosedMap, ClosedSet, HalfOpenMap, HalfOpenSet};
-use crate::desk::{Desk, Over};
 use crate::fault::{Cause, Fault};
 use crate::lines::{Source, fetch};
+use crate::target::{ContainerTarget, Target};
 use calendar::Calendar;
 use std::alloc::{Allocator, Global};
 use std::io::{self, BufRead, BufReader, Read, Write};
@@ -40,17 +40,17 @@ pub fn run_in<A: Allocator + Copy, R: Read + Drop, W: Write + Drop>(
         return Err(Cause::Arguments.at(0));
     };
     match kind.as_str() {
-        "map" => run_over::<A, Over<HalfOpenMap<A>>, R, W>(alloc, json, input, output),
-        "imap" => run_over::<A, Over<ClosedMap<A>>, R, W>(alloc, json, input, output),
-        "set" => run_over::<A, Over<HalfOpenSet<A>>, R, W>(alloc, json, input, output),
-        "iset" => run_over::<A, Over<ClosedSet<A>>, R, W>(alloc, json, input, output),
+        "map" => run_over::<A, ContainerTarget<HalfOpenMap<A>>, R, W>(alloc, json, input, output),
+        "imap" => run_over::<A, ContainerTarget<ClosedMap<A>>, R, W>(alloc, json, input, output),
+        "set" => run_over::<A, ContainerTarget<HalfOpenSet<A>>, R, W>(alloc, json, input, output),
+        "iset" => run_over::<A, ContainerTarget<ClosedSet<A>>, R, W>(alloc, json, input, output),
         "cal" => run_over::<A, Calendar<A>, R, W>(alloc, json, input, output),
         _ => Err(Cause::Arguments.at(0)),
     }
 }
 
-/// Carries out the commands of `input` over an empty container, as `run` does.
-fn run_over<A: Allocator + Copy, D: Desk<A>, R: Read + Drop, W: Write + Drop>(
+// Carries out the commands of `input` over an empty container, as `run` does.
+fn run_over<A: Allocator + Copy, T: Target<A>, R: Read + Drop, W: Write + Drop>(
     alloc: A,
     json: Global,
     input: R,
@@ -59,7 +59,7 @@ fn run_over<A: Allocator + Copy, D: Desk<A>, R: Read + Drop, W: Write + Drop>(
     let Ok(mut input) = BufReader::new(alloc, Source(input)) else {
         return Err(Cause::Memory.at(0));
     };
-    let mut session: Session<A, D> = Session::new(alloc, json);
+    let mut session: Session<A, T> = Session::new(alloc, json);
     for number in 1..=u64::MAX {
         match session.step(&mut input, &mut output) {
             Ok(true) => {}
@@ -67,40 +67,40 @@ fn run_over<A: Allocator + Copy, D: Desk<A>, R: Read + Drop, W: Write + Drop>(
             Err(cause) => return Err(cause.at(number)),
         }
     }
-    // More lines than can be counted were read, and the input has not ended.
+    // More lines than can be counted were read, and no end of the input was seen.
     Err(Cause::Stream.at(u64::MAX))
 }
 
-/// The container, and room for a line and its answer that is used again for each line.
+// What lines are carried out on, and room for a line and its answer that is used again for each line.
 #[derive(Drop)]
-struct Session<A: Allocator, D> {
+struct Session<A: Allocator, T> {
     alloc: A,
     json: Global,
-    desk: D,
+    target: T,
     line: Vec<u8, A>,
     text: String<A>,
 }
 
-impl<A: Allocator + Copy, D: Desk<A>> Session<A, D> {
-    /// An empty container, and no line yet.
-    fn new(alloc: A, json: Global) -> Session<A, D> {
+impl<A: Allocator + Copy, T: Target<A>> Session<A, T> {
+    // Returns a session over an empty target, with no line yet.
+    fn new(alloc: A, json: Global) -> Session<A, T> {
         Session {
             alloc,
             json,
-            desk: D::new(alloc),
+            target: T::new(alloc),
             line: Vec::new(alloc),
             text: String::new(alloc),
         }
     }
 
-    /// Reads a line, carries out its command and writes the answer. False where there is no line
-    /// left.
+    // Reads a line, carries out its command and writes the answer. Returns false where there is no line
+    // left.
     fn step<R: BufRead, W: Write>(&mut self, input: &mut R, output: &mut W) -> Result<bool, Cause> {
         if !fetch(input, &mut self.line)? {
             return Ok(false);
         }
         self.text.clear();
-        self.desk
+        self.target
             .carry_out(self.alloc, self.json, &self.line, &mut self.text)?;
         if write_out(output, self.text.as_bytes()).is_err() {
             return Err(Cause::Stream);
@@ -109,7 +109,7 @@ impl<A: Allocator + Copy, D: Desk<A>> Session<A, D> {
     }
 }
 
-/// Writes the bytes, and sees that they arrive.
+// Writes the bytes, and sees that they arrive.
 fn write_out<W: Write>(output: &mut W, bytes: &[u8]) -> io::Result<()> {
     if bytes.is_empty() {
         return Ok(());

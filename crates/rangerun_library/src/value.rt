@@ -7,6 +7,10 @@ use std::alloc::{AllocError, Allocator, Global};
 /// A value, as it is printed.
 pub trait Shown {
     /// Appends what stands behind the range in an item.
+    ///
+    /// # Errors
+    ///
+    /// Memory for the text was refused.
     fn write<A: Allocator>(&self, text: &mut String<A>) -> Result<(), AllocError>;
 }
 
@@ -55,16 +59,24 @@ impl Stored for () {
 }
 
 /// Makes the text of a word.
+///
+/// # Errors
+///
+/// Memory for the text was refused.
 pub fn text_of<A: Allocator>(alloc: A, word: Option<&str>) -> Result<String<A>, AllocError> {
     String::from_str(alloc, word.unwrap_or(""))
 }
 
-/// Makes the JSON form of a key.
+/// Makes the JSON form of a key. It is a `Result` as that of a text is, and takes no memory.
 pub fn write_key(key: &u32) -> Result<Json, AllocError> {
     Ok(Json::from(*key))
 }
 
 /// Makes the JSON form of a text.
+///
+/// # Errors
+///
+/// Memory for the text was refused.
 pub fn write_text(alloc: Global, text: &str) -> Result<Json, AllocError> {
     Ok(Json::String(String::from_str(alloc, text)?))
 }

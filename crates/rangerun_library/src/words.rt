@@ -39,8 +39,12 @@ pub fn divide(line: &[u8]) -> (&[u8], Operands<'_>) {
     (first, operands)
 }
 
-/// The number that a word writes: one or more ASCII digits, of value at most `u32::MAX`, and
+/// Returns the number that a word writes: one or more ASCII digits, of value at most `u32::MAX`, and
 /// nothing else.
+///
+/// # Errors
+///
+/// `Cause::Number`, where the word is none.
 #[tactic(auto, using(crate::proofs::Ascii::digits_are_text))]
 pub fn number(word: &[u8]) -> Result<u32, Cause>
     ensures value { OkIff result (IsNumber word.now) (number_of word.now) }
@@ -55,7 +59,11 @@ pub fn number(word: &[u8]) -> Result<u32, Cause>
     }
 }
 
-/// The two numbers that words are, in whichever order they are.
+/// Returns the two numbers that words are, in whichever order they are.
+///
+/// # Errors
+///
+/// `Cause::Number`, where one of the words is none.
 pub fn ends(start: &[u8], end: &[u8]) -> Result<(u32, u32), Cause>
     ensures ok { IfOk result (λ ends. (ends.0 ≡ number_of start.now) × (ends.1 ≡ number_of end.now)) }
     ensures succeeds { IsOk result ↔ IsNumber start.now × IsNumber end.now }
@@ -66,13 +74,18 @@ pub fn ends(start: &[u8], end: &[u8]) -> Result<(u32, u32), Cause>
     Ok((start, end))
 }
 
+// Whether all bytes are ASCII digits.
 fn are_digits(word: &[u8]) -> bool
     ensures { result ≡ list_all is_ascii_digit word.now }
 {
     word.iter().all(|byte| byte.is_ascii_digit())
 }
 
-/// The value that a word is: one or more letters a to z.
+/// Returns the value that a word is: one or more letters a to z.
+///
+/// # Errors
+///
+/// `Cause::Value`, where the word is none.
 #[tactic(auto, using(crate::proofs::Ascii::letters_are_text))]
 pub fn value(word: &[u8]) -> Result<&str, Cause>
     ensures ok { IsOk result ↔ IsValue word.now }
@@ -85,6 +98,7 @@ pub fn value(word: &[u8]) -> Result<&str, Cause>
     str::from_utf8(word).map_err(|_| Cause::Value)
 }
 
+// Whether all bytes are letters a to z.
 fn are_letters(word: &[u8]) -> bool
     ensures { result ≡ list_all is_ascii_lowercase word.now }
 {

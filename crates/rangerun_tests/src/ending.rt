@@ -1,6 +1,6 @@
 //! What the program tells of the fault that ends it, and its exit status.
 
-use rangerun_library::{Cause, end, unread};
+use rangerun_library::{Cause, arguments_fault, report};
 use std::io::{Error, ErrorKind};
 use std::test::Fail;
 
@@ -23,11 +23,11 @@ const ENDS: [(Cause, u64, u8, &str); 7] = [
 #[test]
 fn the_last_line_and_the_status_go_by_the_fault(rt: HostRuntime) -> Result<(), Fail> {
     let mut held = Vec::new(rt.alloc());
-    assert_eq!(rt; end(Ok(()), &mut held), 0);
+    assert_eq!(rt; report(Ok(()), &mut held), 0);
     assert!(rt; held.is_empty());
     for (cause, line, status, told) in ENDS {
         let mut held = Vec::new(rt.alloc());
-        assert_eq!(rt; end(Err(cause.at(line)), &mut held), status, "{told}");
+        assert_eq!(rt; report(Err(cause.at(line)), &mut held), status, "{told}");
         assert_eq!(rt; held.as_slice(), told.as_bytes());
     }
     Ok(())
@@ -35,8 +35,8 @@ fn the_last_line_and_the_status_go_by_the_fault(rt: HostRuntime) -> Result<(), F
 
 #[test]
 fn arguments_that_are_not_read_are_faults(rt: HostRuntime) {
-    let memory = unread(&Error::from(ErrorKind::OutOfMemory));
+    let memory = arguments_fault(&Error::from(ErrorKind::OutOfMemory));
     assert_eq!(rt; memory, Cause::Memory.at(0));
-    let other = unread(&Error::from(ErrorKind::Other));
+    let other = arguments_fault(&Error::from(ErrorKind::Other));
     assert_eq!(rt; other, Cause::Arguments.at(0));
 }

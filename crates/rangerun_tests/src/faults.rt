@@ -96,7 +96,7 @@ fn an_insert_into_a_map_has_a_value(rt: HostRuntime) -> Result<(), AllocError> {
 }
 
 #[test]
-fn an_insert_into_a_set_has_none(rt: HostRuntime) -> Result<(), AllocError> {
+fn an_insert_into_a_set_has_no_value(rt: HostRuntime) -> Result<(), AllocError> {
     assert_faults(
         &rt,
         &SETS,

@@ -115,8 +115,8 @@ fn soak_sets(rt: &HostRuntime, heap: &Heap, seed: u64, calls: u64) -> io::Result
     tell(rt, heap, "tree_set", report)
 }
 
-/// Makes the calls on every container in chunks, until one differs. Answers whether none did.
-fn soak_chunks(rt: &HostRuntime, heap: &Heap, seed: u64, calls: u64) -> io::Result<bool> {
+/// Makes the calls on every map in chunks, until one differs. Answers whether none did.
+fn soak_chunked_maps(rt: &HostRuntime, heap: &Heap, seed: u64, calls: u64) -> io::Result<bool> {
     let map = Profile {
         has_marks: true,
         blocks_of_each: 1,
@@ -125,15 +125,6 @@ fn soak_chunks(rt: &HostRuntime, heap: &Heap, seed: u64, calls: u64) -> io::Resu
     let inclusive_map = Profile {
         blocks_of_each: 0,
         ..map
-    };
-    let set = Profile {
-        has_marks: false,
-        blocks_of_each: 2,
-        ..map
-    };
-    let inclusive_set = Profile {
-        blocks_of_each: 0,
-        ..set
     };
     let report = soak_map::<ChunkedPairs<'_>>(heap, model_of(rt, heap, map, seed), calls);
     if !tell(rt, heap, "chunked map", report)? {
@@ -144,9 +135,20 @@ fn soak_chunks(rt: &HostRuntime, heap: &Heap, seed: u64, calls: u64) -> io::Resu
         model_of(rt, heap, inclusive_map, seed),
         calls,
     );
-    if !tell(rt, heap, "chunked inclusive_map", report)? {
-        return Ok(false);
-    }
+    tell(rt, heap, "chunked inclusive_map", report)
+}
+
+/// Makes the calls on every set in chunks, until one differs. Answers whether none did.
+fn soak_chunked_sets(rt: &HostRuntime, heap: &Heap, seed: u64, calls: u64) -> io::Result<bool> {
+    let set = Profile {
+        has_marks: false,
+        blocks_of_each: 2,
+        kept: Kept::InChunks,
+    };
+    let inclusive_set = Profile {
+        blocks_of_each: 0,
+        ..set
+    };
     let report = soak_set::<ChunkedRanges<'_>>(heap, model_of(rt, heap, set, seed), calls);
     if !tell(rt, heap, "chunked set", report)? {
         return Ok(false);
@@ -165,10 +167,12 @@ fn soak_all(rt: &HostRuntime, heap: &Heap, seed: u64, calls: u64) -> io::Result<
     Ok(
         soak_maps(rt, heap, seed, calls)?
             && soak_sets(rt, heap, seed, calls)?
-            && soak_chunks(rt, heap, seed, more)?,
+            && soak_chunked_maps(rt, heap, seed, more)?
+            && soak_chunked_sets(rt, heap, seed, more)?,
     )
 }
 
+/// Makes the calls that the arguments ask for, and answers the status.
 fn serve(rt: &HostRuntime) -> io::Result<ExitCode> {
     let Some((seed, calls)) = arguments(rt)? else {
         eprintln!(rt; "soak SEED CALLS: both are numbers")?;

@@ -30,7 +30,7 @@ fn only_what_is_missing_is_fetched(rt: HostRuntime) -> Result<(), Fail> {
 }
 
 #[test]
-fn words_and_what_is_none(rt: HostRuntime) -> Result<(), Fail> {
+fn a_class_and_its_complement_make_up_all(rt: HostRuntime) -> Result<(), Fail> {
     let word = CharClass::word(rt.alloc())?;
     let other = word.complement(rt.alloc())?;
     let found = (word.contains('_'), word.contains('M'), word.contains('-'));
@@ -48,8 +48,30 @@ fn words_and_what_is_none(rt: HostRuntime) -> Result<(), Fail> {
     Ok(())
 }
 
+// The two classes have the digits in common, and each has characters of its own. Of what is in
+// neither there are six ranges: up to the comma, from the dot to the slash, between the digits and
+// the capitals, between these and the underscore, the backquote, and from the brace on.
 #[test]
-fn digits_by_the_macro(rt: HostRuntime) -> Result<(), Fail> {
+fn classes_that_overlap_obey_de_morgan(rt: HostRuntime) -> Result<(), Fail> {
+    let word = CharClass::word(rt.alloc())?;
+    let amount = CharClass::from_ranges(rt.alloc(), ['-'..='-', '0'..='9'])?;
+    let common = word.intersection(&amount)?;
+    let found = (
+        common.contains('7'),
+        common.contains('-'),
+        common.contains('z'),
+    );
+    assert_same(&rt, found, (true, false, false));
+    let (neither, not_both) = de_morgan(rt.alloc(), &word, &amount)?;
+    assert_same(&rt, neither.members == not_both.members, true);
+    assert_same(&rt, neither.members.len(), 6);
+    let found = (neither.contains(','), neither.contains('-'));
+    assert_same(&rt, found, (true, false));
+    Ok(())
+}
+
+#[test]
+fn the_macro_joins_what_touches(rt: HostRuntime) -> Result<(), Fail> {
     let digits = range_inclusive_set![in rt.alloc(); '0'..='4', '5'..='9']?;
     assert_same(&rt, digits.len(), 1);
     let found = (digits.contains(&'7'), digits.contains(&'a'));
@@ -135,6 +157,15 @@ fn two_shifts_are_swapped(rt: HostRuntime) -> Result<(), Fail> {
     assert_same(&rt, free.try_next()?, Some(0..8));
     assert_same(&rt, free.try_next()?, Some(20..24));
     assert_same(&rt, free.try_next()?, None);
+    Ok(())
+}
+
+#[test]
+fn nobody_is_on_until_a_shift_begins(rt: HostRuntime) -> Result<(), Fail> {
+    let mut rota = Rota::new(rt.alloc());
+    assert_same(&rt, rota.off_until(3, 24), 24);
+    rota.assign(8..16, 1)?;
+    assert_same(&rt, rota.off_until(3, 24), 8);
     Ok(())
 }
 
@@ -244,6 +275,13 @@ fn memory_is_mapped_and_checked(rt: HostRuntime) -> Result<(), Fail> {
     );
     assert_same(&rt, shown, (true, false));
     assert_same(&rt, memory.has_writable_code(), false);
+    let both = Region {
+        file: 2,
+        writable: true,
+        executable: true,
+    };
+    memory.map(0x6000, 0x7000, both)?;
+    assert_same(&rt, memory.has_writable_code(), true);
     Ok(())
 }
 

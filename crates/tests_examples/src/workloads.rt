@@ -12,20 +12,24 @@ use std::test::Fail;
 
 mod sets;
 
-const TWO: [Entry; 2] = [
-    Entry {
-        start: 0,
-        end: 10,
-        value: 7,
-        pad: 0,
-    },
-    Entry {
-        start: 20,
-        end: 30,
-        value: 8,
-        pad: 0,
-    },
-];
+const BEFORE: Entry = Entry {
+    start: 0,
+    end: 10,
+    value: 7,
+    pad: 0,
+};
+
+const BEHIND: Entry = Entry {
+    start: 20,
+    end: 30,
+    value: 8,
+    pad: 0,
+};
+
+const TWO: [Entry; 2] = [BEFORE, BEHIND];
+
+// The same entries, the one that lies behind first.
+const TURNED: [Entry; 2] = [BEHIND, BEFORE];
 
 // The numbers of these ranges. With that of its value each is the number of a pair.
 const FIRST: u64 = 30;
@@ -54,9 +58,11 @@ fn assert_whole_map<S: Store, R: AllocGlobal + Abort>(rt: &R, values: Values) ->
     assert_same(rt, len, 2);
     let len = workloads::clones::<S>(rt.alloc(), &TWO, 1)?;
     assert_same(rt, len, 2);
-    let equal = workloads::comparisons::<S>(rt.alloc(), &TWO, 1)?;
-    assert_same(rt, equal, 1);
-    let len = workloads::emptyings::<S>(rt.alloc(), &TWO, 1)?;
+    // The map equals the one clone, and then the other.
+    let equal = workloads::comparisons::<S>(rt.alloc(), &TWO, 2)?;
+    assert_same(rt, equal, followed_by(1, 1));
+    // All goes up to the greatest end, which is not that of the last entry.
+    let len = workloads::emptyings::<S>(rt.alloc(), &TURNED, 1)?;
     assert_same(rt, len, 0);
     let len = workloads::standing::<S>(rt.alloc(), &TWO, 1)?;
     assert_same(rt, len, 2);
@@ -112,21 +118,21 @@ fn assert_chunked_maps<R: AllocGlobal + Abort>(rt: &R, asked: Asked) -> Result<(
 }
 
 #[test]
-fn the_whole_map(rt: HostRuntime) -> Result<(), Fail> {
+fn workloads_on_a_whole_map_answer(rt: HostRuntime) -> Result<(), Fail> {
     assert_maps(&rt, Asked::Whole)
 }
 
 #[test]
-fn the_whole_map_in_chunks(rt: HostRuntime) -> Result<(), Fail> {
+fn workloads_on_a_whole_map_in_chunks_answer(rt: HostRuntime) -> Result<(), Fail> {
     assert_chunked_maps(&rt, Asked::Whole)
 }
 
 #[test]
-fn queries_and_removals(rt: HostRuntime) -> Result<(), Fail> {
+fn queries_and_removals_answer(rt: HostRuntime) -> Result<(), Fail> {
     assert_maps(&rt, Asked::Queries)
 }
 
 #[test]
-fn queries_and_removals_in_chunks(rt: HostRuntime) -> Result<(), Fail> {
+fn queries_and_removals_in_chunks_answer(rt: HostRuntime) -> Result<(), Fail> {
     assert_chunked_maps(&rt, Asked::Queries)
 }

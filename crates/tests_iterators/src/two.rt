@@ -1,6 +1,5 @@
-//! Two iterators of each kind, at the widest keys, in one function, and in one tuple where the check
-//! takes that. It takes no tuple of two that give ranges away out of sorted vectors, nor of two over
-//! the closed ranges that overlap one: these stand one by one.
+//! Two iterators of each kind, at the widest keys, in one function and in one tuple. How many a tuple
+//! may hold says docs/DECISIONS.md.
 
 use rangemap::{
     RangeInclusiveMap, RangeInclusiveSet, RangeMap, RangeSet, inclusive_map, inclusive_set, map,
@@ -32,10 +31,8 @@ pub fn into_iters_of_maps(
 ) {}
 
 pub fn into_iters_of_sets(
-    _of_sets: set::IntoIter<u64>,
-    _of_other_sets: set::IntoIter<i64>,
-    _of_closed_sets: inclusive_set::IntoIter<u64>,
-    _of_other_closed_sets: inclusive_set::IntoIter<i64>,
+    _of_sets: (set::IntoIter<u64>, set::IntoIter<i64>),
+    _of_closed_sets: (inclusive_set::IntoIter<u64>, inclusive_set::IntoIter<i64>),
     _of_sets_in_trees: (tree_set::IntoIter<u64>, tree_set::IntoIter<i64>),
 ) {}
 
@@ -56,8 +53,10 @@ pub fn overlappings_of_maps(
 
 pub fn overlappings_of_sets(
     _of_sets: (set::Overlapping<'_, u64>, set::Overlapping<'_, i64>),
-    _of_closed_sets: inclusive_set::Overlapping<'_, u64>,
-    _of_other_closed_sets: inclusive_set::Overlapping<'_, i64>,
+    _of_closed_sets: (
+        inclusive_set::Overlapping<'_, u64>,
+        inclusive_set::Overlapping<'_, i64>,
+    ),
     _of_sets_in_trees: (
         tree_set::Overlapping<'_, u64>,
         tree_set::Overlapping<'_, i64>,
@@ -183,10 +182,9 @@ pub fn of_closed_sets<'a>(
     let mut iters = (one.iter(), other.iter());
     let _: Option<&RangeInclusive<u64>> = iters.0.next();
     let _: Option<&RangeInclusive<i64>> = iters.1.next_back();
-    let mut overlapping = one.overlapping(query);
-    let mut other_overlapping = other.overlapping(other_query);
-    let _: Option<&RangeInclusive<u64>> = overlapping.next();
-    let _: Option<&RangeInclusive<i64>> = other_overlapping.next_back();
+    let mut overlapping = (one.overlapping(query), other.overlapping(other_query));
+    let _: Option<&RangeInclusive<u64>> = overlapping.0.next();
+    let _: Option<&RangeInclusive<i64>> = overlapping.1.next_back();
     let mut gaps = one.gaps(query);
     let mut other_gaps = other.gaps(other_query);
     let _: Option<RangeInclusive<u64>> = gaps.try_next()?;
@@ -258,18 +256,16 @@ pub fn given_by_sets(
     one: RangeSet<u64>,
     other: RangeSet<i64>,
 ) -> (Option<Range<u64>>, Option<Range<i64>>) {
-    let mut given = one.into_iter();
-    let mut other_given = other.into_iter();
-    (given.next(), other_given.next_back())
+    let mut given = (one.into_iter(), other.into_iter());
+    (given.0.next(), given.1.next_back())
 }
 
 pub fn given_by_closed_sets(
     one: RangeInclusiveSet<u64>,
     other: RangeInclusiveSet<i64>,
 ) -> (Option<RangeInclusive<u64>>, Option<RangeInclusive<i64>>) {
-    let mut given = one.into_iter();
-    let mut other_given = other.into_iter();
-    (given.next(), other_given.next_back())
+    let mut given = (one.into_iter(), other.into_iter());
+    (given.0.next(), given.1.next_back())
 }
 
 pub fn given_by_sets_in_trees(

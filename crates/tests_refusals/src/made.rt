@@ -6,8 +6,8 @@ use std::test::Fail;
 use tests_requests::check;
 use tests_support::{MANY, Refusing};
 
-// A replay, which changes nothing without room, takes three lists, and each of its containers grows. In
-// a tree the first pair takes a node and a key, a clone of it a node and three keys, a removal what it
+// A replay, which changes nothing without room, takes three lists, and each of its containers grows, in
+// chunks by a list and the list of chunks. In a tree the first pair takes a node and a key, a clone of it a node and three keys, a removal what it
 // takes of a map, and an operator two clones, a node and a key. An array takes a list, through which
 // it is read, beside what inserts of its items take, and so does a macro.
 //
@@ -33,6 +33,8 @@ fn what_makes_containers_may_be_refused(rt: HostRuntime) -> Result<(), Fail> {
         new, insert 0..10, clone, union 0 1, intersection 0 1 | replay tree sets | 4 | 17
         new, insert 0..10 a, clone, remove 4..5 | replay chunked maps | 2 | 10
         new, insert 0..10, clone, union 0 1, intersection 0 1 | replay chunked sets | 4 | 17
+        new, insert 0..=255 true, clone | replay chunked inclusive maps | 2 | 7
+        new, insert 0..=255, union 0 0, intersection 0 1 | replay chunked inclusive sets | 3 | 9
         new, insert -128..=127 true, clear | replay maps by steps | 1 | 4
         new, insert -128..=127, clone | replay sets by steps | 2 | 5
         0..10 a + 3..6 b | map to texts from | 0..3 a, 3..6 b, 6..10 a | 4

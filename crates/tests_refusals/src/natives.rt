@@ -64,7 +64,7 @@ impl Tried for Natives {
     ghost clones_are_faithful = { ⊤ };
 
     fn is_accepted(heap: &Heap, alloc: Global, row: &Row<'_>, left: u64) -> Answer {
-        match row.call {
+        let is_accepted = match row.call {
             "replay maps by steps" => steps::try_maps(heap, row, left),
             "replay sets by steps" => steps::try_sets(heap, row, left),
             "replay chunked maps by steps" => steps::try_chunked_maps(heap, row, left),
@@ -79,7 +79,7 @@ impl Tried for Natives {
             "chunked inclusive map from" => arrays::try_chunked_inclusive_map(heap, row, left),
             "chunked set from" => arrays::try_chunked_set(heap, row, left),
             "chunked inclusive set from" => arrays::try_chunked_inclusive_set(heap, row, left),
-            "macros" => macros::try_lists(heap, left),
+            "macros" => return macros::try_lists(heap, row, left),
             "read map" => json::try_map::<Numbers<'_, u32>>(heap, alloc, row, left),
             "read inclusive map" => {
                 json::try_map::<ClosedNumbers<'_, u32>>(heap, alloc, row, left)
@@ -102,7 +102,9 @@ impl Tried for Natives {
             }
             "read costly parts" => json::try_costly(heap, alloc, row, left),
             _ => try_replay(heap, row, left),
-        }
+        }?;
+        row.end_refusal(heap, left)?;
+        Ok(is_accepted)
     }
 }
 
@@ -117,7 +119,13 @@ fn try_replay(heap: &Heap, row: &Row<'_>, left: u64) -> Answer {
         "replay inclusive sets" => SetsInVector::<Closed<u8>, RangeInclusive<u8>>::answer(asked),
         "replay tree sets" => SetsInTree::<Costly<'_>>::answer(asked),
         "replay chunked maps" => InChunks::<HalfOpen, Range<u32>, Text<'_>, 4>::answer(asked),
+        "replay chunked inclusive maps" => {
+            InChunks::<Closed<u8>, RangeInclusive<u8>, bool, 4>::answer(asked)
+        }
         "replay chunked sets" => SetsInChunks::<HalfOpen, Range<Costly<'_>>, 4>::answer(asked),
+        "replay chunked inclusive sets" => {
+            SetsInChunks::<Closed<u8>, RangeInclusive<u8>, 4>::answer(asked)
+        }
         _ => Err(Fail::new("a row has a call of another name")),
     }
 }

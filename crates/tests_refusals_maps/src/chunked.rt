@@ -48,10 +48,27 @@ fn each_request_of_a_map_may_be_refused(rt: HostRuntime) -> Result<(), Fail> {
 }
 
 // What is cloned of a key is what a sorted vector clones, also where the two pieces that stay lie in
-// two chunks.
+// two chunks: of half-open ranges both ends of each piece, of closed ones the end at which it is cut.
+// Beside that the first pair takes a list and the list of chunks, and so does a clone. An append takes
+// both ends of each pair that it tells of; there is room for four.
 #[test]
 fn each_clone_of_a_key_may_be_refused(rt: HostRuntime) -> Result<(), Fail> {
     let heap = Refusing::new(rt.alloc(), MANY);
+    chunked_map::<Costly<'_>, char, 4>(
+        &heap,
+        "0..10 a | insert 10..20 a | 0..20 a | 2
+        0..10 a | insert 3..6 b | 0..3 a, 3..6 b, 6..10 a | 4
+        0..10 a | remove 3..6 | 0..3 a, 6..10 a | 4
+        0..2 a, 4..6 b, 8..10 c, 12..14 d, 16..18 e | remove 5..17 | 0..2 a, 4..5 b, 17..18 e | 4
+        0..2 a, 5..10 a | clone | 0..2 a, 5..10 a | 6
+        1..3 a | gaps 0..5 | 0..1, 3..5 | 2
+        0..2 a, 4..6 b, 8..10 c, 12..14 d, 16..18 e | gaps 5..11 | 6..8, 10..11 | 2
+        0..10 a + 3..6 b | extend | ; ; 0..10 a; 0..10 a; 0..10 a; 0..10 a; 0..3 a, 3..6 b, 6..10 a | 6
+        0..2 a, 5..10 a | append 1..6 0..2 a + 5..10 a | 0..2 a, 5..10 a, 0..2 a, 5..10 a | 4
+        0..2 a, 5..10 a | append 1..6 20..30 b | 20..30 b, 0..2 a, 5..10 a | 4
+        0..2 a, 5..10 a | append 1..3 20..30 b | 20..30 b, 0..2 a | 2
+        0..2 a, 5..10 a | append all 20..30 b | 20..30 b, 0..2 a, 5..10 a | 4",
+    )?;
     chunked_inclusive_map::<Costly<'_>, char, 4>(
         &heap,
         "| insert 0..=255 a | 0..=255 a | 2
@@ -62,9 +79,41 @@ fn each_clone_of_a_key_may_be_refused(rt: HostRuntime) -> Result<(), Fail> {
         0..=1 a, 4..=5 b, 8..=9 c, 12..=13 d, 16..=17 e | clone | 0..=1 a, 4..=5 b, 8..=9 c, 12..=13 d, 16..=17 e | 13
         0..=1 a, 4..=5 b, 8..=9 c, 12..=13 d, 16..=17 e | gaps 6..=13 | 6..=7, 10..=11 | 1
         0..=3 a, 4..=7 b, 8..=11 c, 12..=13 d, 16..=17 e | gaps 0..=19 | 14..=15, 18..=19 | 0
+        0..=9 a | remove 10..=255 | 0..=9 a | 0
+        | remove 0..=5 | | 0
+        | clone | | 0
+        0..=9 a + 3..=5 b | extend | ; ; 0..=9 a; 0..=9 a; 0..=2 a, 3..=5 b, 6..=9 a | 4
         0..=2 a, 5..=10 a | append 1..=6 0..=2 a + 5..=10 a \
-            | 0..=2 a, 5..=10 a, 0..=2 a, 5..=10 a | 4",
+            | 0..=2 a, 5..=10 a, 0..=2 a, 5..=10 a | 4
+        0..=2 a, 5..=10 a | append 1..=6 20..=30 b | 20..=30 b, 0..=2 a, 5..=10 a | 4
+        0..=2 a, 5..=10 a | append 1..=3 20..=30 b | 20..=30 b, 0..=2 a | 2
+        0..=2 a, 5..=10 a | append all 20..=30 b | 20..=30 b, 0..=2 a, 5..=10 a | 4",
     )
+}
+
+// A piece that stays takes a clone of its text, as it does in a sorted vector; a clone of a map takes
+// the list of chunks beside the list of the one chunk and three texts. Of an `extend` the first pair
+// takes these two lists, and the second, inside it, a text for each piece.
+#[test]
+fn each_clone_of_a_text_of_a_closed_map_may_be_refused(rt: HostRuntime) -> Result<(), Fail> {
+    let heap = Refusing::new(rt.alloc(), MANY);
+    chunked_inclusive_map::<u32, Text<'_>, 4>(
+        &heap,
+        "0..=9 a | insert 3..=5 b | 0..=2 a, 3..=5 b, 6..=9 a | 2
+        0..=9 a | remove 3..=5 | 0..=2 a, 6..=9 a | 2
+        0..=3 a, 4..=7 b, 8..=11 a | clone | 0..=3 a, 4..=7 b, 8..=11 a | 5
+        0..=9 a + 3..=5 b + 20..=25 c | extend \
+            | ; ; 0..=9 a; 0..=9 a; 0..=2 a, 3..=5 b, 6..=9 a, 20..=25 c | 4",
+    )
+}
+
+// Both ends of each piece that stays are cloned, here texts.
+#[test]
+#[tactic(auto, using(rangemap::proofs::TextKeys::clones_tie))]
+fn each_clone_of_a_text_as_key_may_be_refused(rt: HostRuntime) -> Result<(), Fail> {
+    let heap = Refusing::new(rt.alloc(), MANY);
+    let row = "a..k a, u..z b | insert f..w c | a..f a, f..w c, w..z b | 4";
+    chunked_map::<Text<'_>, char, 4>(&heap, row)
 }
 
 /// A map in chunks of up to 128 pairs.

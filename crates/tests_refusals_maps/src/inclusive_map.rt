@@ -3,13 +3,14 @@
 
 use crate::containers::inclusive_map;
 use std::test::Fail;
-use tests_support::{Costly, MANY, Refusing};
+use tests_support::{Costly, MANY, Refusing, Text};
 
 // The first growth takes a request, a clone of the stored end of each piece that stays another, and
 // so do both ends of a range that is joined, on whichever side what it joins lies; one that joins
 // nothing is moved. A removal that meets nothing takes nothing, nor does a clone of an empty map;
 // one of another map takes its list, and six keys. The start of a gap is cloned, and its end comes
-// of a step. An append takes a clone of either end of each pair; there is room for four.
+// of a step. An append takes a clone of either end of each pair that it tells of; there is
+// room for four.
 #[test]
 fn each_request_may_be_refused(rt: HostRuntime) -> Result<(), Fail> {
     let heap = Refusing::new(rt.alloc(), MANY);
@@ -31,6 +32,25 @@ fn each_request_may_be_refused(rt: HostRuntime) -> Result<(), Fail> {
         10..=249 a | gaps 0..=255 | 0..=9, 250..=255 | 1
         0..=9 a + 3..=5 b | extend | ; 0..=9 a; 0..=9 a; 0..=2 a, 3..=5 b, 6..=9 a | 3
         0..=2 a, 5..=10 a | append 1..=6 0..=2 a + 5..=10 a \
-            | 0..=2 a, 5..=10 a, 0..=2 a, 5..=10 a | 4",
+            | 0..=2 a, 5..=10 a, 0..=2 a, 5..=10 a | 4
+        0..=2 a, 5..=10 a | append 1..=6 20..=30 b | 20..=30 b, 0..=2 a, 5..=10 a | 4
+        0..=2 a, 5..=10 a | append 1..=3 20..=30 b | 20..=30 b, 0..=2 a | 2
+        0..=2 a, 5..=10 a | append all 20..=30 b | 20..=30 b, 0..=2 a, 5..=10 a | 4",
+    )
+}
+
+// A piece that stays beside another takes a clone of its text; a clone of a map its list, and three
+// texts. Of an `extend` the first pair takes the first growth, and the second, inside it, a text for
+// each piece.
+#[test]
+fn each_clone_of_a_text_may_be_refused(rt: HostRuntime) -> Result<(), Fail> {
+    let heap = Refusing::new(rt.alloc(), MANY);
+    inclusive_map::<u32, Text<'_>>(
+        &heap,
+        "0..=9 a | insert 3..=5 b | 0..=2 a, 3..=5 b, 6..=9 a | 2
+        0..=9 a | remove 3..=5 | 0..=2 a, 6..=9 a | 2
+        0..=3 a, 4..=7 b, 8..=11 a | clone | 0..=3 a, 4..=7 b, 8..=11 a | 4
+        0..=9 a + 3..=5 b + 20..=25 c | extend \
+            | ; 0..=9 a; 0..=9 a; 0..=2 a, 3..=5 b, 6..=9 a, 20..=25 c | 3",
     )
 }

@@ -40,7 +40,10 @@ fn each_request_may_be_refused(rt: HostRuntime) -> Result<(), Fail> {
 }
 
 // Both ends of each piece that stays are cloned, and both ends of a gap. Of a range that is joined
-// both ends are cloned, on whichever side what it joins lies; one that joins nothing is moved.
+// both ends are cloned, on whichever side what it joins lies; one that joins nothing is moved. A clone
+// of a map takes its list, and four keys. Of an `extend` the first pair takes the first growth, and the
+// second, inside it, both ends of two pieces. An append takes both ends of each pair that it tells of;
+// a list has room for four, and one that has four has to grow first.
 #[test]
 #[tactic(auto, using(rangemap::proofs::TextKeys::clones_tie))]
 fn each_clone_of_a_key_may_be_refused(rt: HostRuntime) -> Result<(), Fail> {
@@ -55,7 +58,17 @@ fn each_clone_of_a_key_may_be_refused(rt: HostRuntime) -> Result<(), Fail> {
         0..5 a, 10..15 a | insert 5..10 a | 0..15 a | 2
         0..5 a | insert 10..15 b | 0..5 a, 10..15 b | 0
         0..10 a | insert 3..6 a | 0..10 a | 2
-        0..10 a | insert 3..6 b | 0..3 a, 3..6 b, 6..10 a | 4",
+        0..10 a | insert 3..6 b | 0..3 a, 3..6 b, 6..10 a | 4
+        0..10 a | remove 3..6 | 0..3 a, 6..10 a | 4
+        0..2 a, 5..10 a | clone | 0..2 a, 5..10 a | 5
+        0..10 a + 3..6 b | extend \
+            | ; 0..10 a; 0..10 a; 0..10 a; 0..10 a; 0..3 a, 3..6 b, 6..10 a | 5
+        0..2 a, 5..10 a | append 1..6 0..2 a + 5..10 a | 0..2 a, 5..10 a, 0..2 a, 5..10 a | 4
+        0..2 a, 5..10 a | append 1..6 20..30 b | 20..30 b, 0..2 a, 5..10 a | 4
+        0..2 a, 5..10 a | append 1..3 20..30 b | 20..30 b, 0..2 a | 2
+        0..2 a, 5..10 a | append all 20..30 b | 20..30 b, 0..2 a, 5..10 a | 4
+        0..2 a, 5..10 a | append all 20..21 b + 22..23 b + 24..25 b + 26..27 b \
+            | 20..21 b, 22..23 b, 24..25 b, 26..27 b, 0..2 a, 5..10 a | 5",
     )
 }
 

@@ -14,6 +14,8 @@ fn a_refused_insert_leaves_the_map(rt: HostRuntime) -> Result<(), Fail> {
     tree::<u32, Text<'_>>(
         &heap,
         "0..10 a | insert 3..6 b | 0..3 a, 3..6 b, 6..10 a | 1
+        0..10 a | remove 3..6 | 0..3 a, 6..10 a | 1
+        0..4 a, 4..8 b, 8..12 a | clone | 0..4 a, 4..8 b, 8..12 a | 4
         0..10 a + 3..6 b + 20..25 c | extend \
             | ; 0..10 a; 0..3 a, 3..6 b, 6..10 a, 20..25 c | 2",
     )?;
@@ -36,7 +38,7 @@ fn a_refused_insert_leaves_the_map(rt: HostRuntime) -> Result<(), Fail> {
 // and nothing where there is none. Both ends of a gap are cloned.
 //
 // Of an `extend` the first pair takes the tree and a key, the second what an insert inside it takes.
-// An append takes a clone of either end of each pair; there is room for four.
+// An append takes a clone of either end of each pair that it tells of; there is room for four.
 #[test]
 fn each_request_may_be_refused(rt: HostRuntime) -> Result<(), Fail> {
     let heap = Refusing::new(rt.alloc(), MANY);
@@ -66,6 +68,19 @@ fn each_request_may_be_refused(rt: HostRuntime) -> Result<(), Fail> {
         1..3 a | gaps 0..5 | 0..1, 3..5 | 2
         0..10 a + 2..5 b | extend | ; ; 0..10 a; 0..10 a; 0..10 a; 0..10 a; 0..10 a; 0..10 a; \
             0..2 a, 2..5 b, 5..10 a | 8
-        0..2 a, 5..10 a | append 1..6 0..2 a + 5..10 a | 0..2 a, 5..10 a, 0..2 a, 5..10 a | 4",
+        0..2 a, 5..10 a | append 1..6 0..2 a + 5..10 a | 0..2 a, 5..10 a, 0..2 a, 5..10 a | 4
+        0..2 a, 5..10 a | append 1..6 20..30 b | 20..30 b, 0..2 a, 5..10 a | 4
+        0..2 a, 5..10 a | append 1..3 20..30 b | 20..30 b, 0..2 a | 2
+        0..2 a, 5..10 a | append all 20..30 b | 20..30 b, 0..2 a, 5..10 a | 4",
     )
+}
+
+// Of the left piece both ends are cloned; of the right one too, and the key that it stands at. The new
+// pair takes a key, and a list of the key that goes, with a clone of that.
+#[test]
+#[tactic(auto, using(rangemap::proofs::TextKeys::clones_tie))]
+fn each_clone_of_a_text_as_key_may_be_refused(rt: HostRuntime) -> Result<(), Fail> {
+    let heap = Refusing::new(rt.alloc(), MANY);
+    let row = "a..k a, u..z b | insert f..w c | a..f a, f..w c, w..z b | 8";
+    tree::<Text<'_>, char>(&heap, row)
 }

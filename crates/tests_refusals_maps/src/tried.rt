@@ -35,7 +35,7 @@ impl<
     fn is_accepted(heap: &Heap, alloc: &'a Heap, row: &Row<'_>, left: u64) -> Answer {
         match try_or_make::<Map<SortedVec<Q, R, V, &'a Heap>>>(heap, alloc, row, left)? {
             Step::Tried(is_accepted) => Ok(is_accepted),
-            Step::Asks(map, outer) => try_gaps(heap, &map, &outer, row.outcome, left),
+            Step::Asks(map, outer) => try_gaps(heap, &map, &outer, row, left),
         }
     }
 }
@@ -56,7 +56,7 @@ impl<
     fn is_accepted(heap: &Heap, alloc: &'a Heap, row: &Row<'_>, left: u64) -> Answer {
         match try_or_make::<Map<Chunks<Q, R, V, &'a Heap, N>>>(heap, alloc, row, left)? {
             Step::Tried(is_accepted) => Ok(is_accepted),
-            Step::Asks(map, outer) => try_gaps(heap, &map, &outer, row.outcome, left),
+            Step::Asks(map, outer) => try_gaps(heap, &map, &outer, row, left),
         }
     }
 }
@@ -72,7 +72,7 @@ impl<'a, K: Ord + Clone + Word<&'a Heap>, V: Eq + Clone + Word<&'a Heap>> Tried
     fn is_accepted(heap: &Heap, alloc: &'a Heap, row: &Row<'_>, left: u64) -> Answer {
         match try_or_make::<Map<Tree<K, V, &'a Heap>>>(heap, alloc, row, left)? {
             Step::Tried(is_accepted) => Ok(is_accepted),
-            Step::Asks(map, outer) => try_gaps(heap, &map, &outer, row.outcome, left),
+            Step::Asks(map, outer) => try_gaps(heap, &map, &outer, row, left),
         }
     }
 }
@@ -114,7 +114,7 @@ fn try_gaps<'a, S>(
     heap: &Heap,
     map: &'a Map<S>,
     outer: &'a S::Range,
-    list: &str,
+    row: &Row<'_>,
     left: u64,
 ) -> Answer
 where
@@ -122,5 +122,5 @@ where
     requires { KeysCloneFaithfully S.Range.Key.is_clone S.Range.Key.cmp }
 {
     let gaps = (map.gaps(outer), map.gaps(outer));
-    try_both::<S::Range, S::Alloc, _>(heap, gaps, list, left)
+    try_both::<S::Range, S::Alloc, _>(heap, gaps, row, left)
 }

@@ -6,9 +6,10 @@ use rangemap_chunked::Chunks;
 use rangemap_core::half_open::HalfOpen;
 use std::ops::Range;
 use std::test::Fail;
-use tests_support::{Costly, Heap, MANY, Refusing, check_that};
+use tests_support::{Costly, Heap, MANY, Refusing, Text, check_that};
 
-// A set takes what a map with equal values takes. Of an item of two sets both ends are cloned; a set
+// A set takes what a map with equal values takes; of an `extend` that makes five ranges of one chunk
+// the room for half of them is asked for behind all else. Of an item of two sets both ends are cloned; a set
 // of them asks for two lists. A chunk of up to 512 ranges grows as a sorted vector does, from room for
 // 12 to 24 and 48. Where it has room for more than 32, and half of it is unused, some is given back: so
 // at the 25th range there is room for 33, at the 34th for 45, and where 23 of 40 ranges are left for 32.
@@ -21,6 +22,9 @@ fn each_request_of_a_set_may_be_refused(rt: HostRuntime) -> Result<(), Fail> {
         &heap,
         "| insert 0..10 | 0..10 | 2
         0..5 | insert 5..10 | 0..10 | 2
+        0..10 | remove 12..15 | 0..10 | 0
+        | remove 0..5 | | 0
+        | clone | | 0
         0..2, 4..6, 8..10, 12..14 | insert 16..18 | 0..2, 4..6, 8..10, 12..14, 16..18 | 0 + 1
         0..2, 4..6, 8..10, 12..14, 16..18 | insert 14..16 | 0..2, 4..6, 8..10, 12..18 | 2
         0..2, 4..6, 8..10, 12..14, 16..18 | remove 5..17 | 0..2, 4..5, 17..18 | 4
@@ -30,14 +34,24 @@ fn each_request_of_a_set_may_be_refused(rt: HostRuntime) -> Result<(), Fail> {
         0..3, 7..10 | intersection 2..5, 9..13 | 2..3, 9..10 | 2
         0..3, 7..10 | or 2..5, 9..13 | 0..5, 7..13 | 6
         0..3, 7..10 | and 2..5, 9..13 | 2..3, 9..10 | 6
-        0..5 + 5..10 + 10..15 | extend | ; ; 0..5; 0..5; 0..10; 0..10; 0..15 | 6",
+        0..5 + 5..10 + 10..15 | extend | ; ; 0..5; 0..5; 0..10; 0..10; 0..15 | 6
+        0..2 + 4..6 + 8..10 + 12..14 + 16..18 | extend | ; ; 0..2, 4..6, 8..10, 12..14, 16..18; \
+            0..2, 4..6, 8..10, 12..14, 16..18 | 2 + 1
+        0..2, 5..10 | append 1..6 20..30 | 20..30, 0..2, 5..10 | 4
+        0..2, 5..10 | append 1..3 20..30 | 20..30, 0..2 | 2
+        0..2, 5..10 | append all 20..30 | 20..30, 0..2, 5..10 | 4",
+    )?;
+    chunked_set::<u32, 512>(
+        &heap,
+        "0..5 + 10..15 + 20..25 + 30..35 + 40..45 + 50..55 + 60..65 + 70..75 + 80..85 + 90..95 + \
+            100..105 + 110..115 + 120..125 + 130..135 + 140..145 | grow | 0; 0; 12; 15 | 3",
     )?;
     chunked_inclusive_set::<u32, 512>(
         &heap,
         "0..=4 + 10..=14 + 20..=24 | extend | ; ; 0..=4, 10..=14, 20..=24 | 2
         0..=4 + 10..=14 + 20..=24 + 30..=34 + 40..=44 + 50..=54 + 60..=64 + 70..=74 + \
             80..=84 + 90..=94 + 100..=104 + 110..=114 + 120..=124 + 130..=134 + 140..=144 \
-            | grow | | 3
+            | grow | 0; 0; 12; 15 | 3
         0..=4, 10..=14, 20..=24, 30..=34, 40..=44, 50..=54, 60..=64, 70..=74, 80..=84, 90..=94, \
             100..=104, 110..=114, 120..=124, 130..=134, 140..=144, 150..=154, 160..=164, \
             170..=174, 180..=184, 190..=194, 200..=204, 210..=214, 220..=224, 230..=234 \
@@ -67,6 +81,50 @@ fn each_request_of_a_set_may_be_refused(rt: HostRuntime) -> Result<(), Fail> {
             300..=304, 310..=314, 320..=324, 330..=334, 340..=344, 350..=354, 360..=364, \
             370..=374, 380..=384, 390..=394 | 0",
     )
+}
+
+// What is cloned of a key is what a sorted vector clones, also where what stays lies in two chunks;
+// beside it the first range takes the list of chunks, a clone that list and two lists, and a set that
+// is made of two others a list more than a sorted vector does. An append takes both ends of each range
+// that it tells of; there is room for four.
+#[test]
+fn each_request_of_a_closed_set_may_be_refused(rt: HostRuntime) -> Result<(), Fail> {
+    let heap = Refusing::new(rt.alloc(), MANY);
+    chunked_inclusive_set::<Costly<'_>, 4>(
+        &heap,
+        "| insert 0..=255 | 0..=255 | 2
+        0..=4 | insert 5..=9 | 0..=9 | 2
+        5..=9 | insert 0..=4 | 0..=9 | 2
+        0..=4, 10..=14 | insert 5..=9 | 0..=14 | 2
+        0..=4 | insert 6..=9 | 0..=4, 6..=9 | 0
+        0..=9 | insert 3..=5 | 0..=9 | 2
+        0..=1, 4..=5, 8..=9, 12..=13 | insert 16..=17 | 0..=1, 4..=5, 8..=9, 12..=13, 16..=17 | 0 + 1
+        0..=1, 4..=5, 8..=9, 12..=13, 16..=17 | insert 14..=15 | 0..=1, 4..=5, 8..=9, 12..=17 | 2
+        0..=9 | remove 3..=5 | 0..=2, 6..=9 | 2
+        0..=9 | remove 10..=255 | 0..=9 | 0
+        | remove 0..=5 | | 0
+        | clone | | 0
+        0..=1, 4..=5, 8..=9, 12..=13, 16..=17 | remove 5..=16 | 0..=1, 4..=4, 17..=17 | 2
+        0..=1, 4..=5, 8..=9, 12..=13, 16..=17 | clone | 0..=1, 4..=5, 8..=9, 12..=13, 16..=17 | 13
+        0..=1, 4..=5, 8..=9, 12..=13, 16..=17 | gaps 6..=13 | 6..=7, 10..=11 | 1
+        10..=249 | gaps 0..=255 | 0..=9, 250..=255 | 1
+        0..=4, 9..=12 | union 4..=7, 11..=255 | 0..=7, 9..=255 | 2
+        0..=4, 9..=12 | intersection 4..=7, 11..=255 | 4..=4, 11..=12 | 2
+        0..=4, 9..=12 | or 4..=7, 11..=255 | 0..=7, 9..=255 | 6
+        0..=4, 9..=12 | and 4..=7, 11..=255 | 4..=4, 11..=12 | 6
+        0..=4 + 5..=9 + 10..=14 | extend | ; ; 0..=4; 0..=4; 0..=9; 0..=9; 0..=14 | 6
+        0..=2, 5..=10 | append 1..=6 20..=30 | 20..=30, 0..=2, 5..=10 | 4
+        0..=2, 5..=10 | append 1..=3 20..=30 | 20..=30, 0..=2 | 2
+        0..=2, 5..=10 | append all 20..=30 | 20..=30, 0..=2, 5..=10 | 4",
+    )
+}
+
+// Both ends of a gap are cloned, here texts.
+#[test]
+#[tactic(auto, using(rangemap::proofs::TextKeys::clones_tie))]
+fn each_clone_of_a_gap_may_be_refused(rt: HostRuntime) -> Result<(), Fail> {
+    let heap = Refusing::new(rt.alloc(), MANY);
+    chunked_set::<Text<'_>, 4>(&heap, "b..d | gaps a..f | a..b, d..f | 2")
 }
 
 /// A set in chunks of up to 128 ranges.

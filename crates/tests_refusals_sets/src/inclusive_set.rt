@@ -12,7 +12,8 @@ use tests_support::{Costly, MANY, Refusing};
 // of a step.
 //
 // Of an item of two sets both ends are cloned; a set asks for the list too, and for two items. Of
-// an `extend` the first range takes a list, and each other is joined with what is stored.
+// an `extend` the first range takes a list, and each other is joined with what is stored. An append
+// takes both ends of each range that it tells of; there is room for four.
 #[test]
 fn each_request_may_be_refused(rt: HostRuntime) -> Result<(), Fail> {
     let heap = Refusing::new(rt.alloc(), MANY);
@@ -34,11 +35,15 @@ fn each_request_may_be_refused(rt: HostRuntime) -> Result<(), Fail> {
         0..=4, 9..=12 | intersection 4..=7, 11..=255 | 4..=4, 11..=12 | 2
         0..=4, 9..=12 | or 4..=7, 11..=255 | 0..=7, 9..=255 | 5
         0..=4, 9..=12 | and 4..=7, 11..=255 | 4..=4, 11..=12 | 5
-        0..=4 + 5..=9 + 10..=14 | extend | ; 0..=4; 0..=4; 0..=9; 0..=9; 0..=14 | 5",
+        0..=4 + 5..=9 + 10..=14 | extend | ; 0..=4; 0..=4; 0..=9; 0..=9; 0..=14 | 5
+        0..=2, 5..=10 | append 1..=6 20..=30 | 20..=30, 0..=2, 5..=10 | 4
+        0..=2, 5..=10 | append 1..=3 20..=30 | 20..=30, 0..=2 | 2
+        0..=2, 5..=10 | append all 20..=30 | 20..=30, 0..=2, 5..=10 | 4",
     )
 }
 
-// Each of five growths doubles the room, so one is refused after some ranges were kept.
+// The first growth makes room for twelve ranges, and each of the four others doubles it, so one that is
+// refused leaves as many as there was room for.
 #[test]
 fn each_growth_may_be_refused(rt: HostRuntime) -> Result<(), Fail> {
     let heap = Refusing::new(rt.alloc(), MANY);
@@ -60,6 +65,6 @@ fn each_growth_may_be_refused(rt: HostRuntime) -> Result<(), Fail> {
             850..=854 + 860..=864 + 870..=874 + 880..=884 + 890..=894 + 900..=904 + 910..=914 + \
             920..=924 + 930..=934 + 940..=944 + 950..=954 + 960..=964 + 970..=974 + 980..=984 + \
             990..=994 \
-            | grow | | 5",
+            | grow | 0; 12; 24; 48; 96; 100 | 5",
     )
 }

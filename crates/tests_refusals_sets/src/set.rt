@@ -12,7 +12,7 @@ use tests_support::{Costly, MANY, Refusing, Text};
 //
 // Of an item of two sets both ends are cloned; a set asks for the list too, and for two items. Of an
 // `extend` the first range takes a list, and each other is joined with what is stored, which clones
-// both ends.
+// both ends. An append takes both ends of each range that it tells of; there is room for four.
 #[test]
 fn each_request_may_be_refused(rt: HostRuntime) -> Result<(), Fail> {
     let heap = Refusing::new(rt.alloc(), MANY);
@@ -33,7 +33,10 @@ fn each_request_may_be_refused(rt: HostRuntime) -> Result<(), Fail> {
         0..3, 7..10 | intersection 2..5, 9..13 | 2..3, 9..10 | 2
         0..3, 7..10 | or 2..5, 9..13 | 0..5, 7..13 | 5
         0..3, 7..10 | and 2..5, 9..13 | 2..3, 9..10 | 5
-        0..5 + 5..10 + 10..15 | extend | ; 0..5; 0..5; 0..10; 0..10; 0..15 | 5",
+        0..5 + 5..10 + 10..15 | extend | ; 0..5; 0..5; 0..10; 0..10; 0..15 | 5
+        0..2, 5..10 | append 1..6 20..30 | 20..30, 0..2, 5..10 | 4
+        0..2, 5..10 | append 1..3 20..30 | 20..30, 0..2 | 2
+        0..2, 5..10 | append all 20..30 | 20..30, 0..2, 5..10 | 4",
     )
 }
 
@@ -45,7 +48,8 @@ fn each_clone_of_a_gap_may_be_refused(rt: HostRuntime) -> Result<(), Fail> {
     set::<Text<'_>>(&heap, "b..d | gaps a..f | a..b, d..f | 2")
 }
 
-// Each of five growths doubles the room, so one is refused after some ranges were kept.
+// The first growth makes room for twelve ranges, and each of the four others doubles it, so one that is
+// refused leaves as many as there was room for.
 #[test]
 fn each_growth_may_be_refused(rt: HostRuntime) -> Result<(), Fail> {
     let heap = Refusing::new(rt.alloc(), MANY);
@@ -66,6 +70,6 @@ fn each_growth_may_be_refused(rt: HostRuntime) -> Result<(), Fail> {
             800..805 + 810..815 + 820..825 + 830..835 + 840..845 + 850..855 + 860..865 + \
             870..875 + 880..885 + 890..895 + 900..905 + 910..915 + 920..925 + 930..935 + \
             940..945 + 950..955 + 960..965 + 970..975 + 980..985 + 990..995 \
-            | grow | | 5",
+            | grow | 0; 12; 24; 48; 96; 100 | 5",
     )
 }

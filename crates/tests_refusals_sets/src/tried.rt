@@ -11,7 +11,9 @@ use rangemap_sorted::SortedVec;
 use rangemap_tree::Tree;
 use std::marker::PhantomData;
 use std::test::Fail;
-use tests_requests::{Answer, Row, Tried, is_made, try_both, try_call, try_growths, try_makers};
+use tests_requests::{
+    Answer, Row, Tried, is_made, try_appends, try_both, try_call, try_growths, try_makers,
+};
 use tests_support::{FromEnds, Heap, InRows, OwnCalls, Word, first_word, made_of};
 
 /// What is tried on sets over a store.
@@ -30,7 +32,7 @@ impl<'a, Q: Kind<R, Steps = R::Key>, R: FromEnds<Key: Word<&'a Heap>>> Tried
     fn is_accepted(heap: &Heap, alloc: &'a Heap, row: &Row<'_>, left: u64) -> Answer {
         match try_or_make::<Set<SortedVec<Q, R, (), &'a Heap>>>(heap, alloc, row, left)? {
             Step::Tried(is_accepted) => Ok(is_accepted),
-            Step::Gaps(set, other) => try_gaps(heap, &set, &other, row.outcome, left),
+            Step::Gaps(set, other) => try_gaps(heap, &set, &other, row, left),
             Step::Joins(one, other) => try_joined(heap, &one, &other, row, left),
         }
     }
@@ -47,7 +49,7 @@ impl<'a, Q: Kind<R, Steps = R::Key>, R: FromEnds<Key: Word<&'a Heap>>, const N: 
     fn is_accepted(heap: &Heap, alloc: &'a Heap, row: &Row<'_>, left: u64) -> Answer {
         match try_or_make::<Set<Chunks<Q, R, (), &'a Heap, N>>>(heap, alloc, row, left)? {
             Step::Tried(is_accepted) => Ok(is_accepted),
-            Step::Gaps(set, other) => try_gaps(heap, &set, &other, row.outcome, left),
+            Step::Gaps(set, other) => try_gaps(heap, &set, &other, row, left),
             Step::Joins(one, other) => try_joined(heap, &one, &other, row, left),
         }
     }
@@ -63,7 +65,7 @@ impl<'a, T: Ord + Clone + Word<&'a Heap>> Tried for Sets<Tree<T, (), &'a Heap>> 
     fn is_accepted(heap: &Heap, alloc: &'a Heap, row: &Row<'_>, left: u64) -> Answer {
         match try_or_make::<Set<Tree<T, (), &'a Heap>>>(heap, alloc, row, left)? {
             Step::Tried(is_accepted) => Ok(is_accepted),
-            Step::Gaps(set, other) => try_gaps(heap, &set, &other, row.outcome, left),
+            Step::Gaps(set, other) => try_gaps(heap, &set, &other, row, left),
             Step::Joins(one, other) => try_joined(heap, &one, &other, row, left),
         }
     }
@@ -95,20 +97,27 @@ fn try_or_make<S: InRows<Value = ()> + OwnCalls>(
             Ok(Step::Joins(one, made_of(alloc, other)?))
         }
         ("extend", _) => Ok(Step::Tried(try_makers::<S>(heap, alloc, row, left)?)),
-        ("grow", _) => Ok(Step::Tried(try_growths::<S>(heap, alloc, row.given, left)?)),
+        ("append", _) => Ok(Step::Tried(try_appends::<S>(heap, alloc, row, left)?)),
+        ("grow", _) => Ok(Step::Tried(try_growths::<S>(heap, alloc, row, left)?)),
         _ => Ok(Step::Tried(try_call::<S>(heap, alloc, row, left)?)),
     }
 }
 
 /// Asks a set for its gaps in the one range of another.
-fn try_gaps<'a, S>(heap: &Heap, set: &'a Set<S>, other: &'a Set<S>, list: &str, left: u64) -> Answer
+fn try_gaps<'a, S>(
+    heap: &Heap,
+    set: &'a Set<S>,
+    other: &'a Set<S>,
+    row: &Row<'_>,
+    left: u64,
+) -> Answer
 where
     S: Lends<'a, Range: 'a + KeyRange<Key: Word<S::Alloc>>, Value = ()>,
     requires { KeysCloneFaithfully S.Range.Key.is_clone S.Range.Key.cmp }
 {
     let outer = other.first().ok_or("gaps are asked for in a range")?;
     let gaps = (set.gaps(outer), set.gaps(outer));
-    try_both::<S::Range, S::Alloc, _>(heap, gaps, list, left)
+    try_both::<S::Range, S::Alloc, _>(heap, gaps, row, left)
 }
 
 /// Puts two sets together.
@@ -129,19 +138,23 @@ where
     match first_word(row.call).0 {
         "union" => {
             let items = (one.union(other), one.union(other));
-            try_both::<S::Range, S::Alloc, _>(heap, items, row.outcome, left)
+            try_both::<S::Range, S::Alloc, _>(heap, items, row, left)
         }
         "intersection" => {
             let items = (one.intersection(other), one.intersection(other));
-            try_both::<S::Range, S::Alloc, _>(heap, items, row.outcome, left)
+            try_both::<S::Range, S::Alloc, _>(heap, items, row, left)
         }
         "or" => {
             heap.refuse_after(left);
-            is_made(one | other, row.outcome)
+            let made = one | other;
+            row.end_refusal(heap, left)?;
+            is_made(made, row.outcome)
         }
         "and" => {
             heap.refuse_after(left);
-            is_made(one & other, row.outcome)
+            let made = one & other;
+            row.end_refusal(heap, left)?;
+            is_made(made, row.outcome)
         }
         _ => Err(Fail::new("a call is unknown")),
     }

@@ -6,7 +6,7 @@ use crate::row::{Answer, Row};
 use rangemap_containers::calls::Change;
 use std::alloc::AllocError;
 use std::test::Fail;
-use tests_support::{Heap, InRows, MANY, check_row, check_that, made_of, make, read_change};
+use tests_support::{Heap, InRows, check_row, check_that, made_of, make, read_change};
 
 /// Tries the call of a row, whose request that comes after `left` others is refused. One that is
 /// refused leaves what was stored, in as many blocks, and is accepted with memory.
@@ -35,8 +35,7 @@ fn try_on<M: InRows>(heap: &Heap, alloc: M::Alloc, map: &mut M, row: &Row<'_>, l
 }
 
 /// Makes the call of a row. Once it has what it is to be given, the request that comes after `left`
-/// others is refused; the call is refused if it makes that request and can't do without, and only
-/// then.
+/// others is refused.
 fn call_until<M: InRows>(
     heap: &Heap,
     alloc: M::Alloc,
@@ -55,9 +54,7 @@ fn call_until<M: InRows>(
         Change::Clone { .. } => is_made(map.clone(), row.outcome)?,
         Change::New | Change::Clear { .. } => return Err(Fail::new("a call takes no memory")),
     };
-    let is_spare = is_accepted && row.requests <= left && left < row.all();
-    check_that(heap.has_refused() == (!is_accepted || is_spare), row.call)?;
-    heap.refuse_after(MANY);
+    row.end_refusal(heap, left)?;
     Ok(is_accepted)
 }
 

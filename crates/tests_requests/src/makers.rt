@@ -12,8 +12,8 @@ use rangemap_core::kind::Kind;
 use std::alloc::{AllocError, Allocator};
 use std::test::Fail;
 use tests_support::{
-    Heap, InRows, MANY, OwnCalls, Word, check_row, check_that, extend_by, items_of, made_from,
-    pair_of, pairs_of,
+    Heap, InRows, OwnCalls, Word, check_row, check_that, extend_by, items_of, made_from, pair_of,
+    pairs_of,
 };
 
 mod growths;
@@ -37,7 +37,7 @@ pub fn two_pairs<Q: Kind<R>, R: KeyRange<Key: Word<A>>, V: Word<A>, A: Allocator
 }
 
 /// Inserts the pairs into an empty container, until the request is refused that comes after `left`
-/// others. Tells whether all were inserted.
+/// others. Tells whether all were inserted. The caller ends the refusal.
 fn insert_until<M: InRows>(
     heap: &Heap,
     alloc: M::Alloc,
@@ -51,7 +51,6 @@ fn insert_until<M: InRows>(
     let mut map = M::new_with_step_fns(alloc);
     heap.refuse_after(left);
     let answer = insert_pairs(&mut map, pairs);
-    heap.refuse_after(MANY);
     (map, answer.is_ok())
 }
 
@@ -69,7 +68,6 @@ fn extend_until<M: OwnCalls>(
     let mut map = M::new(alloc);
     heap.refuse_after(left);
     let answer = extend_by(&mut map, items);
-    heap.refuse_after(MANY);
     (map, answer.is_ok())
 }
 
@@ -86,9 +84,7 @@ fn collect_until<M: OwnCalls>(
     requires faithful_values { ValuesCloneFaithfully M.Value.is_clone M.Value.eq }
 {
     heap.refuse_after(left);
-    let answer = made_from(alloc, items);
-    heap.refuse_after(MANY);
-    answer
+    made_from(alloc, items)
 }
 
 /// The list that is kept where so many requests are granted. There is one for each number of these,
@@ -118,8 +114,11 @@ pub fn try_makers<M: InRows + OwnCalls>(
         pairs_of::<M::Kind, M::Range, M::Value, M::Alloc>(alloc, row.given)?,
         left,
     );
+    row.end_refusal(heap, left)?;
     let extended = extend_until::<M>(heap, alloc, items_of::<M>(alloc, row.given)?, left);
+    row.end_refusal(heap, left)?;
     let made = collect_until::<M>(heap, alloc, items_of::<M>(alloc, row.given)?, left);
+    row.end_refusal(heap, left)?;
     check_kept(inserted, extended, made, kept(row.outcome, left)?)
 }
 

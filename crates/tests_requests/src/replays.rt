@@ -8,7 +8,7 @@ use rangemap::map::replay;
 use rangemap_containers::replay::CallOn;
 use std::alloc::AllocError;
 use std::test::Fail;
-use tests_support::{Heap, InRows, changes_of, check_that};
+use tests_support::{Heap, InRows, changes_of, check_that, first_word};
 
 /// The lists that a replay makes before its first call.
 const LISTS: u64 = 3;
@@ -23,10 +23,10 @@ pub fn try_changes<M: InRows>(heap: &Heap, alloc: M::Alloc, row: &Row<'_>, left:
 }
 
 /// Tries to replay calls from no container on, where the request that comes after `left` others is
-/// refused.
+/// refused. The caller ends the refusal.
 ///
-/// Where all were accepted, as many containers are left as the row has. Where there was no room for
-/// the lists none was made.
+/// Of the calls that add a container those that were accepted have added one each; where all were, as
+/// many are left as the row has. Where there was no room for the lists none was made.
 pub fn try_replay<M: InRows, C: CallOn<M>>(
     heap: &Heap,
     alloc: M::Alloc,
@@ -42,16 +42,42 @@ pub fn try_replay<M: InRows, C: CallOn<M>>(
     let mut all: Vec<M, M::Alloc> = Vec::new(alloc);
     heap.refuse_after(left);
     match replay(alloc, &mut all, calls) {
-        Ok(answers) => check_left(!answers.contains(&false), all.len(), row, left),
+        Ok(answers) => check_left(answers.as_slice(), all.len(), row, left),
         Err(AllocError) => check_none(all.len()),
     }
 }
 
-/// Whether all calls were accepted, which have then left as many containers as the row has.
-fn check_left(is_accepted: bool, count: usize, row: &Row<'_>, left: u64) -> Answer {
+/// Whether all calls were accepted. Shows that as many containers are left as accepted calls have
+/// added, and those that the row has where all were accepted.
+fn check_left(answers: &[bool], count: usize, row: &Row<'_>, left: u64) -> Answer {
+    let is_accepted = !answers.contains(&false);
     check_that(left >= LISTS, "there was room without a list")?;
+    check_that(
+        count == added(row.given, answers),
+        "a refused call adds a container",
+    )?;
     check_that(!is_accepted || row.outcome.parse() == Ok(count), row.given)?;
     Ok(is_accepted)
+}
+
+/// How many of the calls of a text add a container and were accepted.
+fn added(calls: &str, answers: &[bool]) -> usize {
+    let mut count = 0usize;
+    for (is_accepted, call) in answers.iter().zip(calls.split(", ")) {
+        if *is_accepted && adds(call) {
+            count = count.saturating_add(1);
+        }
+    }
+    count
+}
+
+/// Whether a call adds a container where it is accepted.
+fn adds(call: &str) -> bool {
+    let (_, named) = call.split_once(": ").unwrap_or(("", call));
+    matches!(
+        first_word(named).0,
+        "new" | "clone" | "from" | "union" | "intersection"
+    )
 }
 
 /// Shows that a replay that had no room for its lists made no container.

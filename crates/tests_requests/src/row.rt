@@ -1,6 +1,7 @@
 //! Rows of calls that are tried.
 
 use std::test::Fail;
+use tests_support::{Heap, MANY, check_that};
 
 /// Whether a call that was tried was accepted, or what was found wrong.
 pub type Answer = Result<bool, Fail>;
@@ -39,5 +40,29 @@ impl<'t> Row<'t> {
     /// How many requests it makes in all.
     pub(crate) fn all(&self) -> u64 {
         self.requests.saturating_add(self.spare)
+    }
+
+    /// Grants all requests from now on. Returns whether one was refused, of a call that makes more
+    /// than `left`, or none, of one that does not.
+    ///
+    /// So a request that a call does without is seen, too: one that the row does not count would be
+    /// refused behind all others, and one that is not made would not be.
+    pub(crate) fn has_as_many(&self, heap: &Heap, left: u64) -> bool {
+        let has_refused = heap.has_refused();
+        heap.refuse_after(MANY);
+        has_refused == (left < self.all())
+    }
+
+    /// Grants all requests from now on, once the call of the row was made, of which the request
+    /// that comes after `left` others was to be refused.
+    ///
+    /// # Errors
+    ///
+    /// The call made more requests than the row has, or fewer.
+    pub fn end_refusal(&self, heap: &Heap, left: u64) -> Result<(), Fail> {
+        check_that(
+            self.has_as_many(heap, left),
+            format_args!("{} makes another number of requests", self.call),
+        )
     }
 }

@@ -51,7 +51,9 @@ pub fn try_run<M: InRows>(heap: &Heap, alloc: M::Alloc, row: &Row<'_>, left: u64
     let (first, second) = two_pairs::<M::Kind, M::Range, M::Value, M::Alloc>(alloc, row.given)?;
     let commands = commands::<M>(alloc, first, second)?;
     heap.refuse_after(left);
-    match run(alloc, &mut map, commands) {
+    let answers = run(alloc, &mut map, commands);
+    row.end_refusal(heap, left)?;
+    match answers {
         Ok(answers) => are_accepted(answers.as_slice(), row, left),
         Err(AllocError) => {
             check_that(

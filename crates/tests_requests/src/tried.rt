@@ -4,7 +4,7 @@ ghost use Rattle.rangemap.specs.Clones.{KeysCloneFaithfully, ValuesCloneFaithful
 use crate::row::{Answer, Row};
 use std::alloc::Allocator;
 use std::test::Fail;
-use tests_support::{Heap, InRows, MANY, check_that, made_of, range_of};
+use tests_support::{Heap, InRows, check_that, made_of, range_of};
 
 /// What rows are tried on.
 ///
@@ -19,14 +19,15 @@ pub trait Tried: Sized {
     ghost clones_are_faithful: { Type 0 };
 
     /// Tries the call of a row, whose request that comes after `left` others is refused. Answers
-    /// whether it was accepted.
+    /// whether it was accepted. Each call that is made so ends its refusal by `Row::end_refusal`.
     ///
     /// Every container is asked to `insert`, to `remove` and to `clone`; for the `gaps` in a range,
     /// of which there have to be two; to be made of any number of items, with what an `extend` keeps
-    /// of them for each number of requests that are granted; and to `replay` calls, which leave a
-    /// number of containers. Maps `append` their pairs to a list, and are what commands `run` on.
-    /// Sets are put together with another by `union`, `intersection`, `or` and `and`, the first two
-    /// of which have to give two items; and they `grow` by ranges that stand apart.
+    /// of them for each number of requests that are granted; to `append` to a list what a query
+    /// overlaps, or all; and to `replay` calls, which leave a number of containers. Maps are what
+    /// commands `run` on. Sets are put together with another by `union`, `intersection`, `or` and
+    /// `and`, the first two of which have to give two items; and they `grow` by ranges that stand
+    /// apart, of which they keep so many for each number of requests that are granted.
     fn is_accepted(heap: &Heap, alloc: Self::Alloc, row: &Row<'_>, left: u64) -> Answer
         requires { clones_are_faithful };
 }
@@ -65,11 +66,8 @@ fn check_line<M: Tried>(heap: &Heap, alloc: M::Alloc, line: &str) -> Result<(), 
     let row = Row::read(line)?;
     for left in 0..=row.all() {
         let is_accepted = M::is_accepted(heap, alloc, &row, left)?;
-        let is_all = left == row.all();
         let is_enough = row.requests <= left;
-        let is_expected = is_accepted == is_enough && !(is_all && heap.has_refused());
-        heap.refuse_after(MANY);
-        check_that(is_expected && heap.held() == 0, line)?;
+        check_that(is_accepted == is_enough && heap.held() == 0, line)?;
     }
     Ok(())
 }

@@ -92,18 +92,19 @@ pub fn check_tries<
     check_text(alloc, &answers, "(None, Ok(None))")
 }
 
-/// An iterator that has one item gives it, and none from then on, whichever end is asked.
-pub fn check_both_ends<I: DoubleEndedIterator<Item: Drop>>(
+/// Takes the one item of two iterators that are alike, of the first from the front and of the other
+/// from the back, and asks on at both ends.
+pub fn check_both_ends<I: DoubleEndedIterator<Item: Debug + Drop>>(
+    alloc: Global,
     mut front: I,
     mut back: I,
+    item: &str,
 ) -> Result<(), Fail>
     requires ready { (it : I) → I.can_next it × I.can_next_back it }
 {
-    let (item, again) = next_stays_ended(&mut front);
-    check_same((item.is_some(), again.is_some()), (true, false))?;
-    let (item, last) = next_ends_both_ends(&mut front);
-    check_same((item.is_some(), last.is_some()), (false, false))?;
-    let (item, again, first) = next_back_ends_both_ends(&mut back);
-    let found = (item.is_some(), again.is_some(), first.is_some());
-    check_same(found, (true, false, false))
+    let text = format!(in alloc; "(Some({item}), None)")?;
+    check_text(alloc, &next_stays_ended(&mut front), text.as_str())?;
+    check_text(alloc, &next_ends_both_ends(&mut front), "(None, None)")?;
+    let text = format!(in alloc; "(Some({item}), None, None)")?;
+    check_text(alloc, &next_back_ends_both_ends(&mut back), text.as_str())
 }

@@ -31,13 +31,15 @@ pub enum Fault {
     NoText,
     /// It is the text that is never written.
     Unwritable,
+    /// It is the key that is never written.
+    UnwritableKey,
     /// There was no memory for it.
     NoMemory,
 }
 
 /// A container that rows write and read.
 trait InJson: Debug + Drop {
-    /// `to_value`, with `write_number` and `write_text`.
+    /// `to_value`, with `write_key` and `write_text`.
     fn write(&self, alloc: Global) -> Result<Value, WriteError<Fault>>;
 
     /// `from_value`, with `read_number` and `read_text`.
@@ -50,6 +52,14 @@ fn write_number(key: &u32) -> Result<Value, Fault>
     ensures value { IfOk result (λ part. view part ≡ number (unsigned key.now)) }
 {
     Ok(Value::from(*key))
+}
+
+/// Writes a key, unless it is 13.
+fn write_key(key: &u32) -> Result<Value, Fault> {
+    if *key == 13 {
+        return Err(Fault::UnwritableKey);
+    }
+    write_number(key)
 }
 
 /// Reads a key.

@@ -2,8 +2,10 @@
 //! each pair a line.
 ghost use Rattle.rangemap.specs.Clones.{KeysCloneFaithfully, ValuesCloneFaithfully};
 ghost use Rattle.rangemap.specs.Ranges.{AreNonEmpty};
+ghost use Rattle.rangemap.specs.Sets.{AreNonEmptyRanges};
 
 use rangemap::map::Map;
+use rangemap::range_set::Set;
 use rangemap_chunked::Chunks;
 use rangemap_core::closed::Closed;
 use rangemap_core::half_open::HalfOpen;
@@ -145,5 +147,54 @@ fn maps_in_chunks_are_written_in_braces(rt: HostRuntime) -> Result<(), Fail> {
         [(0u8..=2, true), (4..=6, false), (8..=255, true)],
         "{0..=2: true, 4..=6: false, 8..=255: true}",
         "{\n    0..=2: true,\n    4..=6: false,\n    8..=255: true,\n}",
+    )
+}
+
+/// Compares what is written of a set of some ranges.
+fn check_ranges<S, const N: usize>(
+    alloc: Global,
+    ranges: [S::Range; N],
+    text: &str,
+    lines: &str,
+) -> Result<(), Fail>
+where
+    S: StoreMut<Range: KeyRange<Key: Debug> + Debug, Value = (), Alloc = Global> + Drop,
+    S::Kind: Kind<S::Range, Steps = <S::Range as KeyRange>::Key>,
+    requires non_empty { AreNonEmptyRanges S.Kind.kind ranges }
+    requires faithful_keys { KeysCloneFaithfully S.Range.Key.is_clone S.Range.Key.cmp }
+{
+    let set: Set<S> = Set::from(alloc, ranges)?;
+    check_texts(alloc, &set, text, lines)
+}
+
+#[test]
+fn sets_are_written_in_braces(rt: HostRuntime) -> Result<(), Fail> {
+    check_ranges::<InTree<u32, ()>, 2>(
+        rt.alloc(),
+        [0u32..100, 200..300],
+        "{0..100, 200..300}",
+        "{\n    0..100,\n    200..300,\n}",
+    )?;
+    check_ranges::<InChunks<HalfOpen, Range<u32>, ()>, 3>(
+        rt.alloc(),
+        [0u32..2, 4..6, 8..9],
+        "{0..2, 4..6, 8..9}",
+        "{\n    0..2,\n    4..6,\n    8..9,\n}",
+    )
+}
+
+#[test]
+fn closed_sets_are_written_in_braces(rt: HostRuntime) -> Result<(), Fail> {
+    check_ranges::<SortedVec<Closed<u32>, RangeInclusive<u32>, (), Global>, 2>(
+        rt.alloc(),
+        [0u32..=100, 200..=300],
+        "{0..=100, 200..=300}",
+        "{\n    0..=100,\n    200..=300,\n}",
+    )?;
+    check_ranges::<InChunks<Closed<u32>, RangeInclusive<u32>, ()>, 3>(
+        rt.alloc(),
+        [0u32..=2, 4..=6, 8..=9],
+        "{0..=2, 4..=6, 8..=9}",
+        "{\n    0..=2,\n    4..=6,\n    8..=9,\n}",
     )
 }

@@ -1,6 +1,6 @@
 //! Maps over half-open ranges of keys that are no integers.
 
-use rangemap::RangeMap;
+use rangemap::{RangeMap, tree_map};
 use rangemap_core::half_open::HalfOpen;
 use std::alloc::{AllocError, Global};
 use std::ops::Range;
@@ -52,20 +52,26 @@ fn check_texts(alloc: Global, map: &mut Texts) -> Result<(), Fail> {
     check_same((inner, outer), ((Some(1), Some(2)), (Some(1), None)))
 }
 
-#[test]
-#[tactic(auto, using(rangemap::proofs::TextKeys::clones_tie))]
-fn texts_are_keys_in_chunks(rt: HostRuntime) -> Result<(), Fail> {
-    check_rows::<ChunkedMap<HalfOpen, Range<String>, u32, Global, 2>>(
-        rt.alloc(),
-        "
+/// Rows of numbers at texts.
+const TEXT_ROWS: &str = "
         insert a..m 1, insert m..z 1 | holds | a..z 1
         insert a..m 1, insert m..z 1, insert fig..figs 2 | holds | a..fig 1, fig..figs 2, figs..z 1
         insert a..m 1, insert m..z 1, insert fig..figs 2 | at fi | a..fig 1
         insert a..m 1, insert m..z 1, insert fig..figs 2 | at fig | fig..figs 2
         insert a..m 1, insert m..z 1, insert fig..figs 2 | at z |
         insert a..m 1, insert fig..figs 2, insert fog..fogs 2, remove fi..fogs | holds | a..fi 1, fogs..m 1
-        ",
-    )
+    ";
+
+#[test]
+#[tactic(auto, using(rangemap::proofs::TextKeys::clones_tie))]
+fn texts_are_keys_in_a_tree(rt: HostRuntime) -> Result<(), Fail> {
+    check_rows::<tree_map::RangeMap<String, u32>>(rt.alloc(), TEXT_ROWS)
+}
+
+#[test]
+#[tactic(auto, using(rangemap::proofs::TextKeys::clones_tie))]
+fn texts_are_keys_in_chunks(rt: HostRuntime) -> Result<(), Fail> {
+    check_rows::<ChunkedMap<HalfOpen, Range<String>, u32, Global, 2>>(rt.alloc(), TEXT_ROWS)
 }
 
 /// Letters at pairs of a text and a number.

@@ -47,8 +47,8 @@ pub fn check_answers<M: InRows<Alloc = Global>>(alloc: Global, asked: &Rows<'_>)
 pub enum Asked<'t> {
     /// The three pairs of a list are handed over, in order. Their texts have semicolons between them.
     HandedOver(&'t str, &'t str),
-    /// The one pair of a list is handed over, and none behind it at either end.
-    OneHandedOver(&'t str),
+    /// The one pair of a list is handed over, whose text this is, and none behind it at either end.
+    OneHandedOver(&'t str, &'t str),
     /// The text of the stretches of a map, for each query.
     Stretches {
         pairs: &'t str,
@@ -70,10 +70,10 @@ where
 {
     match asked {
         Asked::HandedOver(pairs, texts) => check_handed_over::<S>(alloc, *pairs, *texts),
-        Asked::OneHandedOver(pair) => {
+        Asked::OneHandedOver(pair, text) => {
             let map = map_of::<S>(alloc, *pair)?;
             let copy = map.clone()?;
-            check_both_ends(map.into_iter(), copy.into_iter())
+            check_both_ends(alloc, map.into_iter(), copy.into_iter(), *text)
         }
         Asked::Stretches {
             pairs,

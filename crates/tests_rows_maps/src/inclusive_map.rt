@@ -20,6 +20,9 @@ fn ranges_with_no_key_between_are_joined(rt: HostRuntime) -> Result<(), Fail> {
         insert 0..=4 a, insert 5..=8 b, insert 5..=6 a | holds | 0..=6 a, 7..=8 b
         insert 0..=9 a, remove 3..=5, remove 4..=4 | holds | 0..=2 a, 6..=9 a
         insert 7..=7 a, insert 4294967295..=4294967295 b | holds | 7..=7 a, 4294967295..=4294967295 b
+        insert 0..=4294967295 a, remove 4294967295..=4294967295, remove 0..=0 | holds | 1..=4294967294 a
+        insert 0..=4294967295 a, remove 4294967295..=4294967295, remove 0..=0 | gaps 0..=4294967295 | 0..=0, 4294967295..=4294967295
+        insert 0..=4294967295 a, remove 4294967295..=4294967295, remove 0..=0, insert 0..=0 a, insert 4294967295..=4294967295 a | holds | 0..=4294967295 a
         insert 0..=9 a, clear | holds |
 
         insert 0..=9 a, insert 3..=5 b, insert 3..=5 a | equals 0..=4 a, 5..=9 a | true
@@ -28,6 +31,7 @@ fn ranges_with_no_key_between_are_joined(rt: HostRuntime) -> Result<(), Fail> {
 
         new | at 5 |
         new | holds |
+        new | gaps 0..=3 | 0..=3
         insert 0..=9 a, insert 3..=5 b | at 2 | 0..=2 a
         insert 0..=9 a, insert 3..=5 b | at 5 | 3..=5 b
         insert 0..=9 a, insert 3..=5 b | at 6 | 6..=9 a
@@ -66,6 +70,9 @@ fn bytes_go_to_their_end(rt: HostRuntime) -> Result<(), Fail> {
         "
         insert 0..=127 false, insert 128..=255 true | holds | 0..=127 false, 128..=255 true
         insert 0..=127 false, insert 128..=255 true, insert 128..=255 false | holds | 0..=255 false
+        insert 0..=255 true, remove 255..=255, remove 0..=0 | holds | 1..=254 true
+        insert 0..=255 true, remove 255..=255, remove 0..=0 | gaps 0..=255 | 0..=0, 255..=255
+        insert 0..=255 true, remove 255..=255, remove 0..=0, insert 0..=0 true, insert 255..=255 true | holds | 0..=255 true
 
         insert 0..=9 false, insert 250..=255 true | gaps 0..=255 | 10..=249
         insert 0..=9 false, insert 250..=255 true | gaps 10..=10 | 10..=10

@@ -5,15 +5,17 @@ use crate::asked::Asked;
 use crate::lent::{All, In, Lent};
 use crate::maps::{ask_chunks, ask_tree, ask_vector, lent_by_chunks, lent_by_tree, lent_by_vector};
 use rangemap::RangeMap;
+use rangemap_chunked::Chunks;
 use rangemap_core::closed::Closed;
 use rangemap_core::half_open::HalfOpen;
 use rangemap_core::kind::Kind;
+use rangemap_tree::Tree;
 use std::alloc::Global;
 use std::fmt::Debug;
 use std::iter::ExactSizeIterator;
 use std::ops::{Range, RangeInclusive};
 use std::test::Fail;
-use tests_support::{FromEnds, Word, check_same, check_text};
+use tests_support::{FromEnds, Word, check_same, check_text, map_of};
 
 /// Compares the three pairs of a map in a sorted vector: as it lends them, and as it hands them over.
 fn check_all<Q: Kind<R, Steps = R::Key>, R: FromEnds<Key: Word<Global> + Debug> + Debug>(
@@ -38,13 +40,54 @@ fn a_loop_goes_over_a_map(rt: HostRuntime) -> Result<(), Fail> {
     check_text(rt.alloc(), &found, "[(0..2, 'a'), (4..6, 'b')]")
 }
 
+// Each loop stands in a test of its own, over a store that is known: over any store the checker
+// gives up on it.
+#[test]
+fn a_loop_goes_over_a_map_in_a_tree(rt: HostRuntime) -> Result<(), Fail> {
+    let map = map_of::<Tree<u32, char, Global>>(rt.alloc(), "8..9 c, 4..6 b, 0..2 a")?;
+    check_same(map.iter().len(), 3)?;
+    let mut found = Vec::new(rt.alloc());
+    for (range, value) in &map {
+        found.push((range.clone()?, *value))?;
+    }
+    check_text(
+        rt.alloc(),
+        &found,
+        "[(0..2, 'a'), (4..6, 'b'), (8..9, 'c')]",
+    )
+}
+
+#[test]
+fn a_loop_goes_over_a_map_in_chunks(rt: HostRuntime) -> Result<(), Fail> {
+    let map = map_of::<Chunks<HalfOpen, Range<u32>, char, Global, 2>>(
+        rt.alloc(),
+        "8..9 c, 4..6 b, 0..2 a",
+    )?;
+    check_same(map.iter().len(), 3)?;
+    let mut found = Vec::new(rt.alloc());
+    for (range, value) in &map {
+        found.push((range.clone()?, *value))?;
+    }
+    check_text(
+        rt.alloc(),
+        &found,
+        "[(0..2, 'a'), (4..6, 'b'), (8..9, 'c')]",
+    )
+}
+
 #[test]
 fn overlapping_pairs_come_from_both_ends(rt: HostRuntime) -> Result<(), Fail> {
     let pairs = "0..2 a, 2..4 b, 4..6 a, 8..9 c";
     let found = "(0..2, 'a'); (2..4, 'b'); (4..6, 'a')";
     let three = Lent::In(1..8, In::Three);
     lent_by_vector::<HalfOpen, Range<u32>>(rt.alloc(), pairs, three, found)?;
-    lent_by_tree(rt.alloc(), pairs, Lent::In(1..8, In::Three), found)
+    lent_by_tree(rt.alloc(), pairs, Lent::In(1..8, In::Three), found)?;
+    lent_by_vector::<Closed<u32>, RangeInclusive<u32>>(
+        rt.alloc(),
+        "0..=1 a, 2..=3 b, 4..=5 a, 8..=9 c",
+        Lent::In(1..=7, In::Three),
+        "(0..=1, 'a'); (2..=3, 'b'); (4..=5, 'a')",
+    )
 }
 
 #[test]
@@ -76,7 +119,7 @@ fn closed_maps_lend_and_hand_their_pairs_over(rt: HostRuntime) -> Result<(), Fai
 }
 
 #[test]
-fn a_map_in_a_tree_hands_its_pairs_over(rt: HostRuntime) -> Result<(), Fail> {
+fn a_map_in_a_tree_lends_and_hands_its_pairs_over(rt: HostRuntime) -> Result<(), Fail> {
     let list = "0..2 a, 4..6 b, 8..9 c";
     let pairs = "(0..2, 'a'); (4..6, 'b'); (8..9, 'c')";
     lent_by_tree(rt.alloc(), list, Lent::All(All::Three), pairs)?;
@@ -89,9 +132,11 @@ fn iterators_of_maps_stay_ended(rt: HostRuntime) -> Result<(), Fail> {
     lent_by_vector::<HalfOpen, Range<u32>>(rt.alloc(), "", gap, "0..3")?;
     let gap = Lent::In(0..12, In::OneGap);
     lent_by_vector::<HalfOpen, Range<u32>>(rt.alloc(), "0..10 a", gap, "10..12")?;
-    lent_by_vector::<HalfOpen, Range<u32>>(rt.alloc(), "0..10 a", Lent::All(All::One), "")?;
-    lent_by_vector::<HalfOpen, Range<u32>>(rt.alloc(), "0..10 a", Lent::In(3..6, In::One), "")?;
-    ask_vector::<HalfOpen, Range<u32>, char>(rt.alloc(), &Asked::OneHandedOver("0..10 a"))
+    lent_by_tree(rt.alloc(), "0..10 a", Lent::In(0..12, In::OneGap), "10..12")?;
+    let one = "(0..10, 'a')";
+    lent_by_vector::<HalfOpen, Range<u32>>(rt.alloc(), "0..10 a", Lent::All(All::One), one)?;
+    lent_by_vector::<HalfOpen, Range<u32>>(rt.alloc(), "0..10 a", Lent::In(3..6, In::One), one)?;
+    ask_vector::<HalfOpen, Range<u32>, char>(rt.alloc(), &Asked::OneHandedOver("0..10 a", one))
 }
 
 #[test]
@@ -149,23 +194,26 @@ fn closed_maps_in_chunks_lend_and_hand_their_pairs_over(rt: HostRuntime) -> Resu
 #[test]
 fn iterators_of_maps_in_chunks_stay_ended(rt: HostRuntime) -> Result<(), Fail> {
     let pairs = "0..2 a, 4..6 b, 8..10 c, 12..14 d, 16..18 e";
-    for (start, end, gap) in [
-        (5, 8, "6..8"),
-        (6, 9, "6..8"),
-        (10, 13, "10..12"),
-        (17, 30, "18..30"),
+    for (start, end, gap, met) in [
+        (5, 8, "6..8", "(4..6, 'b')"),
+        (6, 9, "6..8", "(8..10, 'c')"),
+        (10, 13, "10..12", "(12..14, 'd')"),
+        (17, 30, "18..30", "(16..18, 'e')"),
     ] {
         let one = Lent::In(start..end, In::OneGap);
         lent_by_chunks::<HalfOpen, Range<u32>>(rt.alloc(), pairs, one, gap)?;
         let one = Lent::In(start..end, In::One);
-        lent_by_chunks::<HalfOpen, Range<u32>>(rt.alloc(), pairs, one, "")?;
+        lent_by_chunks::<HalfOpen, Range<u32>>(rt.alloc(), pairs, one, met)?;
     }
     let pairs = "0..=1 a, 4..=5 b, 8..=9 c, 12..=13 d, 16..=17 e";
-    for (start, end, gap) in [(5, 7, "6..=7"), (9, 11, "10..=11")] {
+    for (start, end, gap, met) in [
+        (5, 7, "6..=7", "(4..=5, 'b')"),
+        (9, 11, "10..=11", "(8..=9, 'c')"),
+    ] {
         let one = Lent::In(start..=end, In::OneGap);
         lent_by_chunks::<Closed<u32>, RangeInclusive<u32>>(rt.alloc(), pairs, one, gap)?;
         let one = Lent::In(start..=end, In::One);
-        lent_by_chunks::<Closed<u32>, RangeInclusive<u32>>(rt.alloc(), pairs, one, "")?;
+        lent_by_chunks::<Closed<u32>, RangeInclusive<u32>>(rt.alloc(), pairs, one, met)?;
     }
     Ok(())
 }

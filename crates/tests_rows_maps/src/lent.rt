@@ -27,7 +27,7 @@ pub enum Lent<R> {
 pub enum All {
     /// The pairs, of which there are three.
     Three,
-    /// There is one pair, and none behind it at either end. No text tells of it.
+    /// The one pair, behind which there is none at either end.
     One,
 }
 
@@ -36,7 +36,7 @@ pub enum All {
 pub enum In {
     /// The pairs that overlap it, of which there are three.
     Three,
-    /// One pair overlaps it, and there is none behind it at either end.
+    /// The one pair that overlaps it, behind which there is none at either end.
     One,
     /// The one gap.
     OneGap,
@@ -55,7 +55,7 @@ where
 {
     match asked {
         All::Three => check_three_pairs(alloc, map.iter(), answer, true),
-        All::One => check_both_ends(map.iter(), map.iter()),
+        All::One => check_both_ends(alloc, map.iter(), map.iter(), answer),
     }
 }
 
@@ -74,7 +74,10 @@ where
 {
     match asked {
         In::Three => check_three_pairs(alloc, map.overlapping(range), answer, false),
-        In::One => check_both_ends(map.overlapping(range), map.overlapping(range)),
+        In::One => {
+            let (front, back) = (map.overlapping(range), map.overlapping(range));
+            check_both_ends(alloc, front, back, answer)
+        }
         In::OneGap => {
             let gaps = (map.gaps(range), map.gaps(range), map.gaps(range));
             check_gap(alloc, gaps, answer)

@@ -1,5 +1,8 @@
 //! A value that is equal to others in part.
 
+use rangemap::map::Map;
+use rangemap_core::key_range::KeyRange;
+use rangemap_core::store::Store;
 use std::test::Fail;
 use tests_support::Word;
 
@@ -10,6 +13,20 @@ pub struct Noted {
     pub number: u32,
     /// What no comparison reads.
     pub note: char,
+}
+
+/// Returns a value with a note, and with the number that all such values have, so that they are equal.
+pub fn with_note(note: char) -> Noted {
+    Noted { number: 1, note }
+}
+
+/// Returns the note of the value that a key has.
+pub fn note_at<S: Store<Range: KeyRange<Key = u32>, Value = Noted>>(
+    map: &Map<S>,
+    key: u32,
+) -> Option<char> {
+    let value = map.get(&key)?;
+    Some(value.note)
 }
 
 impl PartialEq for Noted {

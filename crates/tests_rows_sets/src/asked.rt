@@ -27,7 +27,7 @@ pub enum Asked<'t> {
     Changes(&'t str),
     /// The three ranges of a list are handed over, in order. Their texts have semicolons between them.
     HandedOver(&'t str, &'t str),
-    /// The one range of a list is handed over, and none behind it at either end.
+    /// The one range that this text has is handed over, and none behind it at either end.
     OneHandedOver(&'t str),
     /// Of two sets, with a semicolon between them, `|` makes a set, and `&` another.
     Joined {
@@ -56,7 +56,7 @@ where
         Asked::OneHandedOver(range) => {
             let set = set_of::<S>(alloc, *range)?;
             let copy = set.clone()?;
-            check_both_ends(set.into_iter(), copy.into_iter())
+            check_both_ends(alloc, set.into_iter(), copy.into_iter(), *range)
         }
         Asked::Joined {
             sets,

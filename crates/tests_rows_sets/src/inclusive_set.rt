@@ -17,6 +17,9 @@ fn ranges_with_no_key_between_are_joined(rt: HostRuntime) -> Result<(), Fail> {
         insert 0..=4, insert 6..=9 | holds | 0..=4, 6..=9
         insert 0..=2, insert 6..=8, insert 3..=6 | holds | 0..=8
         insert 0..=4294967294, insert 4294967295..=4294967295 | holds | 0..=4294967295
+        insert 0..=4294967295, remove 4294967295..=4294967295, remove 0..=0 | holds | 1..=4294967294
+        insert 0..=4294967295, remove 4294967295..=4294967295, remove 0..=0 | gaps 0..=4294967295 | 0..=0, 4294967295..=4294967295
+        insert 0..=4294967295, remove 4294967295..=4294967295, remove 0..=0, insert 0..=0, insert 4294967295..=4294967295 | holds | 0..=4294967295
 
         insert 0..=9, remove 0..=9 | holds |
         insert 0..=9, remove 3..=5 | holds | 0..=2, 6..=9
@@ -43,6 +46,7 @@ fn what_is_asked_is_answered(rt: HostRuntime) -> Result<(), Fail> {
         insert 0..=100, insert 200..=300 | at 301 |
         insert 0..=100, clear | at 5 |
         insert 0..=100, clear | holds |
+        new | gaps 0..=3 | 0..=3
 
         insert 3..=8 | overlapping 6..=4 | 3..=8
         insert 5..=8 | overlapping 6..=4 |
@@ -60,6 +64,9 @@ fn bytes_go_to_their_end(rt: HostRuntime) -> Result<(), Fail> {
         rt.alloc(),
         "
         insert 0..=255, remove 128..=128 | holds | 0..=127, 129..=255
+        insert 0..=255, remove 255..=255, remove 0..=0 | holds | 1..=254
+        insert 0..=255, remove 255..=255, remove 0..=0 | gaps 0..=255 | 0..=0, 255..=255
+        insert 0..=255, remove 255..=255, remove 0..=0, insert 0..=0, insert 255..=255 | holds | 0..=255
 
         insert 0..=9, insert 250..=255 | gaps 0..=255 | 10..=249
         insert 0..=9, insert 250..=255 | gaps 10..=10 | 10..=10

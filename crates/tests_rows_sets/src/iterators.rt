@@ -4,12 +4,15 @@ use crate::asked::Asked;
 use crate::lent::{All, In, Lent, OfBoth};
 use crate::sets::{ask_chunks, ask_tree, ask_vector, lent_by_chunks, lent_by_tree, lent_by_vector};
 use rangemap::RangeSet;
+use rangemap_chunked::Chunks;
 use rangemap_core::closed::Closed;
 use rangemap_core::half_open::HalfOpen;
+use rangemap_tree::Tree;
+use std::alloc::Global;
 use std::iter::ExactSizeIterator;
 use std::ops::{Range, RangeInclusive};
 use std::test::Fail;
-use tests_support::{check_same, check_text};
+use tests_support::{check_same, check_text, set_of};
 
 #[test]
 fn a_loop_goes_over_a_set(rt: HostRuntime) -> Result<(), Fail> {
@@ -21,6 +24,33 @@ fn a_loop_goes_over_a_set(rt: HostRuntime) -> Result<(), Fail> {
         found.push(range.clone()?)?;
     }
     check_text(rt.alloc(), &found, "[0..2, 4..6]")
+}
+
+// Each loop stands in a test of its own, over a store that is known: over any store the checker
+// gives up on it.
+#[test]
+fn a_loop_goes_over_a_set_in_a_tree(rt: HostRuntime) -> Result<(), Fail> {
+    let set = set_of::<Tree<u32, (), Global>>(rt.alloc(), "8..9, 4..6, 0..2")?;
+    check_same(set.iter().len(), 3)?;
+    let mut found = Vec::new(rt.alloc());
+    for range in &set {
+        found.push(range.clone()?)?;
+    }
+    check_text(rt.alloc(), &found, "[0..2, 4..6, 8..9]")
+}
+
+#[test]
+fn a_loop_goes_over_a_set_in_chunks(rt: HostRuntime) -> Result<(), Fail> {
+    let set = set_of::<Chunks<HalfOpen, Range<u32>, (), Global, 2>>(
+        rt.alloc(),
+        "8..9, 4..6, 0..2",
+    )?;
+    check_same(set.iter().len(), 3)?;
+    let mut found = Vec::new(rt.alloc());
+    for range in &set {
+        found.push(range.clone()?)?;
+    }
+    check_text(rt.alloc(), &found, "[0..2, 4..6, 8..9]")
 }
 
 #[test]
@@ -70,8 +100,10 @@ fn iterators_of_sets_stay_ended(rt: HostRuntime) -> Result<(), Fail> {
         Lent::In(0..3, In::OneGap),
         "0..1",
     )?;
-    lent_by_vector::<HalfOpen, Range<u32>>(rt.alloc(), ("0..5", ""), Lent::All(All::One), "")?;
-    lent_by_vector::<HalfOpen, Range<u32>>(rt.alloc(), ("0..5", ""), Lent::In(3..6, In::One), "")?;
+    lent_by_tree(rt.alloc(), ("1..3", ""), Lent::In(0..3, In::OneGap), "0..1")?;
+    let lists = ("0..5", "");
+    lent_by_vector::<HalfOpen, Range<u32>>(rt.alloc(), lists, Lent::All(All::One), "0..5")?;
+    lent_by_vector::<HalfOpen, Range<u32>>(rt.alloc(), lists, Lent::In(3..6, In::One), "0..5")?;
     ask_vector::<HalfOpen, Range<u32>>(rt.alloc(), &Asked::OneHandedOver("0..5"))
 }
 
@@ -89,6 +121,12 @@ fn gaps_lie_between_the_ranges(rt: HostRuntime) -> Result<(), Fail> {
 #[test]
 fn items_of_two_sets_stay_ended(rt: HostRuntime) -> Result<(), Fail> {
     lent_by_vector::<HalfOpen, Range<u32>>(
+        rt.alloc(),
+        ("0..5", "3..10"),
+        Lent::All(All::OfBoth(OfBoth::OneItem)),
+        "0..10; 3..5",
+    )?;
+    lent_by_tree(
         rt.alloc(),
         ("0..5", "3..10"),
         Lent::All(All::OfBoth(OfBoth::OneItem)),
@@ -154,9 +192,9 @@ fn closed_sets_in_chunks_lend_and_hand_their_ranges_over(rt: HostRuntime) -> Res
 #[test]
 fn iterators_of_sets_in_chunks_stay_ended(rt: HostRuntime) -> Result<(), Fail> {
     let lists = ("0..2, 4..6, 8..10, 12..14, 16..18", "");
-    for (outer_range, gap) in [(5..8, "6..8"), (10..13, "10..12")] {
+    for (outer_range, gap, met) in [(5..8, "6..8", "4..6"), (10..13, "10..12", "12..14")] {
         let one = Lent::In(outer_range.clone()?, In::One);
-        lent_by_chunks::<HalfOpen, Range<u32>>(rt.alloc(), lists, one, "")?;
+        lent_by_chunks::<HalfOpen, Range<u32>>(rt.alloc(), lists, one, met)?;
         let one = Lent::In(outer_range, In::OneGap);
         lent_by_chunks::<HalfOpen, Range<u32>>(rt.alloc(), lists, one, gap)?;
     }
@@ -174,7 +212,7 @@ fn iterators_of_closed_sets_in_chunks_stay_ended(rt: HostRuntime) -> Result<(), 
     let one = Lent::In(5..=7, In::OneGap);
     lent_by_chunks::<Closed<u32>, RangeInclusive<u32>>(rt.alloc(), lists, one, "6..=7")?;
     let one = Lent::In(5..=7, In::One);
-    lent_by_chunks::<Closed<u32>, RangeInclusive<u32>>(rt.alloc(), lists, one, "")?;
+    lent_by_chunks::<Closed<u32>, RangeInclusive<u32>>(rt.alloc(), lists, one, "4..=5")?;
     lent_by_chunks::<Closed<u32>, RangeInclusive<u32>>(
         rt.alloc(),
         ("0..=4", "4..=9"),

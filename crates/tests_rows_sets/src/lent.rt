@@ -30,7 +30,7 @@ pub enum Lent<R> {
 pub enum All {
     /// The ranges, of which there are three.
     Three,
-    /// There is one range, and none behind it at either end. No text tells of it.
+    /// The one range, behind which there is none at either end.
     One,
     /// What both sets have together.
     OfBoth(OfBoth),
@@ -41,7 +41,7 @@ pub enum All {
 pub enum In {
     /// The ranges that overlap it, of which there are three.
     Three,
-    /// One range overlaps it, and there is none behind it at either end.
+    /// The one range that overlaps it, behind which there is none at either end.
     One,
     /// The one gap.
     OneGap,
@@ -76,7 +76,7 @@ where
 {
     match asked {
         All::Three => check_three_ranges(alloc, set.iter(), answer, true),
-        All::One => check_both_ends(set.iter(), set.iter()),
+        All::One => check_both_ends(alloc, set.iter(), set.iter(), answer),
         All::OfBoth(asked) => check_of_both(alloc, set, other, asked, answer),
     }
 }
@@ -96,7 +96,10 @@ where
 {
     match asked {
         In::Three => check_three_ranges(alloc, set.overlapping(range), answer, false),
-        In::One => check_both_ends(set.overlapping(range), set.overlapping(range)),
+        In::One => {
+            let (front, back) = (set.overlapping(range), set.overlapping(range));
+            check_both_ends(alloc, front, back, answer)
+        }
         In::OneGap => {
             let gaps = (set.gaps(range), set.gaps(range), set.gaps(range));
             check_gap(alloc, gaps, answer)

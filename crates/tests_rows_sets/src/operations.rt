@@ -73,7 +73,7 @@ fn check_half_open(alloc: Global, table: &str) -> Result<(), Fail> {
 }
 
 #[test]
-fn both_sets_are_put_together(rt: HostRuntime) -> Result<(), Fail> {
+fn unions_and_intersections_are_made(rt: HostRuntime) -> Result<(), Fail> {
     check_half_open(
         rt.alloc(),
         "
@@ -89,7 +89,7 @@ fn both_sets_are_put_together(rt: HostRuntime) -> Result<(), Fail> {
 }
 
 #[test]
-fn both_closed_sets_are_put_together(rt: HostRuntime) -> Result<(), Fail> {
+fn unions_and_intersections_of_closed_sets_are_made(rt: HostRuntime) -> Result<(), Fail> {
     check_operations::<Closed<u32>, RangeInclusive<u32>>(
         rt.alloc(),
         "
@@ -105,12 +105,19 @@ fn both_closed_sets_are_put_together(rt: HostRuntime) -> Result<(), Fail> {
 }
 
 #[test]
-fn any_steps_will_do(rt: HostRuntime) -> Result<(), Fail> {
+fn closed_sets_over_any_steps_have_unions(rt: HostRuntime) -> Result<(), Fail> {
+    let (lists, items) = (("-128..=-1", "-1..=127"), "-128..=127; -1..=-1");
     lent_by_vector::<Closed<SignedSteps>, RangeInclusive<i8>>(
         rt.alloc(),
-        ("-128..=-1", "-1..=127"),
-        Lent::All(All::OfBoth(OfBoth::Items)),
-        "-128..=127; -1..=-1",
+        lists,
+        items_of_both(),
+        items,
+    )?;
+    lent_by_chunks::<Closed<SignedSteps>, RangeInclusive<i8>>(
+        rt.alloc(),
+        lists,
+        items_of_both(),
+        items,
     )
 }
 

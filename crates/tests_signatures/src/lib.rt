@@ -1,5 +1,5 @@
 //! Names every public item, from `rangemap` alone, and every call of a container but those by which
-//! the library's crates make and read parts for one another: `over`, `cursor`, `as_slice` and `new`
+//! the library's crates make and read parts for one another: `over`, `cursor`, `into_cursor`, `as_slice` and `new`
 //! of iterators other than `Union` and `Intersection`; and a loop over `&map`, which wants the crate
 //! `rangemap_maps` listed too.
 //!

@@ -18,6 +18,10 @@ use serde_json::Value;
 use std::alloc::{AllocError, Global};
 
 /// `from_iter` of `into_iter` gives an equal set.
+///
+/// # Errors
+///
+/// An insert was refused.
 pub fn from_iter_of_into_iter_is_equal<
     S: HandsOver + Store<Value = ()>,
     T: StoreMut<Range = S::Range, Value = (), Kind = S::Kind> + Drop,

@@ -3,6 +3,12 @@
 //! Each function is told which operator its law is to be of. It makes the operators that the law
 //! speaks of, and answers the sets that they make, which are equal. A law holds where every operator
 //! in it succeeds; `Err(AllocError)` says that one was refused.
+//!
+//! A contract speaks of the keys that a set has, not of how it was made: of `is_idempotent` and
+//! `absorbs` a clone of the first set would meet it, and of the others a clone of the other side.
+//! That the operators are made is read in the bodies.
+//!
+//! A clone of a key compares equal to its original, as for `insert`.
 ghost use Rattle.std.specs.Prelude.{◌≡◌, IsTrue, IfOk};
 ghost use Rattle.rangemap.specs.Clones.{KeysCloneFaithfully};
 ghost use Rattle.rangemap.specs.Joined.{joined, other_of};
@@ -24,8 +30,12 @@ pub enum Operator {
 }
 
 impl Operator {
-    /// Makes the operator.
-    pub fn join<S: StoreMut<Value = ()> + Drop>(
+    /// Returns the set that the operator makes of the two.
+    ///
+    /// # Errors
+    ///
+    /// Memory or a clone was refused.
+    pub fn apply<S: StoreMut<Value = ()> + Drop>(
         &self,
         first: &Set<S>,
         second: &Set<S>,
@@ -70,8 +80,8 @@ where
     ensures right { IfOk result (λ sets. IsCanonOfPoints S.Kind.kind (joined operator.now (covers S.Kind.kind second.now) (covers S.Kind.kind first.now)) sets.1) }
     ensures equal { IfOk result (λ sets. IsTrue (same_ranges S.Kind.kind sets.0 sets.1)) }
 {
-    let left = operator.join(first, second)?;
-    let right = operator.join(second, first)?;
+    let left = operator.apply(first, second)?;
+    let right = operator.apply(second, first)?;
     Ok((left, right))
 }
 
@@ -92,10 +102,10 @@ where
 {
     first.known();
     third.known();
-    let front = operator.join(first, second)?;
-    let back = operator.join(second, third)?;
-    let left = operator.join(&front, third)?;
-    let right = operator.join(first, &back)?;
+    let front = operator.apply(first, second)?;
+    let back = operator.apply(second, third)?;
+    let left = operator.apply(&front, third)?;
+    let right = operator.apply(first, &back)?;
     Ok((left, right))
 }
 
@@ -112,8 +122,7 @@ where
     ensures equal { IfOk result (λ set. IsTrue (same_ranges S.Kind.kind set first.now)) }
 {
     first.known();
-    let made = operator.join(first, first)?;
-    Ok(made)
+    operator.apply(first, first)
 }
 
 /// `a | (a & b)` equals `a`, and so does `a & (a | b)`. The operator is the outer one.
@@ -130,9 +139,8 @@ where
     ensures equal { IfOk result (λ set. IsTrue (same_ranges S.Kind.kind set first.now)) }
 {
     first.known();
-    let inner = operator.other().join(first, second)?;
-    let made = operator.join(first, &inner)?;
-    Ok(made)
+    let inner = operator.other().apply(first, second)?;
+    operator.apply(first, &inner)
 }
 
 /// `a | (b & c)` equals `(a | b) & (a | c)`, and `a & (b | c)` equals `(a & b) | (a & c)`. The operator
@@ -153,10 +161,10 @@ where
 {
     first.known();
     let other = operator.other();
-    let inner = other.join(second, third)?;
-    let near = operator.join(first, second)?;
-    let far = operator.join(first, third)?;
-    let left = operator.join(first, &inner)?;
-    let right = other.join(&near, &far)?;
+    let inner = other.apply(second, third)?;
+    let near = operator.apply(first, second)?;
+    let far = operator.apply(first, third)?;
+    let left = operator.apply(first, &inner)?;
+    let right = other.apply(&near, &far)?;
     Ok((left, right))
 }

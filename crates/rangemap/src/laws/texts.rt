@@ -17,6 +17,10 @@ pub use rangemap_laws::laws::texts::{set_texts_are_joined, texts_are_joined};
 use std::alloc::{AllocError, Global};
 
 /// Returns the debug text of a map of numbers to numbers, both without sign.
+///
+/// # Errors
+///
+/// Memory for the text was refused.
 pub fn unsigned_text(alloc: Global, unsigned: &RangeMap<u32, u16>) -> Result<String, AllocError>
     ensures { IfOk result (λ text. string_bytes text ≡ plain_map (half_open nat_cmp) (codes "..") decimal decimal unsigned.now) }
 {
@@ -24,6 +28,10 @@ pub fn unsigned_text(alloc: Global, unsigned: &RangeMap<u32, u16>) -> Result<Str
 }
 
 /// Returns the debug text of a map over closed ranges of signed numbers.
+///
+/// # Errors
+///
+/// Memory for the text was refused.
 pub fn signed_text(alloc: Global, signed: &RangeInclusiveMap<i8, u64>) -> Result<String, AllocError>
     ensures { IfOk result (λ text. string_bytes text ≡ plain_map (closed ⟦<i8 as StepFns<i8>>⟧.is_key int_cmp) (codes "..=") signed_decimal decimal signed.now) }
 {
@@ -31,6 +39,10 @@ pub fn signed_text(alloc: Global, signed: &RangeInclusiveMap<i8, u64>) -> Result
 }
 
 /// Returns the debug text of a map of numbers to ASCII texts.
+///
+/// # Errors
+///
+/// Memory for the text was refused.
 pub fn ascii_text(alloc: Global, texts: &RangeMap<u32, &str>) -> Result<String, AllocError>
     requires ascii { list_all (λ pair. list_all is_ascii pair.1.now) texts.now ≡ true }
     ensures { IfOk result (λ text. string_bytes text ≡ plain_map (half_open nat_cmp) (codes "..") decimal (λ value. quoted value.now) texts.now) }

@@ -9,7 +9,7 @@ ghost use Rattle.rangemap.specs.SetHistories.{SetStep};
 use super::Set;
 use crate::laws::sets::Operator;
 use rangemap_containers::calls::Change;
-use rangemap_containers::replay::{CallOn, add};
+use rangemap_containers::replay::{CallOn, push_made};
 use rangemap_core::key_range::KeyRange;
 use rangemap_core::kind::Kind;
 use rangemap_core::store::StoreMut;
@@ -53,7 +53,7 @@ where
 
     fn make(self, alloc: S::Alloc, sets: &mut Vec<Set<S>, S::Alloc>) -> bool {
         match self {
-            SetCall::New => add(sets, Ok(Set::new(alloc))),
+            SetCall::New => push_made(sets, Ok(Set::new(alloc))),
             SetCall::Insert { at, range } => Change::Insert {
                 at,
                 range,
@@ -63,13 +63,13 @@ where
             SetCall::Remove { at, range } => Change::Remove { at, range }.make(alloc, sets),
             SetCall::Clear { at } => Change::Clear { at }.make(alloc, sets),
             SetCall::Clone { at } => Change::Clone { at }.make(alloc, sets),
-            SetCall::FromIter { ranges } => add(sets, Set::from_iter(alloc, ranges)),
+            SetCall::FromIter { ranges } => push_made(sets, Set::from_iter(alloc, ranges)),
             SetCall::Extend { at, ranges } => match sets.get_mut(at) {
                 Some(set) => set.extend(ranges).is_ok(),
                 None => false,
             },
-            SetCall::Union { left, right } => add_joined(&Operator::Union, sets, left, right),
-            SetCall::Intersection { left, right } => add_joined(
+            SetCall::Union { left, right } => push_joined(&Operator::Union, sets, left, right),
+            SetCall::Intersection { left, right } => push_joined(
                 &Operator::Intersection,
                 sets,
                 left,
@@ -79,7 +79,8 @@ where
     }
 }
 
-fn add_joined<S: StoreMut<Value = ()> + Drop>(
+// Pushes what the operator makes of two sets, for which there is room. Returns whether it was made.
+fn push_joined<S: StoreMut<Value = ()> + Drop>(
     operator: &Operator,
     sets: &mut Vec<Set<S>, S::Alloc>,
     left: usize,
@@ -100,9 +101,6 @@ where
     let Some(second) = sets.get(right) else {
         return false;
     };
-    let Ok(set) = operator.join(first, second) else {
-        return false;
-    };
-    sets.push_reserved(set);
-    true
+    let made = operator.apply(first, second);
+    push_made(sets, made)
 }

@@ -10,7 +10,8 @@ use rangemap_core::store::StoreMut;
 use std::alloc::AllocError;
 
 impl<S: StoreMut<Value = ()>> Set<S> {
-    /// Adds every key of `range`. Stored ranges that it overlaps or touches become one with it.
+    /// Adds every key of `range`. Stored ranges that it overlaps or touches become one with it, so the
+    /// set grows by at most one range.
     ///
     /// # Requires
     ///
@@ -19,8 +20,8 @@ impl<S: StoreMut<Value = ()>> Set<S> {
     ///
     /// # Errors
     ///
-    /// `Err` says that memory or a clone was refused. The set is then as it was, and the range is
-    /// dropped.
+    /// The growth of the set, or a clone of a key, was refused: then the set is as it was, and the
+    /// range is dropped.
     ///
     /// # Examples
     ///
@@ -40,16 +41,16 @@ impl<S: StoreMut<Value = ()>> Set<S> {
     }
 
     /// Takes every key of `range` out. A stored range that it covers in part is cut, and one that
-    /// reaches past both its ends becomes two.
+    /// reaches past both its ends becomes two, so the set grows by at most one range.
     ///
     /// # Requires
     ///
-    /// As `insert`.
+    /// What `insert` does.
     ///
     /// # Errors
     ///
-    /// As `insert`. Where no stored range overlaps the given one, nothing is refused and nothing
-    /// changes.
+    /// As for `insert`. Where no stored range overlaps the given one, the call takes no memory,
+    /// succeeds and changes nothing.
     ///
     /// # Examples
     ///

@@ -26,7 +26,7 @@ where
     ///
     /// # Errors
     ///
-    /// `Err` says that memory or a clone was refused.
+    /// The memory of the list, or a clone of the allocator or of a key, was refused.
     pub fn clone(&self) -> Result<Self, AllocError>
         requires faithful_keys { KeysCloneFaithfully S.Range.Key.is_clone S.Range.Key.cmp }
         ensures same { IfOk result (λ copy. same_ranges S.Kind.kind self.now copy ≡ true) }
@@ -49,12 +49,25 @@ where
     /// # Requires
     ///
     /// The iterator ends, each range that it gives is one that `insert` takes, and a clone of a key
-    /// compares equal to its original.
+    /// compares equal to its original. The check sees this of a chain over numbers without further
+    /// words. Of an array or a vector it asks for one answer, here for an array of two ranges with
+    /// `u32` keys, with a `refl` for each range:
+    ///
+    /// ```text
+    /// set.extend([0..5, 7..9])?;
+    ///
+    /// extend-requires-clause-non_empty c it h =
+    ///     listed (half_open nat_cmp) array_into_iter_items h.2 it _ h.0 (refl, (refl, tt))
+    /// ```
+    ///
+    /// `listed` stands in `Rattle.rangemap.proofs.IncomingRangeLemmas`. Of a vector it takes
+    /// `into_iter_items` and `h.3`; an iterator that owns the ranges of a set is answered by `owned`
+    /// of `SetRoundTripLemmas`.
     ///
     /// # Errors
     ///
-    /// `Err` says that an insert was refused. The items before it stay; it and those behind it are
-    /// dropped.
+    /// An insert was refused, as there. The items before that one are inserted and stay; it and those
+    /// after it are dropped.
     pub fn extend<I: IntoIterator<Item = S::Range>>(&mut self, iter: I) -> Result<(), AllocError>
         requires ends { IsFiniteIterable I.into_iter_gives I.IntoIter.can_next I.IntoIter.remaining iter }
         requires non_empty { (it : I.IntoIter) → I.into_iter_gives iter it → GivesNonEmptyRanges S.Kind.kind I.IntoIter.next_gives it }
@@ -78,11 +91,11 @@ where
     ///
     /// # Requires
     ///
-    /// As `extend`.
+    /// What `extend` does.
     ///
     /// # Errors
     ///
-    /// `Err` says that an insert was refused.
+    /// An insert was refused; nothing is made then.
     pub fn from_iter<I: IntoIterator<Item = S::Range>>(
         alloc: S::Alloc,
         iter: I,
@@ -101,12 +114,12 @@ where
     ///
     /// # Requires
     ///
-    /// As `extend`.
+    /// What `insert` does, for each range.
     ///
     /// # Errors
     ///
-    /// `Err` says that an insert was refused, or a clone of `alloc`, or the memory through which
-    /// the array is read.
+    /// An insert was refused, or the memory through which the array is read, or a clone of `alloc`;
+    /// nothing is made then.
     pub fn from<const N: usize>(alloc: S::Alloc, value: [S::Range; N]) -> Result<Self, AllocError>
     where
         S::Alloc: Clone,

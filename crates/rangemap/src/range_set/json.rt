@@ -64,7 +64,8 @@ where
     ///
     /// # Requires
     ///
-    /// A clone of a key compares equal to its original.
+    /// The function may be called with any value, and a clone of a key compares equal to its
+    /// original.
     ///
     /// # Errors
     ///

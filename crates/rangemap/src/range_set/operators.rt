@@ -77,7 +77,7 @@ where
     ///
     /// # Errors
     ///
-    /// `Err` says that memory or a clone was refused.
+    /// Memory or a clone was refused.
     fn bitor(self, other: &'a Set<S>) -> Result<Set<S>, AllocError> {
         self.stored.known();
         other.stored.known();
@@ -114,7 +114,7 @@ where
     ///
     /// # Errors
     ///
-    /// `Err` says that memory or a clone was refused.
+    /// Memory or a clone was refused.
     fn bitand(self, other: &'a Set<S>) -> Result<Set<S>, AllocError> {
         self.stored.known();
         other.stored.known();

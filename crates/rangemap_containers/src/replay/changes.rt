@@ -16,7 +16,7 @@ impl<M: Container> CallOn<M> for Change<M::Range, M::Value> {
 
     fn make(self, alloc: M::Alloc, maps: &mut Vec<M, M::Alloc>) -> bool {
         match self {
-            Change::New => add(maps, Ok(M::new_with_step_fns(alloc))),
+            Change::New => push_made(maps, Ok(M::new_with_step_fns(alloc))),
             Change::Insert { at, range, value } => match maps.get_mut(at) {
                 Some(map) => map.insert(range, value).is_ok(),
                 None => false,
@@ -40,14 +40,14 @@ impl<M: Container> CallOn<M> for Change<M::Range, M::Value> {
                     return false;
                 };
                 let made = map.clone();
-                add(maps, made)
+                push_made(maps, made)
             }
         }
     }
 }
 
-/// Adds what was made at the end, for which there is room. Returns whether it was made.
-pub fn add<M: Container>(maps: &mut Vec<M, M::Alloc>, made: Result<M, AllocError>) -> bool
+/// Pushes what was made, for which there is room. Returns whether it was made.
+pub fn push_made<M: Container>(maps: &mut Vec<M, M::Alloc>, made: Result<M, AllocError>) -> bool
     requires room { vec_len maps.old < vec_capacity maps.old }
     ensures answer { result ≡ is_ok made }
     ensures ok { IfOk made (λ map. maps.new.items ≡ maps.old.items ++ map ∷ []) }

@@ -40,7 +40,11 @@ pub(crate) trait ReadsParts<S: Store, E> {
         ensures { (reader self.now).value part.now result };
 }
 
-// Reads a store: inserts the pairs of the entries, in order.
+/// Reads a store: inserts the pairs of the entries, in order.
+///
+/// # Errors
+///
+/// The first fault, as `read_map` says.
 pub(crate) fn read<S: StoreMut + Drop, E, R: ReadsParts<S, E>>(
     alloc: S::Alloc,
     form: Form,

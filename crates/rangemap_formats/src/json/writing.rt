@@ -27,14 +27,18 @@ pub(crate) trait WritesParts<S: Store, E>: Drop {
         ensures { (writer self.now).key key.now result };
 
     /// Writes a value, where there is one to write, and lays it out as an entry behind the ends of
-    /// its range, the first before the last.
+    /// its range, the start before the end.
     fn entry(&self, ends: (Value, Value), value: &S::Value) -> Result<Value, WriteError<E>>
         requires { is_ready self.now }
         ensures ok { IfOk result (λ entry. (part : Json) × (writer self.now).value value.now (OkWord part) × (writer self.now).shape entry ends.0 ends.1 part) }
         ensures err { IfErr result (CallerOr (λ fault. (writer self.now).value value.now (ErrWord fault))) };
 }
 
-// Writes the list of the entries of the pairs, in order.
+/// Writes the list of the entries of the pairs, in order.
+///
+/// # Errors
+///
+/// As for `write_map`.
 pub(crate) fn write<S: Store, E, W: WritesParts<S, E>>(
     alloc: Global,
     stored: &S,

@@ -42,6 +42,7 @@ pub(super) fn answer<M: Container, A: Allocator + Clone>(
     }
 }
 
+// Answers a clone of the value of a key, if it has one.
 fn get<M: Container, A: Allocator>(
     map: &M,
     key: &<M::Range as KeyRange>::Key,
@@ -55,6 +56,7 @@ fn get<M: Container, A: Allocator>(
     }
 }
 
+// Answers clones of the stored range that has a key and of its value, if there is one.
 fn get_key_value<M: Container, A: Allocator>(
     map: &M,
     key: &<M::Range as KeyRange>::Key,
@@ -74,6 +76,7 @@ fn get_key_value<M: Container, A: Allocator>(
     }
 }
 
+// Answers clones of all pairs.
 fn all<M: Container, A: Allocator + Clone>(alloc: &A, map: &M) -> Outcome<M::Range, M::Value, A>
     requires faithful_keys { KeysCloneFaithfully M.Range.Key.is_clone M.Range.Key.cmp }
     requires faithful_values { ValuesCloneFaithfully M.Value.is_clone M.Value.eq }
@@ -84,6 +87,7 @@ fn all<M: Container, A: Allocator + Clone>(alloc: &A, map: &M) -> Outcome<M::Ran
     Ok(Answer::Pairs(pairs))
 }
 
+// Answers clones of the pairs that overlap a range.
 fn overlapping<M: Container, A: Allocator + Clone>(
     alloc: &A,
     map: &M,

@@ -18,8 +18,8 @@ pub type Outcome<R, V, A> = Result<Answer<R, V, A>, AllocError>;
 /// The contract, in `Ran`, says of each command what it answers, up to equality, and what it makes
 /// of the map's pairs, in words of the map's point function. A command that is refused changes
 /// nothing, and those after it are run; `Clear` and `Len` are never refused, nor is a `Remove` that
-/// meets nothing, or a `Get` or `GetKeyValue` of a key that no range has. What two maps answer that
-/// are equal, `laws::runs` says: it can't be seen what they are made of.
+/// meets nothing, or a `Get` or `GetKeyValue` of a key that no range has. What two equal maps of
+/// half-open ranges answer, `laws::runs` says: it can't be seen what they are made of.
 ///
 /// # Requires
 ///

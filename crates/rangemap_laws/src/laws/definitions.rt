@@ -13,8 +13,8 @@ ghost use Rattle.rangemap_laws.specs.SmallLists.{bytes, digit, inclusive, iterat
 ghost use Rattle.serde_json.specs.declared.value.Value.{Value as Json};
 
 /// Which lists of half-open ranges are canonical, what overriding and erasing make of (0..10, 1), and
-/// how lists compare. `three_pairs` is (0..3, 1), (3..6, 2), (6..10, 1). A list is none whose ranges
-/// touch with equal values, overlap, stand in another order or are empty. Lists compare by starts,
+/// how lists compare. `three_pairs` is (0..3, 1), (3..6, 2), (6..10, 1). No list is canonical whose
+/// ranges touch with equal values, overlap, stand in another order or are empty. Lists compare by starts,
 /// then ends, then values, and a beginning is less than the whole.
 pub fn list_rows()
     ensures apart { IsCanonical (half_open nat_cmp) nat_eq three_pairs }
@@ -36,8 +36,8 @@ pub fn list_rows()
 {}
 
 /// Which half-open ranges touch, which keys a range has, which pair covers a key, which pairs a query
-/// meets, and the gaps that a list leaves: an empty query within a stored range meets it, and one at
-/// its end does not; a reversed range has no gaps.
+/// meets, and the gaps that a list leaves: an empty query within a stored range meets it, and so does a
+/// reversed one; one that starts at its end does not; a reversed range has no gaps.
 pub fn query_rows()
     ensures touch { (half_open nat_cmp).Touches (range 0 3) (range 3 6) }
     ensures gap { ¬ ((half_open nat_cmp).Touches (range 0 3) (range 4 6)) }
@@ -91,9 +91,9 @@ pub fn set_and_text_rows()
 
 /// The JSON form of small lists, where `of` is the part that stands for a number, and what is read of
 /// lists of entries. The form of a map is the list of its entries `[[start, end], value]`, of a set
-/// that of its entries `[start, end]`, of nothing the empty list; what an entry lacks is not the form.
-/// In any form entries are inserted in order, and in the canonical form they may neither overlap nor
-/// be joined.
+/// that of its entries `[start, end]`, of nothing the empty list; a list that lacks an entry is
+/// not its form. With `Form::Any` entries are inserted in order, and with `Form::Canonical` they may
+/// neither overlap nor be joined.
 pub fn json_rows()
     ensures pairs { (of : ℕ → Json) (v one two : Json)
         → list_of v ≡ SomeWord (one ∷ two ∷ [])

@@ -10,9 +10,9 @@ ghost use Rattle.rangemap_laws.specs.Runs.{CommandStep, IsAllowed, IsSameResult,
 
 use std::alloc::Allocator;
 
-/// Two maps that are equal, on which the same commands were run and all accepted, gave answers that
-/// are equal one by one, and are equal again. What each map is made of doesn't matter: this speaks
-/// of no map, but of what the contract of `tree_map::run` says of any.
+/// Two maps of half-open ranges that are equal, on which the same commands were run and all accepted,
+/// gave answers that are equal one by one, and are equal again. What each map is made of doesn't
+/// matter: this speaks of no map, but of what the contract of `tree_map::run` says of any.
 pub fn accepted_runs_answer_alike<K: Ord, V: Eq, A: Allocator, B: Allocator>()
     ensures { (one other one_after other_after : List (RangeOf K × V))
         → (commands : List (CommandOf K (RangeOf K) V))

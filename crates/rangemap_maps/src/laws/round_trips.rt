@@ -19,6 +19,10 @@ use serde_json::Value;
 use std::alloc::{AllocError, Global};
 
 /// `from_iter` of `into_iter` gives an equal map.
+///
+/// # Errors
+///
+/// An insert was refused.
 pub fn from_iter_of_into_iter_is_equal<
     S: HandsOver,
     T: StoreMut<Range = S::Range, Value = S::Value, Kind = S::Kind> + Drop,

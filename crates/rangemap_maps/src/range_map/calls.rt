@@ -2,7 +2,7 @@
 
 use super::Map;
 use rangemap_containers::calls::Change;
-use rangemap_containers::replay::{CallOn, add};
+use rangemap_containers::replay::{CallOn, push_made};
 use rangemap_core::key_range::KeyRange;
 use rangemap_core::kind::Kind;
 use rangemap_core::store::StoreMut;
@@ -34,9 +34,9 @@ where
 
     fn make(self, alloc: S::Alloc, maps: &mut Vec<Map<S>, S::Alloc>) -> bool {
         match self {
-            Call::Change(Change::New) => add(maps, Ok(Map::new(alloc))),
+            Call::Change(Change::New) => push_made(maps, Ok(Map::new(alloc))),
             Call::Change(change) => change.make(alloc, maps),
-            Call::FromIter { pairs } => add(maps, Map::from_iter(alloc, pairs)),
+            Call::FromIter { pairs } => push_made(maps, Map::from_iter(alloc, pairs)),
             Call::Extend { at, pairs } => match maps.get_mut(at) {
                 Some(map) => map.extend(pairs).is_ok(),
                 None => false,

@@ -65,7 +65,7 @@ where
     ///
     /// # Requires
     ///
-    /// Clones are faithful, as for `insert`.
+    /// The functions may be called with any value, and clones are faithful, as for `insert`.
     ///
     /// # Errors
     ///

@@ -16,8 +16,8 @@ use rangemap_core::std_ext::Touch;
 use std::alloc::AllocError;
 use std::ops::Range;
 
-/// A piece that an insert leaves of a stored pair, or whether it takes the stored pair into the new
-/// one.
+/// What an insert makes of the stored pair at one end of its stretch: it leaves a piece of it, takes it
+/// into the new one, or neither.
 #[derive(Drop)]
 pub struct Side<R, V> {
     /// The piece, if one is left.
@@ -123,8 +123,8 @@ fn side_between<Q: Kind<R>, R: KeyRange, V: Eq + Clone>(
     })
 }
 
-/// Returns the new range, from the start of the first pair of the stretch or up to the end of the
-/// last where these are taken into it.
+/// Returns the range to store: the new one, from the start of the stretch's first pair if that is taken
+/// in, and up to the end of its last if that is.
 ///
 /// # Errors
 ///
@@ -183,7 +183,7 @@ fn stretch_start<Q: Kind<R>, R: KeyRange, V: Eq>(
     }
 }
 
-// The first pair lies wholly before the second, and they are not to be joined into one.
+// Whether the first pair lies wholly before the second, and they are not to be joined into one.
 fn is_apart<Q: Kind<R>, R: KeyRange, V: Eq>(
     first: &R,
     first_value: &V,

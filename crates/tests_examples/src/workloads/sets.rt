@@ -39,13 +39,13 @@ fn assert_two_sets<S: SetStore, R: AllocGlobal + Abort>(rt: &R) -> Result<(), Fa
 }
 
 #[test]
-fn two_sets(rt: HostRuntime) -> Result<(), Fail> {
+fn workloads_on_two_sets_answer(rt: HostRuntime) -> Result<(), Fail> {
     assert_two_sets::<HalfOpenSet, _>(&rt)?;
     assert_two_sets::<ClosedSet, _>(&rt)
 }
 
 #[test]
-fn two_sets_in_chunks(rt: HostRuntime) -> Result<(), Fail> {
+fn workloads_on_two_sets_in_chunks_answer(rt: HostRuntime) -> Result<(), Fail> {
     assert_two_sets::<ChunkedSet, _>(&rt)?;
     assert_two_sets::<ClosedChunkedSet, _>(&rt)
 }

@@ -2,19 +2,21 @@
 
 use super::made::Made;
 use rangemap::{range_inclusive_map, range_inclusive_set, range_map, range_set};
-use tests_requests::Answer;
+use tests_requests::{Answer, Row};
 use tests_support::{Heap, check_that};
 
 /// Tries the four macros, which are refused alike.
-pub fn try_lists(heap: &Heap, left: u64) -> Answer {
+pub fn try_lists(heap: &Heap, row: &Row<'_>, left: u64) -> Answer {
     let is_map = try_map(heap, left)?;
-    let others = (
-        try_inclusive_map(heap, left)?,
-        try_set(heap, left)?,
-        try_inclusive_set(heap, left)?,
-    );
+    row.end_refusal(heap, left)?;
+    let is_inclusive_map = try_inclusive_map(heap, left)?;
+    row.end_refusal(heap, left)?;
+    let is_set = try_set(heap, left)?;
+    row.end_refusal(heap, left)?;
+    let is_inclusive_set = try_inclusive_set(heap, left)?;
+    row.end_refusal(heap, left)?;
     check_that(
-        others == (is_map, is_map, is_map),
+        (is_inclusive_map, is_set, is_inclusive_set) == (is_map, is_map, is_map),
         "a macro is refused otherwise",
     )?;
     Ok(is_map)

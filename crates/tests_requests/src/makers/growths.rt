@@ -1,16 +1,17 @@
 //! What a set keeps of ranges that stand apart.
 ghost use Rattle.rangemap.specs.Clones.{KeysCloneFaithfully};
 
-use super::{extend_until, insert_until};
-use crate::row::Answer;
+use super::{extend_until, insert_until, kept};
+use crate::row::{Answer, Row};
 use std::test::Fail;
 use tests_support::{Heap, InRows, OwnCalls, check_that, items_of, pairs_of, range_of};
 
-/// Tries `extend`, which has to keep what inserts of the same ranges keep: the first of them.
+/// Tries `extend`, which has to keep what inserts of the same ranges keep: the first of them. The row
+/// says of each number of granted requests how many.
 pub fn try_growths<S: InRows<Value = ()> + OwnCalls>(
     heap: &Heap,
     alloc: S::Alloc,
-    given: &str,
+    row: &Row<'_>,
     left: u64,
 ) -> Answer
     requires faithful_keys { KeysCloneFaithfully S.Range.Key.is_clone S.Range.Key.cmp }
@@ -18,14 +19,17 @@ pub fn try_growths<S: InRows<Value = ()> + OwnCalls>(
     let inserted = insert_until::<S>(
         heap,
         alloc,
-        pairs_of::<S::Kind, S::Range, (), S::Alloc>(alloc, given)?,
+        pairs_of::<S::Kind, S::Range, (), S::Alloc>(alloc, row.given)?,
         left,
     );
-    let extended = extend_until::<S>(heap, alloc, items_of::<S>(alloc, given)?, left);
-    let first = first_of::<S>(alloc, given, extended.0.len())?;
+    row.end_refusal(heap, left)?;
+    let extended = extend_until::<S>(heap, alloc, items_of::<S>(alloc, row.given)?, left);
+    row.end_refusal(heap, left)?;
+    let count = kept(row.outcome, left)?.parse()?;
+    let first = first_of::<S>(alloc, row.given, count)?;
     check_that(
-        extended == inserted && extended.0 == first,
-        "an `extend` keeps other ranges than inserts",
+        extended == inserted && extended.0 == first && first.len() == count,
+        "an `extend` keeps other ranges than the first",
     )?;
     Ok(extended.1)
 }

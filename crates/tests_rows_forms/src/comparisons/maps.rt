@@ -76,12 +76,11 @@ fn each_part_of_a_pair_counts(rt: HostRuntime) -> Result<(), Fail> {
 }
 
 #[test]
-fn each_part_of_a_pair_in_a_tree_counts(rt: HostRuntime) -> Result<(), Fail> {
+fn a_difference_weighs_more_than_the_lengths(rt: HostRuntime) -> Result<(), Fail> {
     check_half_open(
         rt.alloc(),
         "
         ascending | ; 0..2 a, 4..6 b; 0..2 a, 4..6 b, 8..9 c; 0..2 a, 4..6 c; 0..3 a
-        hashed | 0..5 a; 0..3 a, 3..5 a; 0..6 a; 1..5 a; 0..5 b; 0..5 a, 7..8 a
         ",
     )
 }

@@ -56,7 +56,7 @@ fn a_long_list_is_read_into_chunks(rt: HostRuntime) -> Result<(), Fail> {
 }
 
 #[test]
-fn a_long_list_is_read_in_time(rt: HostRuntime) -> Result<(), Fail> {
+fn a_long_list_is_read(rt: HostRuntime) -> Result<(), Fail> {
     let mut value = spread(rt.alloc(), 100_000)?;
     check_read(rt.alloc(), &value, "100000")?;
     let start = value

@@ -1,6 +1,6 @@
 //! Rows about maps over both kinds of range.
 
-use super::{Fault, InJson, check_rows, read_number, read_text, write_number, write_text};
+use super::{Fault, InJson, check_rows, read_number, read_text, write_key, write_text};
 use rangemap::map::Map;
 use rangemap::{Form, ReadError, WriteError};
 use rangemap_chunked::Chunks;
@@ -23,7 +23,7 @@ where
     S::Kind: Kind<S::Range, Steps = <S::Range as KeyRange>::Key>,
 {
     fn write(&self, alloc: Global) -> Result<Value, WriteError<Fault>> {
-        self.to_value(alloc, write_number, write_text)
+        self.to_value(alloc, write_key, write_text)
     }
 
     fn read(alloc: Global, form: Form, value: &Value) -> Result<Self, ReadError<Fault>> {
@@ -69,6 +69,8 @@ fn maps_are_written_and_read(rt: HostRuntime) -> Result<(), Fail> {
         written 0..100 abc | [[[0,100],"abc"]]
         written 0..10 a, 3..6 b | [[[0,3],"a"],[[3,6],"b"],[[6,10],"a"]]
         written 0..5 a, 7..9 ? | Caller(Unwritable)
+        written 13..20 a | Caller(UnwritableKey)
+        written 0..5 a, 7..13 ? | Caller(UnwritableKey)
 
         written 12..14 d, 8..10 c, 4..6 b, 0..2 a | [[[0,2],"a"],[[4,6],"b"],[[8,10],"c"],[[12,14],"d"]]
 
@@ -127,12 +129,22 @@ fn closed_maps_are_written_and_read(rt: HostRuntime) -> Result<(), Fail> {
         r#"
         written | []
         written 0..=99 abc | [[[0,99],"abc"]]
+        written 0..=4 a, 7..=9 ? | Caller(Unwritable)
+        written 13..=20 a | Caller(UnwritableKey)
+        written 0..=4 a, 7..=13 ? | Caller(UnwritableKey)
 
+        any [] | {}
         any [[[7,7],"a"]] | {7..=7: "a"}
         any [[[5,9],"a"],[[0,4],"a"]] | {0..=9: "a"}
         any [[[0,9],"a"],[[3,5],"b"]] | {0..=2: "a", 3..=5: "b", 6..=9: "a"}
         any [[[7,4294967295],"abc"]] | {7..=4294967295: "abc"}
         any [[[8,7],"a"]] | EmptyRange { at: 0 }
+
+        any null | NotAList
+        any [[[0,9],"a"],[5,"a"]] | BadEntry { at: 1 }
+        any [[["x",3],"a"]] | BadKey { at: 0, part: Start, fault: NoNumber }
+        any [[[0,4294967296],"a"]] | BadKey { at: 0, part: End, fault: NoNumber }
+        any [[[8,7],7]] | BadValue { at: 0, fault: NoText }
 
         canonical [[[0,4],"a"],[[6,9],"a"]] | {0..=4: "a", 6..=9: "a"}
         canonical [[[0,4],"a"],[[5,9],"b"]] | {0..=4: "a", 5..=9: "b"}

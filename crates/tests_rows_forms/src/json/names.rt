@@ -7,13 +7,24 @@ use std::fmt::Debug;
 use std::test::Fail;
 use tests_support::{check_text, check_that};
 
-/// Compares the debug texts of answers, each of which is equal to itself and not to the next.
+/// Compares the debug texts of answers, each of which is equal to itself and to no other.
 fn check_told<T: Debug + Eq>(alloc: Global, all: &[T], texts: &str) -> Result<(), Fail> {
-    for (one, next) in all.iter().zip(all.iter().skip(1)) {
-        let is_told = *one == *one && *one != *next;
+    for (place, one) in all.iter().enumerate() {
+        let is_told = equals_that_at(place, one, all);
         check_that(is_told, "an answer equals another, or not itself")?;
     }
     check_text(alloc, &all, texts)
+}
+
+/// Whether one is equal to that at this place, and to no other.
+fn equals_that_at<T: Eq>(place: usize, one: &T, all: &[T]) -> bool {
+    for (at, other) in all.iter().enumerate() {
+        let is_same = place == at;
+        if (*one == *other, *one != *other) != (is_same, !is_same) {
+            return false;
+        }
+    }
+    true
 }
 
 /// The same of two values and of copies of them.

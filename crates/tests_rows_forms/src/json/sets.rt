@@ -1,6 +1,6 @@
 //! Rows about sets over both kinds of range.
 
-use super::{Fault, InJson, check_rows, read_number, write_number};
+use super::{Fault, InJson, check_rows, read_number, write_key};
 use rangemap::range_set::Set;
 use rangemap::{Form, ReadError, WriteError};
 use rangemap_chunked::Chunks;
@@ -23,7 +23,7 @@ where
     S::Kind: Kind<S::Range, Steps = <S::Range as KeyRange>::Key>,
 {
     fn write(&self, alloc: Global) -> Result<Value, WriteError<Fault>> {
-        self.to_value(alloc, write_number)
+        self.to_value(alloc, write_key)
     }
 
     fn read(alloc: Global, form: Form, value: &Value) -> Result<Self, ReadError<Fault>> {
@@ -64,9 +64,11 @@ fn check_closed(alloc: Global, table: &str) -> Result<(), Fail> {
 fn sets_are_written_and_read(rt: HostRuntime) -> Result<(), Fail> {
     check_half_open(
         rt.alloc(),
-        "
+        r#"
         written | []
         written 0..100, 200..300 | [[0,100],[200,300]]
+        written 13..20 | Caller(UnwritableKey)
+        written 0..5, 7..13 | Caller(UnwritableKey)
 
         written 12..14, 8..10, 4..6, 0..2 | [[0,2],[4,6],[8,10],[12,14]]
 
@@ -87,12 +89,14 @@ fn sets_are_written_and_read(rt: HostRuntime) -> Result<(), Fail> {
         any [[0,10],[9]] | BadEntry { at: 1 }
         any [[7,7]] | EmptyRange { at: 0 }
         any [[5,3]] | EmptyRange { at: 0 }
+        any [["x","y"]] | BadKey { at: 0, part: Start, fault: NoNumber }
+        any [[0,4294967296]] | BadKey { at: 0, part: End, fault: NoNumber }
 
         canonical [[0,10],[5,15]] | OutOfOrder { at: 1 }
         canonical [[5,6],[0,1]] | OutOfOrder { at: 1 }
         canonical [[0,5],[0,5]] | OutOfOrder { at: 1 }
         canonical [[0,5],[5,10]] | Uncoalesced { at: 1 }
-        ",
+        "#,
     )
 }
 
@@ -100,19 +104,25 @@ fn sets_are_written_and_read(rt: HostRuntime) -> Result<(), Fail> {
 fn closed_sets_are_written_and_read(rt: HostRuntime) -> Result<(), Fail> {
     check_closed(
         rt.alloc(),
-        "
+        r#"
         written | []
         written 7..=7 | [[7,7]]
+        written 13..=20 | Caller(UnwritableKey)
+        written 0..=4, 7..=13 | Caller(UnwritableKey)
 
+        any [] | {}
         any [[7,7]] | {7..=7}
         any [[5,9],[0,4]] | {0..=9}
         any [[20,30],[7,9]] | {7..=9, 20..=30}
         canonical [[0,4],[6,4294967295]] | {0..=4, 6..=4294967295}
 
+        any null | NotAList
+        any [[0,1],[9]] | BadEntry { at: 1 }
         any [[8,7]] | EmptyRange { at: 0 }
+        any [["x","y"]] | BadKey { at: 0, part: Start, fault: NoNumber }
         any [[0,4294967296]] | BadKey { at: 0, part: End, fault: NoNumber }
         canonical [[0,4],[4,9]] | OutOfOrder { at: 1 }
         canonical [[0,4],[5,9]] | Uncoalesced { at: 1 }
-        ",
+        "#,
     )
 }

@@ -5,7 +5,7 @@ use crate::made::Made;
 use crate::maps::{
     made_in_chunks, made_in_tree, made_in_vector, noted_in_chunks, noted_in_tree, noted_in_vector,
 };
-use crate::noted::Noted;
+use crate::noted::{Noted, note_at, with_note};
 use rangemap::map::Map;
 use rangemap_core::half_open::HalfOpen;
 use rangemap_core::store::StoreMut;
@@ -68,34 +68,20 @@ where
     check_same(map.len(), 101)
 }
 
-/// The number that all values here have, with a note.
-fn noted(note: char) -> Noted {
-    Noted { number: 1, note }
-}
-
-/// The note of the value that a key has.
-fn note_at<S: StoreMut<Kind = HalfOpen, Range = Range<u32>, Value = Noted>>(
-    map: &Map<S>,
-    key: u32,
-) -> Option<char> {
-    let value = map.get(&key)?;
-    Some(value.note)
-}
-
 /// Compares which of equal values stay: the last one of those that are joined, in maps that an array
 /// makes, a list makes and a list extends.
 pub fn check_notes<S>(alloc: Global) -> Result<(), Fail>
 where
     S: StoreMut<Kind = HalfOpen, Range = Range<u32>, Value = Noted, Alloc = Global> + Drop,
 {
-    let made: Map<S> = Map::from(alloc, [(0..4, noted('x')), (4..8, noted('y'))])?;
+    let made: Map<S> = Map::from(alloc, [(0..4, with_note('x')), (4..8, with_note('y'))])?;
     check_same(
         (note_at(&made, 0), note_at(&made, 7)),
         (Some('y'), Some('y')),
     )?;
-    let mut map: Map<S> = Map::from_iter(alloc, [(0..8, noted('x')), (2..4, noted('y'))])?;
+    let mut map: Map<S> = Map::from_iter(alloc, [(0..8, with_note('x')), (2..4, with_note('y'))])?;
     check_same((note_at(&map, 0), note_at(&map, 7)), (Some('y'), Some('y')))?;
-    map.extend([(8..9, noted('z')), (12..13, noted('x'))])?;
+    map.extend([(8..9, with_note('z')), (12..13, with_note('x'))])?;
     let notes = (note_at(&map, 0), note_at(&map, 8), note_at(&map, 12));
     check_same(notes, (Some('z'), Some('z'), Some('x')))
 }
@@ -127,5 +113,7 @@ fn pairs_are_inserted_in_order_in_chunks(rt: HostRuntime) -> Result<(), Fail> {
 
 #[test]
 fn an_array_and_a_chain_are_taken(rt: HostRuntime) -> Result<(), Fail> {
-    made_in_vector(rt.alloc(), &Made::Extended)
+    made_in_vector(rt.alloc(), &Made::Extended)?;
+    made_in_tree(rt.alloc(), &Made::Extended)?;
+    made_in_chunks(rt.alloc(), &Made::Extended)
 }

@@ -6,7 +6,7 @@ use std::ops::Range;
 use std::test::Fail;
 
 #[test]
-fn maps_of_maps_and_of_pairs(rt: HostRuntime) -> Result<(), Fail> {
+fn calls_on_maps_are_replayed(rt: HostRuntime) -> Result<(), Fail> {
     // insert inside and back; two that touch; remove inside; and calls on a third map, where there
     // are two
     check_half_open_replay::<bool>(
@@ -18,7 +18,8 @@ fn maps_of_maps_and_of_pairs(rt: HostRuntime) -> Result<(), Fail> {
         "new, insert 0..5 a, insert 5..9 b, insert 5..7 a | ++++ | 0..7 a, 7..9 b",
         "new, insert 0..10 a, remove 3..6, remove 4..5 | ++++ | 0..3 a, 6..10 a",
         "from 0..10 a + 3..6 b, clone, clear, extend 20..30 c, \
-        2: clear, 7: insert 0..1 d, 2: remove 0..1 | ++++--- | 20..30 c; 0..3 a, 3..6 b, 6..10 a",
+        2: clear, 7: insert 0..1 d, 2: remove 0..1, 2: clone, 2: extend 0..1 d | ++++----- | \
+        20..30 c; 0..3 a, 3..6 b, 6..10 a",
     ];
     for row in rows {
         check_half_open_replay::<char>(rt.alloc(), row)?;

@@ -1,4 +1,4 @@
-//! Rows over sets of closed ranges made by both replays, where every call is accepted.
+//! Rows over sets of closed ranges made by both replays, and calls that name no set.
 
 use crate::sets::{check_bytes_changes, check_closed_replay};
 use std::test::Fail;
@@ -19,5 +19,16 @@ fn two_sets_are_put_together(rt: HostRuntime) -> Result<(), Fail> {
         "from 0..=4, from 5..=9, union 0 1, 1: extend 4..=4, intersection 0 1, 2: remove 3..=6, \
         clear, new, 4: insert 0..=9, 4: insert 250..=255, 4: clone, 5: insert 10..=249 | \
         ++++++++++++ | ; 4..=9; 0..=2, 7..=9; 4..=4; 0..=9, 250..=255; 0..=255",
+    )
+}
+
+// No set is at the third place.
+#[test]
+fn calls_that_name_no_closed_set_are_refused(rt: HostRuntime) -> Result<(), Fail> {
+    check_closed_replay(
+        rt.alloc(),
+        "new, insert 0..=9, clone, remove 3..=5, 1: clear, \
+        2: insert 0..=1, 2: remove 0..=1, 2: clear, 2: clone, 2: extend 0..=1, \
+        union 0 2, union 2 0, intersection 0 2, intersection 2 0 | +++++--------- | 0..=2, 6..=9;",
     )
 }

@@ -1,4 +1,4 @@
-//! Rows about sets that are made of ranges and of other sets, in a sorted vector and in
+//! Rows about sets that are made of ranges and of other sets, in a sorted vector, in a tree and in
 //! chunks.
 
 use rangemap::range_set::Set as SetOver;
@@ -7,6 +7,7 @@ use rangemap_chunked::Chunks;
 use rangemap_core::half_open::HalfOpen;
 use rangemap_core::store::StoreMut;
 use rangemap_sorted::SortedVec;
+use rangemap_tree::Tree;
 use std::alloc::Global;
 use std::ops::Range;
 use std::test::Fail;
@@ -38,6 +39,7 @@ where
 #[test]
 fn ranges_are_inserted_in_order(rt: HostRuntime) -> Result<(), Fail> {
     check_made::<SortedVec<HalfOpen, Range<u32>, (), Global>>(rt.alloc())?;
+    check_made::<Tree<u32, (), Global>>(rt.alloc())?;
     check_made::<Chunks<HalfOpen, Range<u32>, (), Global, 2>>(rt.alloc())
 }
 

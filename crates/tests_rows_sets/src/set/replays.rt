@@ -24,7 +24,7 @@ fn two_sets_are_put_together(rt: HostRuntime) -> Result<(), Fail> {
 
 // No set is at the third place.
 #[test]
-fn calls_that_name_no_set(rt: HostRuntime) -> Result<(), Fail> {
+fn calls_that_name_no_set_are_refused(rt: HostRuntime) -> Result<(), Fail> {
     check_half_open_replay(
         rt.alloc(),
         "new, insert 0..10, clone, remove 3..6, 1: clear, \
@@ -36,7 +36,7 @@ fn calls_that_name_no_set(rt: HostRuntime) -> Result<(), Fail> {
 // What either of two sets has in common with a third, and what each has in common with it, put
 // together.
 #[test]
-fn what_is_common_distributes(rt: HostRuntime) -> Result<(), Fail> {
+fn intersection_distributes_over_union(rt: HostRuntime) -> Result<(), Fail> {
     check_half_open_replay(
         rt.alloc(),
         "from 0..5, from 5..10, from 3..7, union 0 1, intersection 3 2, intersection 0 2, \

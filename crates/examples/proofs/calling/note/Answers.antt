@@ -1,5 +1,6 @@
+use Rattle.std.proofs.lemmas.Result.{on_ok_weaker}
 use Rattle.rangemap.proofs.SetNumberLemmas.{added_between}
 use Rattle.examples.proofs.calling.note.Goals as goal
 
 pub returns : goal.returns
-returns c = added_between _ _ _ c.in_ok-insert.ensures.ok
+returns c = on_ok_weaker c.insert.result (added_between _ _ _) c.insert.ensures.ok

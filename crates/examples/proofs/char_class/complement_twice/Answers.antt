@@ -1,4 +1,5 @@
 use Rattle.std.proofs.Common.{Bool, true, false, ap, not, refl, ◌≡◌, ◌∙◌}
+use Rattle.std.proofs.lemmas.Result.{IfOk-weaker}
 use Rattle.rangemap.proofs.SetCallerLemmas.{equal_sets, placed_characters}
 use Rattle.examples.specs.Characters.{has}
 use Rattle.examples.proofs.char_class.complement_twice.Goals as goal
@@ -8,12 +9,12 @@ not_not true = refl
 not_not false = refl
 
 pub returns-clause-same : goal.returns-clause-same
-returns-clause-same c = record {
-  canonical = c.in_ok-twice.ensures.canonical;
-  points = λ at key. c.in_ok-twice.ensures.points at key ∙ ap not (c.in_ok-complement.ensures.points at key) ∙ not_not (has c.args.class.now.members at);
-}
+returns-clause-same c = IfOk-weaker c.complement-2.result _ _ (λ twice are. record {
+  canonical = are.canonical;
+  points = λ at key. are.points at key ∙ ap not (c.in_ok-complement.ensures.points at key) ∙ not_not (has c.args.class.now.members at);
+}) c.complement-2.ensures
 
 pub returns-clause-equal : goal.returns-clause-equal
-returns-clause-equal c =
-    equal_sets placed_characters c.in_ok-twice.twice.members c.args.class.now.members c.in_ok-twice.ensures.canonical c.known.ensures
-    (λ at key. c.in_ok-twice.ensures.points at key ∙ ap not (c.in_ok-complement.ensures.points at key) ∙ not_not (has c.args.class.now.members at))
+returns-clause-equal c = IfOk-weaker c.complement-2.result _ _ (λ twice are.
+    equal_sets placed_characters twice.members c.args.class.now.members are.canonical c.known.ensures
+    (λ at key. are.points at key ∙ ap not (c.in_ok-complement.ensures.points at key) ∙ not_not (has c.args.class.now.members at))) c.complement-2.ensures

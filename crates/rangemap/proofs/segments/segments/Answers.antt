@@ -24,7 +24,7 @@ pairs-init g c =
     elim c.match-branch-4.branch [
       | in-Some+in_ok-insert w ↦
           rw w.all-is
-          (begun_some k p eq e q c.known_ends.ensures xs c.known.ensures (options_equiv e) w.in-Some.whole (rw w.in-Some.is at c.in_ok-whole.ensures.some)
+          (begun_some k p eq e q c.known_ends.ensures xs c.known.ensures (options_equiv e) w.in-Some.whole (rw w.in-Some.is at c.in_ok-whole.ensures.found).1
           c.new_with_step_fns-all.result w.insert.new.self c.new_with_step_fns-all.ensures w.in_ok-insert.ensures.ok)
       | in_default w ↦
           begun_none k p eq e q c.known_ends.ensures xs c.known.ensures (options_equiv e) (rw w.in_default.is at c.in_ok-whole.ensures.none) all (w.all-is ∙ c.new_with_step_fns-all.ensures)
@@ -32,26 +32,26 @@ pairs-init g c =
     let items = c.append_overlapping.new.out.items in
     rw c.into_iter-rest.ensures.rest
     (clipped_by_clones k g.met.M.Kind.Kind.interval e q (overlapped k xs q) items (value_at k all) (segments_of k (value_at k xs) q)
-    (appended_alone k eq (overlapped k xs q) c.new-found.result.items items c.new-found.ensures.items c.in_ok-append_overlapping.ensures.ok) begun)
+    (appended_alone k eq (overlapped k xs q) c.new-found.result.items items c.new-found.ensures.items c.in_ok-append_overlapping.ensures.ok).0 begun)
 
 pub insert-requires-clause-non_empty : goal.insert-requires-clause-non_empty
 insert-requires-clause-non_empty g c =
-    let stored : IsStorable g.M.Kind.Kind.kind c.in-Some.whole = rw c.in-Some.is at c.in_ok-whole.ensures.none in
+    let stored : IsStorable g.M.Kind.Kind.kind c.in-Some.whole = (rw c.in-Some.is at c.in_ok-whole.ensures.found).0 in
     g.met.M.Kind.Kind.has_key_of c.in-Some.whole stored.non_empty
 
 pub insert-requires-clause-not_exhausted : goal.insert-requires-clause-not_exhausted
 insert-requires-clause-not_exhausted g c =
-    let stored : IsStorable g.M.Kind.Kind.kind c.in-Some.whole = rw c.in-Some.is at c.in_ok-whole.ensures.none in
+    let stored : IsStorable g.M.Kind.Kind.kind c.in-Some.whole = (rw c.in-Some.is at c.in_ok-whole.ensures.found).0 in
     g.met.M.Kind.Kind.is_fresh_of c.in-Some.whole stored.non_empty
 
 pub insert-requires-in-Some-2-clause-non_empty : goal.insert-requires-in-Some-2-clause-non_empty
 insert-requires-in-Some-2-clause-non_empty g c =
-    let stored : IsStorable g.M.Kind.Kind.kind c.in-Some-2.shared = rw c.in-Some-2.is at c.in_ok-shared.ensures.none in
+    let stored : IsStorable g.M.Kind.Kind.kind c.in-Some-2.shared = (rw c.in-Some-2.is at c.in_ok-shared.ensures.found).0 in
     g.met.M.Kind.Kind.has_key_of c.in-Some-2.shared stored.non_empty
 
 pub insert-requires-in-Some-2-clause-not_exhausted : goal.insert-requires-in-Some-2-clause-not_exhausted
 insert-requires-in-Some-2-clause-not_exhausted g c =
-    let stored : IsStorable g.M.Kind.Kind.kind c.in-Some-2.shared = rw c.in-Some-2.is at c.in_ok-shared.ensures.none in
+    let stored : IsStorable g.M.Kind.Kind.kind c.in-Some-2.shared = (rw c.in-Some-2.is at c.in_ok-shared.ensures.found).0 in
     g.met.M.Kind.Kind.is_fresh_of c.in-Some-2.shared stored.non_empty
 
 pub insert-requires-in-Some-2-clause-faithful_values : goal.insert-requires-in-Some-2-clause-faithful_values
@@ -72,7 +72,7 @@ pairs-preserved g c =
           rw w.all-is
           (clip_some k q (options_equiv e) whole a behind c.pairs.all w.insert-in-Some-2.new.self left
           w.in-Some-2.shared (Some c.in-Some-take_first.value) (e.refl c.in-Some-take_first.value)
-          (rw w.in-Some-2.is at c.in_ok-shared.ensures.some) w.in_ok-insert-2.ensures.ok)
+          (rw w.in-Some-2.is at c.in_ok-shared.ensures.found).1 w.in_ok-insert-2.ensures.ok)
       | in_default-2 w ↦
           rw w.all-is
           (clip_none k q (options_equiv e) whole a behind c.pairs.all c.pairs.all left refl (rw w.in_default-2.is at c.in_ok-shared.ensures.none))

@@ -12,10 +12,10 @@ use Rattle.rangemap_chunked.proofs.ChunkLemmas.{by_chunked, ends_clear, spaced_w
 use Rattle.rangemap_chunked.proofs.changes.insert_into.Goals as goal
 
 pub settle-requires-clause-before : goal.settle-requires-clause-before
-settle-requires-clause-before g c = c.in_ok-change.ensures.filled.before
+settle-requires-clause-before g c = c.in_ok-counts.ensures.filled.before
 
 pub settle-requires-clause-behind : goal.settle-requires-clause-behind
-settle-requires-clause-behind g c = c.in_ok-change.ensures.filled.behind
+settle-requires-clause-behind g c = c.in_ok-counts.ensures.filled.behind
 
 pub change_over-requires-clause-begun : goal.change_over-requires-clause-begun
 change_over-requires-clause-begun g c = λ more.
@@ -54,9 +54,9 @@ change_over-requires-clause-behind g c =
     Every-map _ _ (whole (drop c.first_failing-end.result c.args.chunks.now.items)) (λ (b : g.row.R.Denot × g.row.V.Denot) less. lt_le (places p eq) end (Some (k.start b.0)) less) (change_over-requires-clause-clear g c)
 
 pub returns-clause-counted : goal.returns-clause-counted
-returns-clause-counted g c = subst (λ (xs : List (g.row.R.Denot × g.row.V.Denot)). IsCounted g.V.PartialEq.eq 2 (whole c.args.chunks.now.items) xs c.in_ok-change.change.before c.in_ok-change.change.after) (sym c.settle.ensures.whole) c.in_ok-change.ensures.counted
+returns-clause-counted g c = subst (λ (xs : List (g.row.R.Denot × g.row.V.Denot)). IsCounted g.V.PartialEq.eq 2 (whole c.args.chunks.now.items) xs c.in_ok-counts.counts.before c.in_ok-counts.counts.after) (sym c.settle.ensures.whole) c.in_ok-counts.ensures.counted
 
 pub returns-clause-ok : goal.returns-clause-ok
 returns-clause-ok g c =
     let k = g.Q.Kind.kind in
-    subst (λ (xs : List (g.row.R.Denot × g.row.V.Denot)). IsChanged k g.V.PartialEq.eq (value_at k (whole c.args.chunks.now.items)) c.args.range (Some c.args.value) xs) (sym c.settle.ensures.whole) c.in_ok-change.ensures.ok
+    subst (λ (xs : List (g.row.R.Denot × g.row.V.Denot)). IsChanged k g.V.PartialEq.eq (value_at k (whole c.args.chunks.now.items)) c.args.range (Some c.args.value) xs) (sym c.settle.ensures.whole) c.in_ok-counts.ensures.ok

@@ -8,27 +8,27 @@ use Rattle.rangemap_chunked.proofs.StoreLemmas.{none_in_chunk}
 use Rattle.rangemap_chunked.proofs.TouchLemmas.{below_by}
 use Rattle.rangemap_chunked.proofs.changes.remove_from.Goals as goal
 
-pub returns-then-is_refused-clause-meets_nothing : goal.returns-then-is_refused-clause-meets_nothing
-returns-then-is_refused-clause-meets_nothing g c = λ none.
-    absurd (c.is_refused.ensures.refused c.if-is_refused.true (subst (λ (ps : List (List (g.row.R.Denot × g.row.V.Denot))). overlapped g.Q.Kind.kind (whole ps) c.args.range ≡ []) (sym c.deref-3.ensures.value) none))
+pub returns-then-may_overflow-clause-meets_nothing : goal.returns-then-may_overflow-clause-meets_nothing
+returns-then-may_overflow-clause-meets_nothing g c = λ none.
+    absurd (c.may_overflow.ensures.refused c.if-may_overflow.true (subst (λ (ps : List (List (g.row.R.Denot × g.row.V.Denot))). overlapped g.Q.Kind.kind (whole ps) c.args.range ≡ []) (sym c.deref-3.ensures.value) none))
 
-pub returns-in_err-change-clause-meets_nothing : goal.returns-in_err-change-clause-meets_nothing
-returns-in_err-change-clause-meets_nothing g c = λ none.
+pub returns-in_err-counts-clause-meets_nothing : goal.returns-in_err-counts-clause-meets_nothing
+returns-in_err-counts-clause-meets_nothing g c = λ none.
     let xs = c.args.chunks.now.items in
     let at = c.start_of-at.result in
     let l : at < length xs = search rules in
-    let alone = c.is_refused.ensures.alone (subst (λ (ps : List (List (g.row.R.Denot × g.row.V.Denot))). overlapped g.Q.Kind.kind (whole ps) c.args.range ≡ []) (sym c.deref-3.ensures.value) none) in
+    let alone = c.may_overflow.ensures.alone (subst (λ (ps : List (List (g.row.R.Denot × g.row.V.Denot))). overlapped g.Q.Kind.kind (whole ps) c.args.range ≡ []) (sym c.deref-3.ensures.value) none) in
     let here = none_in_chunk (λ (pair : g.row.R.Denot × g.row.V.Denot). g.Q.Kind.kind.meets c.args.range pair.0) xs at (get_or xs at []) l (get_or_default xs at [] (get_or xs at []) l) none in
-    absurd (true≢false (sym (c.in_err-change.ensures.stays refl alone here).0))
+    absurd (true≢false (sym (c.in_err-counts.ensures.stays refl alone here).0))
 
 pub returns-clause-meets_nothing : goal.returns-clause-meets_nothing
 returns-clause-meets_nothing g c = λ none.
     let xs = c.args.chunks.now.items in
     let at = c.start_of-at.result in
     let l : at < length xs = search rules in
-    let alone = c.is_refused.ensures.alone (subst (λ (ps : List (List (g.row.R.Denot × g.row.V.Denot))). overlapped g.Q.Kind.kind (whole ps) c.args.range ≡ []) (sym c.deref-3.ensures.value) none) in
+    let alone = c.may_overflow.ensures.alone (subst (λ (ps : List (List (g.row.R.Denot × g.row.V.Denot))). overlapped g.Q.Kind.kind (whole ps) c.args.range ≡ []) (sym c.deref-3.ensures.value) none) in
     let here = none_in_chunk (λ (pair : g.row.R.Denot × g.row.V.Denot). g.Q.Kind.kind.meets c.args.range pair.0) xs at (get_or xs at []) l (get_or_default xs at [] (get_or xs at []) l) none in
-    (refl, c.settle.ensures.whole ∙ ap (λ (ps : List (List (g.row.R.Denot × g.row.V.Denot))). whole ps) (c.in_ok-change.ensures.stays refl alone here).1)
+    (refl, c.settle.ensures.whole ∙ ap (λ (ps : List (List (g.row.R.Denot × g.row.V.Denot))). whole ps) (c.in_ok-counts.ensures.stays refl alone here).1)
 
 pub change_over-requires-clause-begun : goal.change_over-requires-clause-begun
 change_over-requires-clause-begun g c = λ more.
@@ -36,26 +36,26 @@ change_over-requires-clause-begun g c = λ more.
     (λ k d l m. below_by (S g.met.Q.Kind.placed g.V.PartialEq.eq) (places g.met.Q.Kind.placed g.V.PartialEq.eq) (g.Q.Kind.end_place c.args.range) (get_or c.deref-2.result.now k d) (c.end_from-end.ensures.begun more k d l m))
 
 pub settle-requires-clause-before : goal.settle-requires-clause-before
-settle-requires-clause-before g c = c.in_ok-change.ensures.filled.before
+settle-requires-clause-before g c = c.in_ok-counts.ensures.filled.before
 
 pub settle-requires-clause-behind : goal.settle-requires-clause-behind
-settle-requires-clause-behind g c = c.in_ok-change.ensures.filled.behind
+settle-requires-clause-behind g c = c.in_ok-counts.ensures.filled.behind
 
 pub returns-clause-fits : goal.returns-clause-fits
 returns-clause-fits g c =
     let after = ap (λ (xs : List (g.row.R.Denot × g.row.V.Denot)). length xs) c.settle.ensures.whole in
-    elim (c.is_refused.ensures.allowed c.if-is_refused.false) [
-      | inl less ↦ omega (arith, less, after, c.in_ok-change.ensures.counted.sum, c.in_ok-change.ensures.counted.growth, c.in_ok-change.ensures.counted.some, c.requires.chunked.1)
+    elim (c.may_overflow.ensures.allowed c.if-may_overflow.false) [
+      | inl less ↦ omega (arith, less, after, c.in_ok-counts.ensures.counted.sum, c.in_ok-counts.ensures.counted.growth, c.in_ok-counts.ensures.counted.some, c.requires.chunked.1)
       | inr t ↦
           let here = subst (λ (ps : List (List (g.row.R.Denot × g.row.V.Denot))). overlapped g.Q.Kind.kind (get_or ps c.start_of-at.result []) c.args.range ≡ []) c.deref-3.ensures.value t.1 in
-          let same = ap (λ (ps : List (List (g.row.R.Denot × g.row.V.Denot))). length (whole ps)) (c.in_ok-change.ensures.stays refl t.0 here).1 in
+          let same = ap (λ (ps : List (List (g.row.R.Denot × g.row.V.Denot))). length (whole ps)) (c.in_ok-counts.ensures.stays refl t.0 here).1 in
           omega (arith, after, same, c.requires.chunked.1, c.ranges.len.fits)
     ]
 
 pub returns-clause-ok : goal.returns-clause-ok
 returns-clause-ok g c =
     let k = g.Q.Kind.kind in
-    subst (λ (xs : List (g.row.R.Denot × g.row.V.Denot)). IsCanonOf k g.V.PartialEq.eq (erase k (value_at k (whole c.args.chunks.now.items)) c.args.range) xs) (sym c.settle.ensures.whole) c.in_ok-change.ensures.ok.canon
+    subst (λ (xs : List (g.row.R.Denot × g.row.V.Denot)). IsCanonOf k g.V.PartialEq.eq (erase k (value_at k (whole c.args.chunks.now.items)) c.args.range) xs) (sym c.settle.ensures.whole) c.in_ok-counts.ensures.ok.canon
 
 pub returns-clause-counted : goal.returns-clause-counted
-returns-clause-counted g c = subst (λ (xs : List (g.row.R.Denot × g.row.V.Denot)). IsCounted g.V.PartialEq.eq 1 (whole c.args.chunks.now.items) xs c.in_ok-change.change.before c.in_ok-change.change.after) (sym c.settle.ensures.whole) c.in_ok-change.ensures.counted
+returns-clause-counted g c = subst (λ (xs : List (g.row.R.Denot × g.row.V.Denot)). IsCounted g.V.PartialEq.eq 1 (whole c.args.chunks.now.items) xs c.in_ok-counts.counts.before c.in_ok-counts.counts.after) (sym c.settle.ensures.whole) c.in_ok-counts.ensures.counted

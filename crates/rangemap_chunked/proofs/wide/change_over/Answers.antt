@@ -76,8 +76,8 @@ change_between-requires-clause-canonical g c =
     let stored : IsStorable g.Q.Kind.kind c.args.range = record { start_is_key = c.known_ends.ensures.start_is_key; end_is_key = c.known_ends.ensures.end_is_key; non_empty = c.requires.non_empty } in
     over_canonical g.met.Q.Kind.placed g.met.V.Eq.laws xs c.requires.chunked c.args.range stored at last order l place found c.requires.past
 
-pub give_back_at-requires : goal.give_back_at-requires
-give_back_at-requires g c =
+pub shrink_at-requires : goal.shrink_at-requires
+shrink_at-requires g c =
     let xs = c.args.chunks.now.items in
     let at = c.args.at in
     let last = c.args.end - 1 in
@@ -101,7 +101,7 @@ drop_between-requires-clause-in_bounds g c =
     let found : IsLastTouched (S g.met.Q.Kind.placed g.V.PartialEq.eq) c.args.range (get_or xs last []) place = subst (λ (ys : List (g.row.R.Denot × g.row.V.Denot)). IsLastTouched (S g.met.Q.Kind.placed g.V.PartialEq.eq) c.args.range ys place) (c.index.ensures ∙ get_or_default xs last c.index.result.now [] l) c.last_touched-place.ensures in
     let new = get_or c.change_between.new.chunks.items at [] in
     let rest = drop (place + 1) (get_or xs last []) in
-    let items_is = c.give_back_at.ensures ∙ c.in_ok-change_between.ensures.items in
+    let items_is = c.shrink_at.ensures ∙ c.in_ok-change_between.ensures.items in
     let long = ap length items_is ∙ set_length (set xs at new) last rest ∙ set_length xs at new in
     omega (arith, long, l)
 
@@ -118,7 +118,7 @@ returns-clause-ok g c =
     let next : c.args.end ≡ suc last = omega (arith, c.if-end-at.false) in
     let new = get_or c.change_between.new.chunks.items at [] in
     let rest = drop (place + 1) (get_or xs last []) in
-    let items_is = c.give_back_at.ensures ∙ c.in_ok-change_between.ensures.items in
+    let items_is = c.shrink_at.ensures ∙ c.in_ok-change_between.ensures.items in
     let whole_is = c.drop_between.ensures.whole ∙ (λ i. whole (take (at + 1) (items_is i)) ++ whole (drop last (items_is i))) ∙ changed_whole xs at last order l new rest in
     let k = g.Q.Kind.kind in
     let eq = g.V.PartialEq.eq in
@@ -139,7 +139,7 @@ returns-clause-filled g c =
     let stored : IsStorable g.Q.Kind.kind c.args.range = record { start_is_key = c.known_ends.ensures.start_is_key; end_is_key = c.known_ends.ensures.end_is_key; non_empty = c.requires.non_empty } in
     let new = get_or c.change_between.new.chunks.items at [] in
     let rest = drop (place + 1) (get_or xs last []) in
-    let items_is = c.give_back_at.ensures ∙ c.in_ok-change_between.ensures.items in
+    let items_is = c.shrink_at.ensures ∙ c.in_ok-change_between.ensures.items in
     let behind = c.drop_between.ensures.filled (subst AreFilled (sym (ap (drop (last + 1)) items_is ∙ changed_behind xs at last order l new rest)) (Every-drop_n _ (suc last) xs c.requires.chunked.filled)) in
     let front_is = c.drop_between.ensures.before ∙ ap (take (at + 1)) items_is in
     let fills = changed_fills g.met.Q.Kind.placed g.met.V.Eq.laws (value_at g.Q.Kind.kind (get_or xs at [] ++ take 1 (drop place (get_or xs last [])))) c.args.range c.args.value new stored c.in_ok-change_between.ensures.ok in
@@ -161,7 +161,7 @@ returns-clause-counted g c =
     let n_is : c.count.result ≡ length (whole (take (last - at) (drop at xs))) = c.count.ensures ∙ ap (λ (ps : List (List (g.row.R.Denot × g.row.V.Denot))). length (whole (take (last - at) (drop at ps)))) c.deref.ensures.value in
     let new = get_or c.change_between.new.chunks.items at [] in
     let rest = drop (place + 1) (get_or xs last []) in
-    let items_is = c.give_back_at.ensures ∙ c.in_ok-change_between.ensures.items in
+    let items_is = c.shrink_at.ensures ∙ c.in_ok-change_between.ensures.items in
     let whole_is = c.drop_between.ensures.whole ∙ (λ i. whole (take (at + 1) (items_is i)) ++ whole (drop last (items_is i))) ∙ changed_whole xs at last order l new rest in
     let sum = sums xs at last order l place found.in_bounds c.count.result n_is new c.drop_between.new.chunks.items whole_is in
     let made = c.change_between.new.chunks.items in

@@ -41,4 +41,4 @@ returns g c =
     let sp = to_spaced (half_open_placed o) eq ps c.requires.canonical in
     let a : Range g.row.K.Denot × g.row.V.Denot = (c.in-Some.first.now, c.in-Some.field-0-1.now) in
     let reaches = less_if_above o a.0.end r.start (ap is_le (sym c.cmp.ensures) ∙ sym c.is_le.ensures ∙ c.if-is_le.false) in
-    left_cut_by o eq e ps sp r c.requires.range c.in-Some.ensures.0 a c.in-Some.ensures.1 (record { start = c.in_ok-clone.field-0; end = c.in_ok-clone-2.field-0 }) (turned o _ _ (c.requires.faithful_keys _ _ c.in_ok-clone.ensures.cases)) (turned o _ _ (c.requires.faithful_keys _ _ c.in_ok-clone-2.ensures.cases)) reaches
+    left_cut_by o eq e ps sp r c.requires.range c.in-Some.ensures.0 a c.in-Some.ensures.1 c.in_ok-rest.rest (turned o _ _ (c.requires.faithful_keys _ _ c.in_ok-rest.ensures.0)) (turned o _ _ (c.requires.faithful_keys _ _ c.in_ok-rest.ensures.1)) reaches

@@ -30,4 +30,4 @@ returns g c =
     let sp = to_spaced (half_open_placed o) eq ps c.requires.canonical in
     let b : Range g.row.K.Denot × g.row.V.Denot = (c.args.last.now, c.args.last_value.now) in
     let reaches = less_if_above o b.0.end r.end (ap is_le (sym c.cmp.ensures) ∙ sym c.is_le.ensures ∙ c.if-is_le.false) in
-    right_cut_by o eq e ps sp r c.requires.range c.requires.last.0 b c.requires.last.1 (c.in_ok-key.key, (record { start = c.in_ok-clone.field-0; end = c.in_ok-clone-2.field-0 }, c.in_ok-rest_value.rest_value)) (turned o _ _ (c.requires.faithful_keys _ _ c.in_ok-key.ensures.cases)) (turned o _ _ (c.requires.faithful_keys _ _ c.in_ok-clone.ensures.cases)) (turned o _ _ (c.requires.faithful_keys _ _ c.in_ok-clone-2.ensures.cases)) (e.symm _ _ ∙ c.requires.faithful_values _ _ c.in_ok-rest_value.ensures.cases) reaches
+    right_cut_by o eq e ps sp r c.requires.range c.requires.last.0 b c.requires.last.1 c.in_ok-rest.rest (turned o _ _ (c.requires.faithful_keys _ _ c.in_ok-rest.ensures.0)) (turned o _ _ (c.requires.faithful_keys _ _ c.in_ok-rest.ensures.1)) (turned o _ _ (c.requires.faithful_keys _ _ c.in_ok-rest.ensures.2)) (e.symm _ _ ∙ c.requires.faithful_values _ _ c.in_ok-rest.ensures.3) reaches

@@ -1,7 +1,7 @@
 use Rattle.std.proofs.Common.{◌∙◌, List, ap, subst, sym}
 use Rattle.std.specs.Prelude.{slice_get}
 use Rattle.rangemap_chunked.specs.Chunks.{AreFilled, whole}
-use Rattle.rangemap_chunked.proofs.PeekLemmas.{first_pair}
+use Rattle.rangemap_chunked.proofs.EndLemmas.{first_pair}
 use Rattle.rangemap_chunked.proofs.chunks.ChunksStore.first.Goals as goal
 
 pub returns : goal.returns

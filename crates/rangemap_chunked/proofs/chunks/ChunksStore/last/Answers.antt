@@ -1,7 +1,7 @@
 use Rattle.std.proofs.Common.{◌∙◌, ◌-◌, List, ap, length, subst, sym}
 use Rattle.std.specs.Prelude.{slice_get}
 use Rattle.rangemap_chunked.specs.Chunks.{AreFilled, whole}
-use Rattle.rangemap_chunked.proofs.PeekLemmas.{last_pair}
+use Rattle.rangemap_chunked.proofs.EndLemmas.{last_pair}
 use Rattle.rangemap_chunked.proofs.chunks.ChunksStore.last.Goals as goal
 
 pub returns : goal.returns

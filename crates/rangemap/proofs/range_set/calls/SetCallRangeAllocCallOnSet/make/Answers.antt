@@ -17,8 +17,8 @@ use Rattle.rangemap.proofs.range_set.calls.SetCallRangeAllocCallOnSet.make.Goals
 pub returns-in-New-clause-made : goal.returns-in-New-clause-made
 returns-in-New-clause-made g c =
     let k = g.S.Kind.Kind.kind in
-    let added : c.add.new.maps.items ≡ c.args.sets.now.items ++ c.new.result ∷ [] = c.add.ensures.ok in
-    rw c.in-New.is (rw c.add.ensures.answer (rw added (new_made k (unit_equiv k) (with_unit k) c.args.sets.now.items c.new.result (ap (with_unit k) c.new.ensures))))
+    let added : c.push_made.new.maps.items ≡ c.args.sets.now.items ++ c.new.result ∷ [] = c.push_made.ensures.ok in
+    rw c.in-New.is (rw c.push_made.ensures.answer (rw added (new_made k (unit_equiv k) (with_unit k) c.args.sets.now.items c.new.result (ap (with_unit k) c.new.ensures))))
 
 pub from_iter-requires-clause-non_empty : goal.from_iter-requires-clause-non_empty
 from_iter-requires-clause-non_empty g c it h =
@@ -32,11 +32,11 @@ returns-in-FromIter-clause-made g c =
     rw c.in-FromIter.is (
     added_or_not (λ set. IsCanonOfPoints k (covers k given.items) set)
     (Makes k (unit_eq k) (with_unit k) (SetStep k) sets (FromIter given))
-    sets c.add-in-FromIter.new.maps.items c.from_iter.result c.add-in-FromIter.result
+    sets c.push_made-in-FromIter.new.maps.items c.from_iter.result c.push_made-in-FromIter.result
     (from_iter_made k sets given)
     (λ fs h. (fs, refl, h))
     (IfOk-weaker c.from_iter.result _ _ (λ set made. subst (λ rs. IsCanonOfPoints k (covers k rs) set) (All-taken made.0 made.1 made.3 ∙ made.2.0) made.4) c.from_iter.ensures)
-    c.add-in-FromIter.ensures.answer c.add-in-FromIter.ensures.ok c.add-in-FromIter.ensures.err)
+    c.push_made-in-FromIter.ensures.answer c.push_made-in-FromIter.ensures.ok c.push_made-in-FromIter.ensures.err)
 
 pub extend-requires-clause-non_empty : goal.extend-requires-clause-non_empty
 extend-requires-clause-non_empty g c it h =
@@ -71,7 +71,7 @@ pub returns-in-Clone-clause-made : goal.returns-in-Clone-clause-made
 returns-in-Clone-clause-made g c = rw c.in-Clone.is c.make-in-Clone.ensures.made
 
 pub returns-in-Union-clause-made : goal.returns-in-Union-clause-made
-returns-in-Union-clause-made g c = rw c.in-Union.is c.add_joined.ensures.made
+returns-in-Union-clause-made g c = rw c.in-Union.is c.push_joined.ensures.made
 
 pub returns-clause-made : goal.returns-clause-made
-returns-clause-made g c = rw c.in-Intersection.is c.add_joined-in-Intersection.ensures.made
+returns-clause-made g c = rw c.in-Intersection.is c.push_joined-in-Intersection.ensures.made

@@ -7,8 +7,8 @@ use Rattle.rangemap_containers.proofs.replay.changes.ChangeRangeValueCallOn.make
 
 pub returns-in-New-clause-made : goal.returns-in-New-clause-made
 returns-in-New-clause-made g c =
-    let added : c.add.new.maps.items ≡ c.args.maps.now.items ++ c.new_with_step_fns.result ∷ [] = c.add.ensures.ok in
-    rw c.in-New.is (rw c.add.ensures.answer (rw added (new_made g.M.Kind.Kind.kind g.met.M.Value.Eq.laws g.M.Container.pairs c.args.maps.now.items c.new_with_step_fns.result c.new_with_step_fns.ensures)))
+    let added : c.push_made.new.maps.items ≡ c.args.maps.now.items ++ c.new_with_step_fns.result ∷ [] = c.push_made.ensures.ok in
+    rw c.in-New.is (rw c.push_made.ensures.answer (rw added (new_made g.M.Kind.Kind.kind g.met.M.Value.Eq.laws g.M.Container.pairs c.args.maps.now.items c.new_with_step_fns.result c.new_with_step_fns.ensures)))
 
 pub returns-in-Some-clause-made : goal.returns-in-Some-clause-made
 returns-in-Some-clause-made g c =
@@ -49,7 +49,7 @@ returns-clause-made g c =
     rw c.in-Clone.is (
     added_or_not (λ copy. IsCanonOf k g.M.Value.PartialEq.eq (value_at k (shown map)) (shown copy))
     (Makes k g.M.Value.PartialEq.eq shown (ChangeStep k) maps (Clone c.in-Clone.at))
-    maps c.add-in-Clone.new.maps.items c.clone-made.result c.add-in-Clone.result
+    maps c.push_made-in-Clone.new.maps.items c.clone-made.result c.push_made-in-Clone.result
     (λ copy canon. clone_here k e shown maps c.in-Clone.at map copy (rw c.deref.ensures.value at there.3.0) (rw c.deref.ensures.value at there.1) canon)
     (λ fs h. (fs, refl, h))
-    c.clone-made.ensures.canon c.add-in-Clone.ensures.answer c.add-in-Clone.ensures.ok c.add-in-Clone.ensures.err)
+    c.clone-made.ensures.canon c.push_made-in-Clone.ensures.answer c.push_made-in-Clone.ensures.ok c.push_made-in-Clone.ensures.err)

@@ -3,7 +3,7 @@ use Rattle.rangemap_core.specs.Ranges.{IsCanonical, IsStorable}
 use Rattle.rangemap_chunked.proofs.CutLemmas.{canonical_chunk}
 use Rattle.rangemap_chunked.proofs.MeetLemmas.{alone_where_none}
 use Rattle.rangemap_chunked.proofs.StoreLemmas.{none_in_chunk}
-use Rattle.rangemap_chunked.proofs.search.is_refused.Goals as goal
+use Rattle.rangemap_chunked.proofs.search.may_overflow.Goals as goal
 
 pub returns-then-len-lt18446744073709551615-clause-alone : goal.returns-then-len-lt18446744073709551615-clause-alone
 returns-then-len-lt18446744073709551615-clause-alone g c = λ none.

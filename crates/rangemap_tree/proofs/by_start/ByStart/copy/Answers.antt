@@ -3,8 +3,8 @@ use Rattle.std.specs.Map.{values_of}
 use Rattle.std.specs.declared.ops.Range.{Range}
 use Rattle.rangemap_tree.specs.Starts.{AreClones, AreKeyed, entries_in}
 use Rattle.rangemap_tree.proofs.CloneLemmas.{cloned_keyed, cloned_values}
-use Rattle.rangemap_tree.proofs.by_start.ByStart.clone.Goals as goal
-use Rattle.rangemap_tree.proofs.by_start.ByStart.clone.Goals.{in-Some+in_ok-clone-in-Some, in-None}
+use Rattle.rangemap_tree.proofs.by_start.ByStart.copy.Goals as goal
+use Rattle.rangemap_tree.proofs.by_start.ByStart.copy.Goals.{in-Some+in_ok-clone-in-Some, in-None}
 
 pub invariant_of-result : goal.invariant_of-result
 invariant_of-result g c = elim c.match-self.branch [

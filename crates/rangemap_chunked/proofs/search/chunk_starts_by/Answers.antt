@@ -2,7 +2,7 @@ use Rattle.std.proofs.Common.{◌≡◌, ◌∙◌, ap, Some, not, sym}
 use Rattle.std.specs.Prelude.{slice_get}
 use Rattle.rangemap_core.specs.engine.Shape.{shape_of}
 use Rattle.rangemap_chunked.proofs.ChunkLemmas.{by_is}
-use Rattle.rangemap_chunked.proofs.search.starts_by.Goals as goal
+use Rattle.rangemap_chunked.proofs.search.chunk_starts_by.Goals as goal
 
 pub returns-in-Some : goal.returns-in-Some
 returns-in-Some g c =

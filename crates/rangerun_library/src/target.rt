@@ -11,12 +11,16 @@ use calendar::{BookError, Calendar};
 use std::alloc::{Allocator, Global};
 
 /// What lines are carried out on, in memory of an allocator `A`.
-pub trait Desk<A: Allocator>: Drop {
+pub trait Target<A: Allocator>: Drop {
     /// Returns an empty one, whose memory will come from `alloc`.
     fn new(alloc: A) -> Self;
 
     /// Carries out a line, given without its newline, and appends what it prints, if anything, to
     /// `text`. A JSON form is made in memory of `json`.
+    ///
+    /// # Errors
+    ///
+    /// The cause for which the program stops: the line is no command, has a fault, or memory ran out.
     fn carry_out(
         &mut self,
         alloc: A,
@@ -26,15 +30,15 @@ pub trait Desk<A: Allocator>: Drop {
     ) -> Result<(), Cause>;
 }
 
-/// A container of the library, as a desk.
+/// A container of the library, as a target.
 #[derive(Drop)]
-pub struct Over<C> {
+pub struct ContainerTarget<C> {
     container: C,
 }
 
-impl<A: Allocator, C: Container<Alloc = A>> Desk<A> for Over<C> {
-    fn new(alloc: A) -> Over<C> {
-        Over {
+impl<A: Allocator, C: Container<Alloc = A>> Target<A> for ContainerTarget<C> {
+    fn new(alloc: A) -> ContainerTarget<C> {
+        ContainerTarget {
             container: C::new_with_step_fns(alloc),
         }
     }
@@ -52,7 +56,7 @@ impl<A: Allocator, C: Container<Alloc = A>> Desk<A> for Over<C> {
     }
 }
 
-impl<A: Allocator> Desk<A> for Calendar<A> {
+impl<A: Allocator> Target<A> for Calendar<A> {
     fn new(alloc: A) -> Calendar<A> {
         Calendar::new(alloc)
     }
@@ -72,8 +76,7 @@ impl<A: Allocator> Desk<A> for Calendar<A> {
     }
 }
 
-/// Writes the line of a booking that is refused since a day is taken. Other refusals stop the
-/// program.
+// Writes the line of a booking that is refused since a day is taken. Other refusals stop the program.
 fn write_refusal<A: Allocator>(
     answer: Result<(), BookError>,
     text: &mut String<A>,

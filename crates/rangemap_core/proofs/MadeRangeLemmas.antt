@@ -1,0 +1,19 @@
+-- How an iterator that makes the ranges it gives comes to its end.
+use Rattle.std.proofs.Common.{arith, ◌≢◌, ◌<◌, List, [], ◌∷◌, length, Option, Some, None, Result, Ok, Err, ap, refl}
+use Rattle.std.specs.Iterator.{MakesProgress, at_most}
+use Rattle.std.specs.declared.alloc.AllocError.{AllocError}
+use Rattle.rangemap_core.specs.MadeRanges.{GivesRange}
+use Rattle.rangemap_core.specs.Ranges.{RangeKind}
+
+has_length : {X : Type 0} (xs : List X) → xs ≢ [] → 0 < length xs
+has_length [] some = absurd (some refl)
+has_length (x ∷ xs) some = omega arith
+
+module _ {K X S : Type 0} (k : RangeKind K X) (left : S → List X) {can : Type 0} (is_asked : can) (old new : S) where
+  -- each item, and a refusal, leaves fewer ranges to come
+  pub comes_nearer_its_end : (answer : Option (Result X AllocError)) → GivesRange k (left old) answer (left new) → MakesProgress (λ _. can) (λ s. at_most (length (left s))) old answer new
+  comes_nearer_its_end None ended = record { on = λ finite. tt; keeps = tt; rests = λ finite. finite }
+  comes_nearer_its_end (Some (Ok range)) given = record { on = λ finite. (is_asked, finite, omega (arith, ap length given.1)); keeps = is_asked; rests = λ finite. tt }
+  comes_nearer_its_end (Some (Err e)) refused =
+      let some = has_length (left old) refused.0 in
+      record { on = λ finite. (is_asked, finite, omega (arith, some, ap length refused.1)); keeps = is_asked; rests = λ finite. tt }

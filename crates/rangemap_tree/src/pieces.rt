@@ -1,0 +1,37 @@
+//! What a range leaves of a stored one that it cuts.
+ghost use Rattle.std.specs.Prelude.{IfOk};
+
+use std::alloc::AllocError;
+use std::ops::Range;
+
+/// Returns what the given range leaves of a stored one in front of its own start.
+///
+/// # Errors
+///
+/// A clone was refused.
+pub fn range_before<K: Clone>(first: &Range<K>, range: &Range<K>) -> Result<Range<K>, AllocError>
+    ensures { IfOk result (λ rest. K.is_clone first.now.start rest.start × K.is_clone range.now.start rest.end) }
+{
+    let start = first.start.clone()?;
+    let end = range.start.clone()?;
+    Ok(start..end)
+}
+
+/// Returns what the given range leaves of a stored pair behind its own end, and first a clone of that
+/// end, at which a tree keeps it.
+///
+/// # Errors
+///
+/// A clone was refused.
+pub fn piece_behind<K: Clone, V: Clone>(
+    range: &Range<K>,
+    last: &Range<K>,
+    value: &V,
+) -> Result<(K, (Range<K>, V)), AllocError>
+    ensures { IfOk result (λ piece. K.is_clone range.now.end piece.0 × K.is_clone range.now.end piece.1.0.start × K.is_clone last.now.end piece.1.0.end × V.is_clone value.now piece.1.1) }
+{
+    let start = range.end.clone()?;
+    let end = last.end.clone()?;
+    let key = range.end.clone()?;
+    Ok((key, (start..end, value.clone()?)))
+}
