@@ -15,7 +15,11 @@ pub enum Call {
 }
 
 impl<A: Allocator> Calendar<A> {
-    /// Makes the call, and gives its answer.
+    /// Makes the call, and returns its answer.
+    ///
+    /// # Errors
+    ///
+    /// Those of `book` and `cancel`.
     pub fn make(&mut self, call: Call) -> Result<(), BookError>
         ensures answer { IsMadeAnswer (holder_of self.old) call result }
         ensures holders { (day : ℕ) → IsDay day → holder_of self.new day ≡ made (holder_of self.old) call result day }
@@ -28,7 +32,8 @@ impl<A: Allocator> Calendar<A> {
     }
 }
 
-/// Makes any list of calls on a calendar, in order, and gives their answers.
+/// Makes any list of calls on a calendar, in order, and returns their answers. It takes what the
+/// calls take.
 ///
 /// The calendar keeps its days: what `holder` then gives are the holders of these calls, which an
 /// accepted `book` overrides and an accepted `cancel` erases, and each answer is as the holders

@@ -22,7 +22,7 @@ use std::ops::RangeInclusive;
 /// Why days were not booked or freed.
 #[derive(Clone, Copy, Debug, PartialEq, Eq)]
 pub enum BookError {
-    /// The first day comes after the last.
+    /// The first day comes after the last, or the range of days was iterated to its end.
     Empty,
     /// A guest holds one of the days.
     Taken,

@@ -22,6 +22,10 @@ use std::ops::{Range, RangeInclusive};
 
 /// A map of disjoint half-open ranges, `a..b`, to values, in chunks.
 ///
+/// # Examples
+///
+/// Those of `map::RangeMap`, with `use rangemap::chunked::RangeMap`.
+///
 /// # Calls
 ///
 /// ```text
@@ -59,6 +63,10 @@ pub type RangeMap<K, V, A = Global> = Map<Chunks<HalfOpen, Range<K>, V, A, SIZE>
 /// steps tell which of them touch, mostly `K` itself: `inclusive_map::RangeInclusiveMap` says what
 /// exists where it is.
 ///
+/// # Examples
+///
+/// Those of `inclusive_map::RangeInclusiveMap`, with `use rangemap::chunked::RangeInclusiveMap`.
+///
 /// # Calls
 ///
 /// ```text
@@ -95,6 +103,10 @@ pub type RangeInclusiveMap<K, V, StepFnsT = K, A = Global> = Map<
 >;
 
 /// A set of keys in disjoint half-open ranges, `a..b`, in chunks.
+///
+/// # Examples
+///
+/// Those of `set::RangeSet`, with `use rangemap::chunked::RangeSet`.
 ///
 /// # Calls
 ///
@@ -134,6 +146,10 @@ pub type RangeSet<T, A = Global> = Set<Chunks<HalfOpen, Range<T>, (), A, SIZE>>;
 /// A set of keys in disjoint closed ranges, `a..=b`, in chunks. `StepFnsT` is the type whose steps
 /// tell which of them touch, mostly `T` itself: `inclusive_set::RangeInclusiveSet` says what exists
 /// where it is.
+///
+/// # Examples
+///
+/// Those of `inclusive_set::RangeInclusiveSet`, with `use rangemap::chunked::RangeInclusiveSet`.
 ///
 /// # Calls
 ///

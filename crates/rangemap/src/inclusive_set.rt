@@ -28,6 +28,8 @@ use std::{slice, vec};
 /// self.numbers.insert(number..=number)?;
 /// ```
 ///
+/// `numbers` is a `RangeInclusiveSet<u64>`; numbers that follow one another are kept as one range.
+///
 /// # Calls
 ///
 /// ```text

@@ -20,6 +20,9 @@
 //! }
 //! ```
 //!
+//! prints `{0..3: "Ann", 3..6: "Bob", 6..9: "Ann"}`, `{0..9: "Ann"}`,
+//! `{0..2: "Ann", 7..9: "Ann"}, and at 8 Some("Ann")` and `nobody in 2..7`.
+//!
 //! # Containers
 //!
 //! | Container | Keys |

@@ -1,8 +1,16 @@
 //! The macros that make a container of a list.
 
-/// Makes a `RangeMap` of a list of ranges and values, as `RangeMap::from` of the same pairs.
+/// Creates a `RangeMap` of a list of ranges and values, as `RangeMap::from` of the same pairs.
 ///
 /// The allocator comes first. The list may be empty, and may end in a comma.
+///
+/// # Requires
+///
+/// What `RangeMap::from` does.
+///
+/// # Errors
+///
+/// Those of `RangeMap::from`.
 ///
 /// # Examples
 ///
@@ -16,8 +24,16 @@ macro_rules! range_map {
     };
 }
 
-/// Makes a `RangeInclusiveMap` of a list of ranges and values, as `RangeInclusiveMap::from` of the
+/// Creates a `RangeInclusiveMap` of a list of ranges and values, as `RangeInclusiveMap::from` of the
 /// same pairs. The list is written as that of `range_map!`.
+///
+/// # Requires
+///
+/// What `RangeInclusiveMap::from` does.
+///
+/// # Errors
+///
+/// Those of `RangeInclusiveMap::from`.
 ///
 /// # Examples
 ///
@@ -31,8 +47,16 @@ macro_rules! range_inclusive_map {
     };
 }
 
-/// Makes a `RangeSet` of a list of ranges, as `RangeSet::from` of the same ranges. The allocator
+/// Creates a `RangeSet` of a list of ranges, as `RangeSet::from` of the same ranges. The allocator
 /// comes first. The list may be empty, and may end in a comma.
+///
+/// # Requires
+///
+/// What `RangeSet::from` does.
+///
+/// # Errors
+///
+/// Those of `RangeSet::from`.
 ///
 /// # Examples
 ///
@@ -46,8 +70,16 @@ macro_rules! range_set {
     };
 }
 
-/// Makes a `RangeInclusiveSet` of a list of ranges, as `RangeInclusiveSet::from` of the same
+/// Creates a `RangeInclusiveSet` of a list of ranges, as `RangeInclusiveSet::from` of the same
 /// ranges. The list is written as that of `range_set!`.
+///
+/// # Requires
+///
+/// What `RangeInclusiveSet::from` does.
+///
+/// # Errors
+///
+/// Those of `RangeInclusiveSet::from`.
 ///
 /// # Examples
 ///

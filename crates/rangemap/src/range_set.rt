@@ -86,7 +86,7 @@ impl<S: Store<Value = ()>> Set<S> {
         self.stored.known();
     }
 
-    /// Returns what the memory comes from.
+    /// Returns a reference to the underlying allocator.
     pub fn allocator(&self) -> &S::Alloc {
         self.stored.allocator()
     }
@@ -156,7 +156,7 @@ where
     S::Range: 'a,
     S::Value: 'a,
 {
-    /// Returns the stored ranges in order, which can be taken from both ends.
+    /// Returns a double-ended iterator over the stored ranges, in order.
     pub fn iter(&'a self) -> Ranges<S::Iter>
         ensures all { result ≡ self.now }
         ensures canonical { IsCanonicalSet S.Kind.kind self.now }
@@ -180,7 +180,8 @@ where
     }
 
     /// Returns the parts of `outer_range` that no stored range covers, in order. Nothing is asked
-    /// of `outer_range`; an empty or reversed one gives nothing.
+    /// of `outer_range`: one whose start lies behind its end has no gaps, nor has a half-open one
+    /// whose start is its end; whether a closed one was iterated is not asked.
     ///
     /// An item is made of clones when it is asked for, which may be refused.
     ///

@@ -17,8 +17,9 @@ use std::iter::IntoIterator;
 /// with its value, or with none; of a set the value is `()`.
 ///
 /// The stretches are those of the pairs that overlap the query, cut to it, and its gaps. Together
-/// they have exactly its keys, so each touches the next. Nothing is asked of the query: an empty or
-/// a reversed one has no stretch.
+/// they have exactly its keys, so each touches the next. Nothing is asked of the query: one whose
+/// start lies behind its end has no stretch, nor has a half-open one whose start is its end; whether
+/// a closed one was iterated is not asked.
 ///
 /// It takes *O*(log *n* + *k* log *k*), with *k* stored ranges that the query overlaps. Memory of
 /// `alloc` is for clones of these pairs, and for the answer.

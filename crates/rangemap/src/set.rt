@@ -25,6 +25,9 @@ use std::{slice, vec};
 /// }
 /// ```
 ///
+/// Then `set` has the keys that it had, and those of the ranges; what overlaps or touches is one
+/// range.
+///
 /// # Calls
 ///
 /// ```text

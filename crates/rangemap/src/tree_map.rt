@@ -30,6 +30,8 @@ use std::ops::Range;
 /// }
 /// ```
 ///
+/// The loop sees the pairs that overlap `from..to`, in order.
+///
 /// # Calls
 ///
 /// ```text

@@ -22,6 +22,8 @@ use std::ops::Range;
 /// seen.insert(from..to)
 /// ```
 ///
+/// Then `seen` also has the numbers from `from` up to and without `to`.
+///
 /// # Calls
 ///
 /// ```text

@@ -42,7 +42,7 @@ impl<R, V, A: Allocator> Chunk<R, V, A> {
         }
     }
 
-    /// Returns what the memory comes from.
+    /// Returns a reference to the underlying allocator.
     pub fn allocator(&self) -> &A {
         self.pairs.allocator()
     }

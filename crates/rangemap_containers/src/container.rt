@@ -148,7 +148,7 @@ pub trait Container: PartialEq + Drop {
         ensures { result ≡ nat_lt 0 (length (overlapped Self.Kind.kind (pairs self.now) range.now)) };
 
     /// Appends clones of all pairs, in order, so that they outlive the container. Their ranges may
-    /// be stored again.
+    /// be stored again. It takes *O*(*n*).
     ///
     /// # Requires
     ///
@@ -166,7 +166,8 @@ pub trait Container: PartialEq + Drop {
         ensures ok { OnOk result (Appends Self.Kind.kind Self.Value.eq (pairs self.now) out.old.items out.new.items) }
         ensures err { OnErr result (out.new.items ≡ out.old.items) };
 
-    /// Appends clones of the pairs that overlap `range`, in order. Nothing is asked of `range`.
+    /// Appends clones of the pairs that overlap `range`, in order. Nothing is asked of `range`. It
+    /// takes *O*(log *n* + *k*), with *k* pairs appended.
     ///
     /// # Requires
     ///
@@ -186,7 +187,7 @@ pub trait Container: PartialEq + Drop {
         ensures err { OnErr result (out.new.items ≡ out.old.items) };
 
     /// Appends the parts of `outer_range` that no stored range covers, in order. Nothing is asked
-    /// of `outer_range`.
+    /// of `outer_range`. It takes *O*(log *n* + *k*), with *k* stored ranges that it overlaps.
     ///
     /// # Requires
     ///

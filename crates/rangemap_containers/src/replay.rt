@@ -42,7 +42,7 @@ pub trait CallOn<M: Container>: Drop {
 /// Each container's module gives it under its own path, with its sorts of call: `map::replay` takes
 /// a `map::Call` or a `map::Change`. A `Change::New` makes its container by `new_with_step_fns`, and
 /// that of a `Call` by `new`. So over steps of another type than the key's there is `Change` alone,
-/// and `replay_with_step_fns` is a name for the replay of these.
+/// and `replay_with_step_fns` is a name for the replay of these. It takes what the calls take.
 ///
 /// A call names a container by its place in the list; an operator of sets names two. A call that
 /// makes a container adds it at the end; where it is refused none is added. A call that names a

@@ -40,7 +40,7 @@ pub trait Store {
     fn known(&self)
         ensures { IsCanonical Self.Kind.kind Self.Value.eq (pairs self.now) };
 
-    /// Returns what the memory comes from.
+    /// Returns a reference to the underlying allocator.
     fn allocator(&self) -> &Self::Alloc;
 
     /// Returns the number of stored ranges.

@@ -7,7 +7,7 @@
 //!
 //! A law holds where all of its calls are accepted. `Err(AllocError)` says that one was refused. A
 //! law of one call says that nothing changed then. A law of more leaves open what the containers
-//! hold: the calls before the refused one were made, and each left what its own contract says.
+//! hold; in its body the calls before the refused one were made.
 //!
 //! A contract speaks of what is held, not of how often or in which order it was written. So a law
 //! can't tell one insert from two equal ones, nor the order of two inserts that share no key; that

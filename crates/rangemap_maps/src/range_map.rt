@@ -91,7 +91,7 @@ impl<S: Store> Map<S> {
         self.stored.known();
     }
 
-    /// Returns what the memory comes from.
+    /// Returns a reference to the underlying allocator.
     pub fn allocator(&self) -> &S::Alloc {
         self.stored.allocator()
     }
@@ -169,7 +169,7 @@ where
     S::Range: 'a,
     S::Value: 'a,
 {
-    /// Returns the stored pairs, in order, from both ends.
+    /// Returns a double-ended iterator over the stored pairs, in order.
     pub fn iter(&'a self) -> PairIter<S::Iter>
         ensures all { result ≡ self.now }
         ensures canonical { IsCanonical S.Kind.kind S.Value.eq self.now }
@@ -201,9 +201,10 @@ where
 
     /// Returns the parts of `outer_range` that no stored range covers, in order.
     ///
-    /// Between two stored ranges that touch there is none. Nothing is asked of `outer_range`: an
-    /// empty or a reversed one has no gaps. A gap is made of clones when it is asked for, which may
-    /// be refused.
+    /// Between two stored ranges that touch there is none. Nothing is asked of `outer_range`: one
+    /// whose start lies behind its end has no gaps, nor has a half-open one whose start is its end;
+    /// whether a closed one was iterated is not asked. A gap is made of clones when it is asked for,
+    /// which may be refused.
     ///
     /// # Examples
     ///

@@ -50,7 +50,7 @@ impl<K: Ord, V, A: Allocator> ByStart<K, V, A> {
         ByStart { tree: None, alloc }
     }
 
-    /// Returns what the memory comes from.
+    /// Returns a reference to the underlying allocator.
     pub fn allocator(&self) -> &A {
         &self.alloc
     }

@@ -9,7 +9,7 @@ use std::marker::PhantomData;
 
 /// Inserts the keys of either of two sets into an empty store.
 ///
-/// It answers `Err` where a clone or an insert was refused. The items before stay.
+/// It answers `Err` where a clone or an insert was refused; what the store then holds is left open.
 pub struct Uniting<S>(PhantomData<S>);
 
 impl<S: StoreMut<Value = ()>> ReaderOfBoth<S::Range, ()> for Uniting<S> {

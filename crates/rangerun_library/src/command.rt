@@ -44,68 +44,29 @@ impl<'a, R: NumberRange> Command<'a, R> {
     /// Of several faults in a line the one whose cause has the least number is told: `Cause::Command`,
     /// `Cause::Number`, `Cause::EmptyRange` or `Cause::Value`.
     pub fn parse(line: &'a [u8], has_value: bool) -> Result<Command<'a, R>, Cause> {
-        let (name, operands) = words::divide(line);
-        match operands {
-            Operands::None => Command::of_name(name),
-            Operands::One(key) => Command::of_key(name, key),
-            Operands::Two(start, end) => Command::of_ends(name, start, end, has_value),
-            Operands::Three(start, end, value) if has_value => {
-                Command::of_pair(name, start, end, value)
+        match words::divide(line) {
+            (b"clear", Operands::None) => Ok(Command::Clear),
+            (b"first", Operands::None) => Ok(Command::First),
+            (b"last", Operands::None) => Ok(Command::Last),
+            (b"iter", Operands::None) => Ok(Command::Iter),
+            (b"len", Operands::None) => Ok(Command::Len),
+            (b"json", Operands::None) => Ok(Command::Json),
+            (b"get", Operands::One(key)) => Ok(Command::Get(words::number(key)?)),
+            (b"insert", Operands::Two(start, end)) if !has_value => {
+                Ok(Command::Insert(parse_span(start, end)?, None))
             }
-            _ => Err(Cause::Command),
-        }
-    }
-
-    // The command of one word.
-    fn of_name(name: &[u8]) -> Result<Command<'a, R>, Cause> {
-        match name {
-            b"clear" => Ok(Command::Clear),
-            b"first" => Ok(Command::First),
-            b"last" => Ok(Command::Last),
-            b"iter" => Ok(Command::Iter),
-            b"len" => Ok(Command::Len),
-            b"json" => Ok(Command::Json),
-            _ => Err(Cause::Command),
-        }
-    }
-
-    // The command on a key.
-    fn of_key(name: &[u8], key: &[u8]) -> Result<Command<'a, R>, Cause> {
-        match name {
-            b"get" => Ok(Command::Get(words::number(key)?)),
-            _ => Err(Cause::Command),
-        }
-    }
-
-    // The command on two ends. `insert` is one where it has no value.
-    fn of_ends(
-        name: &[u8],
-        start: &[u8],
-        end: &[u8],
-        has_value: bool,
-    ) -> Result<Command<'a, R>, Cause> {
-        match name {
-            b"insert" if !has_value => Ok(Command::Insert(parse_span(start, end)?, None)),
-            b"remove" => Ok(Command::Remove(parse_span(start, end)?)),
-            b"overlapping" => Ok(Command::Overlapping(parse_query(start, end)?)),
-            b"overlaps" => Ok(Command::Overlaps(parse_query(start, end)?)),
-            b"gaps" => Ok(Command::Gaps(parse_query(start, end)?)),
-            _ => Err(Cause::Command),
-        }
-    }
-
-    // The command on two ends and a value.
-    fn of_pair(
-        name: &[u8],
-        start: &[u8],
-        end: &[u8],
-        value: &'a [u8],
-    ) -> Result<Command<'a, R>, Cause> {
-        match name {
-            b"insert" => {
+            (b"insert", Operands::Three(start, end, value)) if has_value => {
                 let (span, value) = parse_pair(start, end, value)?;
                 Ok(Command::Insert(span, Some(value)))
             }
+            (b"remove", Operands::Two(start, end)) => Ok(Command::Remove(parse_span(start, end)?)),
+            (b"overlapping", Operands::Two(start, end)) => {
+                Ok(Command::Overlapping(parse_query(start, end)?))
+            }
+            (b"overlaps", Operands::Two(start, end)) => {
+                Ok(Command::Overlaps(parse_query(start, end)?))
+            }
+            (b"gaps", Operands::Two(start, end)) => Ok(Command::Gaps(parse_query(start, end)?)),
             _ => Err(Cause::Command),
         }
     }

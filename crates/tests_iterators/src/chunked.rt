@@ -2,8 +2,8 @@
 //! function, and what the check takes of those of sets.
 
 use rangemap::chunked::{
-    Gaps, InclusiveGaps, InclusiveIter, InclusiveOverlapping, Iter, Overlapping, RangeInclusiveMap,
-    RangeMap, RangeSet, SetIter,
+    Gaps, InclusiveGaps, InclusiveIter, InclusiveOverlapping, InclusiveSetIter, Iter, Overlapping,
+    RangeInclusiveMap, RangeInclusiveSet, RangeMap, RangeSet, SetIter,
 };
 use std::alloc::AllocError;
 use std::iter::{DoubleEndedIterator, ExactSizeIterator, IntoIterator, Iterator};
@@ -36,6 +36,10 @@ pub fn queries<'a>(
 }
 
 pub fn ranges(set: &RangeSet<u64>) -> SetIter<'_, u64> {
+    set.iter()
+}
+
+pub fn closed_ranges(set: &RangeInclusiveSet<u64>) -> InclusiveSetIter<'_, u64> {
     set.iter()
 }
 
@@ -79,6 +83,36 @@ pub fn first_of_both(
     left: &RangeSet<u64>,
     right: &RangeSet<u64>,
 ) -> Result<Option<Range<u64>>, AllocError> {
+    left.intersection(right).try_next()
+}
+
+pub fn walk_closed_set(
+    set: &RangeInclusiveSet<u64>,
+    query: &RangeInclusive<u64>,
+) -> Result<(), AllocError> {
+    let _: Option<&RangeInclusive<u64>> = set.iter().next_back();
+    let _: Option<RangeInclusive<u64>> = set.gaps(query).try_next()?;
+    Ok(())
+}
+
+pub fn last_overlapping<'a>(
+    set: &'a RangeInclusiveSet<u64>,
+    query: &'a RangeInclusive<u64>,
+) -> Option<&'a RangeInclusive<u64>> {
+    set.overlapping(query).next_back()
+}
+
+pub fn first_of_either_closed(
+    left: &RangeInclusiveSet<u64>,
+    right: &RangeInclusiveSet<u64>,
+) -> Result<Option<RangeInclusive<u64>>, AllocError> {
+    left.union(right).try_next()
+}
+
+pub fn first_of_both_closed(
+    left: &RangeInclusiveSet<u64>,
+    right: &RangeInclusiveSet<u64>,
+) -> Result<Option<RangeInclusive<u64>>, AllocError> {
     left.intersection(right).try_next()
 }
 

@@ -19,32 +19,35 @@ use tests_support::{MANY, Refusing};
 // a closed range both ends, two; and one that stays apart none.
 // Where clones take memory it takes the growth; of each of the two pieces that the second range leaves
 // a key and a value; and both ends of the third range, which is joined with the piece before it.
+// Of half-open pieces both ends are cloned: four keys, and two values, beside the growth. In a tree the
+// first pair takes a node and its key; and the second the four ends of the pieces, two keys, and the value
+// of one piece. A set takes the growth, and both ends of the joined range.
 #[test]
 fn what_makes_containers_may_be_refused(rt: HostRuntime) -> Result<(), Fail> {
     let heap = Refusing::new(rt.alloc(), MANY);
     check::<Natives>(
         &heap,
         rt.alloc(),
-        "new, insert 0..10 a, clone, remove 4..5 | replay maps | 2 | 5
-        new, insert 0..=255 true, clone | replay inclusive maps | 2 | 5
-        new, insert 0..10 a, clone, remove 2..5 | replay trees | 2 | 14
-        new, insert 0..10, clone, union 0 1, intersection 0 1 | replay sets | 4 | 7
-        new, insert 0..=255, union 0 0, intersection 0 1 | replay inclusive sets | 3 | 6
-        new, insert 0..10, clone, union 0 1, intersection 0 1 | replay tree sets | 4 | 17
-        new, insert 0..10 a, clone, remove 4..5 | replay chunked maps | 2 | 10
-        new, insert 0..10, clone, union 0 1, intersection 0 1 | replay chunked sets | 4 | 17
-        new, insert 0..=255 true, clone | replay chunked inclusive maps | 2 | 7
-        new, insert 0..=255, union 0 0, intersection 0 1 | replay chunked inclusive sets | 3 | 9
-        new, insert -128..=127 true, clear | replay maps by steps | 1 | 4
-        new, insert -128..=127, clone | replay sets by steps | 2 | 5
+        "new, insert 0..10 a, clone, remove 4..5 | replay maps | 0..4 a, 5..10 a; 0..10 a | 5
+        new, insert 0..=255 true, clone | replay inclusive maps | 0..=255 true; 0..=255 true | 5
+        new, insert 0..10 a, clone, remove 2..5 | replay trees | 0..2 a, 5..10 a; 0..10 a | 14
+        new, insert 0..10, clone, union 0 1, intersection 0 1 | replay sets | 0..10; 0..10; 0..10; 0..10 | 7
+        new, insert 0..=255, union 0 0, intersection 0 1 | replay inclusive sets | 0..=255; 0..=255; 0..=255 | 6
+        new, insert 0..10, clone, union 0 1, intersection 0 1 | replay tree sets | 0..10; 0..10; 0..10; 0..10 | 17
+        new, insert 0..10 a, clone, remove 4..5 | replay chunked maps | 0..4 a, 5..10 a; 0..10 a | 10
+        new, insert 0..10, clone, union 0 1, intersection 0 1 | replay chunked sets | 0..10; 0..10; 0..10; 0..10 | 17
+        new, insert 0..=255 true, clone | replay chunked inclusive maps | 0..=255 true; 0..=255 true | 7
+        new, insert 0..=255, union 0 0, intersection 0 1 | replay chunked inclusive sets | 0..=255; 0..=255; 0..=255 | 9
+        new, insert -128..=127 true, clear | replay maps by steps | | 4
+        new, insert -128..=127, clone | replay sets by steps | -128..=127; -128..=127 | 5
         0..10 a + 3..6 b | map to texts from | 0..3 a, 3..6 b, 6..10 a | 4
         0..=9 a + 3..=5 b | inclusive map from | 0..=2 a, 3..=5 b, 6..=9 a | 4
         0..10 a + 2..5 b | tree from | 0..2 a, 2..5 b, 5..10 a | 9
         0..5 + 7..10 | set from | 0..5, 7..10 | 2
         0..=4 + 9..=255 | inclusive set from | 0..=4, 9..=255 | 2
         0..5 + 7..10 | tree set from | 0..5, 7..10 | 4
-        new, insert -128..=127 true, clear | replay chunked maps by steps | 1 | 5
-        new, insert -128..=127, clone | replay chunked sets by steps | 2 | 7
+        new, insert -128..=127 true, clear | replay chunked maps by steps | | 5
+        new, insert -128..=127, clone | replay chunked sets by steps | -128..=127; -128..=127 | 7
         0..10 a + 3..6 b | chunked map from | 0..3 a, 3..6 b, 6..10 a | 7 + 1
         0..=9 a + 3..=5 b | chunked inclusive map from | 0..=2 a, 3..=5 b, 6..=9 a | 5 + 1
         0..5 + 7..10 | chunked set from | 0..5, 7..10 | 3
@@ -107,6 +110,10 @@ fn what_makes_containers_may_be_refused(rt: HostRuntime) -> Result<(), Fail> {
             [30,31],[33,34]] | read chunked inclusive set | 0..=1, 3..=4, 6..=7, 9..=10, 12..=13, \
             15..=16, 18..=19, 21..=22, 24..=25, 27..=28, 30..=31, 33..=34, 36..=37 | 3
         any [[[0,9],7],[[3,5],8],[[10,20],7]] | read costly parts \
-            | 0..=2 7, 3..=5 8, 6..=20 7 | 7",
+            | 0..=2 7, 3..=5 8, 6..=20 7 | 7
+        any [[[0,10],7],[[3,6],8]] | read costly map | 0..3 7, 3..6 8, 6..10 7 | 7
+        any [[[0,10],7],[[3,6],8]] | read costly tree | 0..3 7, 3..6 8, 6..10 7 | 9
+        any [[0,5],[5,10]] | read costly set | 0..10 | 3
+        any [[0,4],[5,9]] | read costly inclusive set | 0..=9 | 3",
     )
 }

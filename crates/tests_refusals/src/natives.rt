@@ -40,8 +40,8 @@ pub type SetsInChunks<'a, Q, R, const N: usize> = Sets<Chunks<Q, R, (), &'a Heap
 pub type SetsInTree<'a, K> = Sets<Tree<K, (), &'a Heap>>;
 
 /// These calls. A row has what the call is given (the calls of a replay, two items, or the form in
-/// which a value is read, and the value), its name, what comes of it (how many containers a replay
-/// leaves, or what is made), and the number of requests.
+/// which a value is read, and the value), its name, what comes of it (the lists that a replay leaves,
+/// or what is made), and the number of requests.
 pub struct Natives;
 
 /// A store of numbers over closed ranges.
@@ -100,7 +100,11 @@ impl Tried for Natives {
             "read chunked inclusive set" => {
                 json::try_set::<ChunkedClosedNumbers<'_, ()>>(heap, alloc, row, left)
             }
-            "read costly parts" => json::try_costly(heap, alloc, row, left),
+            "read costly parts" => json::try_costly_inclusive_map(heap, alloc, row, left),
+            "read costly map" => json::try_costly_map(heap, alloc, row, left),
+            "read costly tree" => json::try_costly_tree(heap, alloc, row, left),
+            "read costly set" => json::try_costly_set(heap, alloc, row, left),
+            "read costly inclusive set" => json::try_costly_inclusive_set(heap, alloc, row, left),
             _ => try_replay(heap, row, left),
         }?;
         row.end_refusal(heap, left)?;

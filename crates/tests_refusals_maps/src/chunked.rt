@@ -44,13 +44,15 @@ fn each_request_of_a_map_may_be_refused(rt: HostRuntime) -> Result<(), Fail> {
         0..10 a + 3..6 b + 20..25 c | extend \
             | ; ; 0..10 a; 0..10 a; 0..3 a, 3..6 b, 6..10 a, 20..25 c | 4",
     )?;
-    chunked_map::<u32, char, 4>(&heap, "0..10 a + 20..30 b | run | | 4")
+    chunked_map::<u32, char, 4>(&heap, "0..10 a + 20..30 b | run | 0..10 a, 20..30 b | 4")
 }
 
 // What is cloned of a key is what a sorted vector clones, also where the two pieces that stay lie in
 // two chunks: of half-open ranges both ends of each piece, of closed ones the end at which it is cut.
-// Beside that the first pair takes a list and the list of chunks, and so does a clone. An append takes
-// both ends of each pair that it tells of; there is room for four.
+// Beside that the first pair takes a list and the list of chunks, and so does a clone. Of a half-open
+// gap both ends are cloned, of a closed one an end of the outer range, and one beside a stored range
+// comes of a step. An append takes both ends of each pair that it tells of, or what the gaps take;
+// there is room for four.
 #[test]
 fn each_clone_of_a_key_may_be_refused(rt: HostRuntime) -> Result<(), Fail> {
     let heap = Refusing::new(rt.alloc(), MANY);
@@ -61,13 +63,14 @@ fn each_clone_of_a_key_may_be_refused(rt: HostRuntime) -> Result<(), Fail> {
         0..10 a | remove 3..6 | 0..3 a, 6..10 a | 4
         0..2 a, 4..6 b, 8..10 c, 12..14 d, 16..18 e | remove 5..17 | 0..2 a, 4..5 b, 17..18 e | 4
         0..2 a, 5..10 a | clone | 0..2 a, 5..10 a | 6
-        1..3 a | gaps 0..5 | 0..1, 3..5 | 2
-        0..2 a, 4..6 b, 8..10 c, 12..14 d, 16..18 e | gaps 5..11 | 6..8, 10..11 | 2
+        1..3 a | gaps 0..5 | 0..1, 3..5 | 2 + 2
+        0..2 a, 4..6 b, 8..10 c, 12..14 d, 16..18 e | gaps 5..11 | 6..8, 10..11 | 2 + 2
         0..10 a + 3..6 b | extend | ; ; 0..10 a; 0..10 a; 0..10 a; 0..10 a; 0..3 a, 3..6 b, 6..10 a | 6
         0..2 a, 5..10 a | append 1..6 0..2 a + 5..10 a | 0..2 a, 5..10 a, 0..2 a, 5..10 a | 4
         0..2 a, 5..10 a | append 1..6 20..30 b | 20..30 b, 0..2 a, 5..10 a | 4
         0..2 a, 5..10 a | append 1..3 20..30 b | 20..30 b, 0..2 a | 2
-        0..2 a, 5..10 a | append all 20..30 b | 20..30 b, 0..2 a, 5..10 a | 4",
+        0..2 a, 5..10 a | append all 20..30 b | 20..30 b, 0..2 a, 5..10 a | 4
+        0..2 a, 4..6 b, 8..10 c, 12..14 d, 16..18 e | append gaps 5..11 20..30 | 20..30, 6..8, 10..11 | 4",
     )?;
     chunked_inclusive_map::<Costly<'_>, char, 4>(
         &heap,
@@ -78,7 +81,7 @@ fn each_clone_of_a_key_may_be_refused(rt: HostRuntime) -> Result<(), Fail> {
         0..=1 a, 4..=5 b, 8..=9 c, 12..=13 d, 16..=17 e | remove 5..=16 | 0..=1 a, 4..=4 b, 17..=17 e | 2
         0..=1 a, 4..=5 b, 8..=9 c, 12..=13 d, 16..=17 e | clone | 0..=1 a, 4..=5 b, 8..=9 c, 12..=13 d, 16..=17 e | 13
         0..=1 a, 4..=5 b, 8..=9 c, 12..=13 d, 16..=17 e | gaps 6..=13 | 6..=7, 10..=11 | 1
-        0..=3 a, 4..=7 b, 8..=11 c, 12..=13 d, 16..=17 e | gaps 0..=19 | 14..=15, 18..=19 | 0
+        0..=3 a, 4..=7 b, 8..=11 c, 12..=13 d, 16..=17 e | gaps 0..=19 | 14..=15, 18..=19 | 0 + 1
         0..=9 a | remove 10..=255 | 0..=9 a | 0
         | remove 0..=5 | | 0
         | clone | | 0
@@ -87,7 +90,9 @@ fn each_clone_of_a_key_may_be_refused(rt: HostRuntime) -> Result<(), Fail> {
             | 0..=2 a, 5..=10 a, 0..=2 a, 5..=10 a | 4
         0..=2 a, 5..=10 a | append 1..=6 20..=30 b | 20..=30 b, 0..=2 a, 5..=10 a | 4
         0..=2 a, 5..=10 a | append 1..=3 20..=30 b | 20..=30 b, 0..=2 a | 2
-        0..=2 a, 5..=10 a | append all 20..=30 b | 20..=30 b, 0..=2 a, 5..=10 a | 4",
+        0..=2 a, 5..=10 a | append all 20..=30 b | 20..=30 b, 0..=2 a, 5..=10 a | 4
+        0..=1 a, 4..=5 b, 8..=9 c, 12..=13 d, 16..=17 e | append gaps 6..=13 20..=30 | 20..=30, 6..=7, 10..=11 | 1
+        0..=3 a, 4..=7 b, 8..=11 c, 12..=13 d, 16..=17 e | append gaps 0..=19 20..=30 | 20..=30, 14..=15, 18..=19 | 1",
     )
 }
 

@@ -8,9 +8,9 @@ use tests_support::{Costly, MANY, Refusing, Text};
 // The first growth takes a request, a clone of the stored end of each piece that stays another, and
 // so do both ends of a range that is joined, on whichever side what it joins lies; one that joins
 // nothing is moved. A removal that meets nothing takes nothing, nor does a clone of an empty map;
-// one of another map takes its list, and six keys. The start of a gap is cloned, and its end comes
-// of a step. An append takes a clone of either end of each pair that it tells of; there is
-// room for four.
+// one of another map takes its list, and six keys. Of a gap an end of the outer range is cloned, and
+// one beside a stored range comes of a step. An append takes a clone of either end of each pair that it
+// tells of, or what the gaps take; there is room for four.
 #[test]
 fn each_request_may_be_refused(rt: HostRuntime) -> Result<(), Fail> {
     let heap = Refusing::new(rt.alloc(), MANY);
@@ -29,13 +29,14 @@ fn each_request_may_be_refused(rt: HostRuntime) -> Result<(), Fail> {
         | remove 0..=5 | | 0
         | clone | | 0
         0..=2 a, 3..=5 b, 6..=9 a | clone | 0..=2 a, 3..=5 b, 6..=9 a | 7
-        10..=249 a | gaps 0..=255 | 0..=9, 250..=255 | 1
+        10..=249 a | gaps 0..=255 | 0..=9, 250..=255 | 1 + 1
         0..=9 a + 3..=5 b | extend | ; 0..=9 a; 0..=9 a; 0..=2 a, 3..=5 b, 6..=9 a | 3
         0..=2 a, 5..=10 a | append 1..=6 0..=2 a + 5..=10 a \
             | 0..=2 a, 5..=10 a, 0..=2 a, 5..=10 a | 4
         0..=2 a, 5..=10 a | append 1..=6 20..=30 b | 20..=30 b, 0..=2 a, 5..=10 a | 4
         0..=2 a, 5..=10 a | append 1..=3 20..=30 b | 20..=30 b, 0..=2 a | 2
-        0..=2 a, 5..=10 a | append all 20..=30 b | 20..=30 b, 0..=2 a, 5..=10 a | 4",
+        0..=2 a, 5..=10 a | append all 20..=30 b | 20..=30 b, 0..=2 a, 5..=10 a | 4
+        10..=249 a | append gaps 0..=255 20..=30 | 20..=30, 0..=9, 250..=255 | 2",
     )
 }
 

@@ -42,8 +42,8 @@ fn each_request_may_be_refused(rt: HostRuntime) -> Result<(), Fail> {
 // Both ends of each piece that stays are cloned, and both ends of a gap. Of a range that is joined
 // both ends are cloned, on whichever side what it joins lies; one that joins nothing is moved. A clone
 // of a map takes its list, and four keys. Of an `extend` the first pair takes the first growth, and the
-// second, inside it, both ends of two pieces. An append takes both ends of each pair that it tells of;
-// a list has room for four, and one that has four has to grow first.
+// second, inside it, both ends of two pieces. An append takes both ends of each pair or gap that it
+// tells of; a list has room for four, and one that has four has to grow first.
 #[test]
 #[tactic(auto, using(rangemap::proofs::TextKeys::clones_tie))]
 fn each_clone_of_a_key_may_be_refused(rt: HostRuntime) -> Result<(), Fail> {
@@ -52,7 +52,7 @@ fn each_clone_of_a_key_may_be_refused(rt: HostRuntime) -> Result<(), Fail> {
     map::<Text<'_>, char>(&heap, row)?;
     map::<Costly<'_>, char>(
         &heap,
-        "1..3 a | gaps 0..5 | 0..1, 3..5 | 2
+        "1..3 a | gaps 0..5 | 0..1, 3..5 | 2 + 2
         0..10 a | insert 10..20 a | 0..20 a | 2
         10..20 a | insert 0..10 a | 0..20 a | 2
         0..5 a, 10..15 a | insert 5..10 a | 0..15 a | 2
@@ -68,7 +68,10 @@ fn each_clone_of_a_key_may_be_refused(rt: HostRuntime) -> Result<(), Fail> {
         0..2 a, 5..10 a | append 1..3 20..30 b | 20..30 b, 0..2 a | 2
         0..2 a, 5..10 a | append all 20..30 b | 20..30 b, 0..2 a, 5..10 a | 4
         0..2 a, 5..10 a | append all 20..21 b + 22..23 b + 24..25 b + 26..27 b \
-            | 20..21 b, 22..23 b, 24..25 b, 26..27 b, 0..2 a, 5..10 a | 5",
+            | 20..21 b, 22..23 b, 24..25 b, 26..27 b, 0..2 a, 5..10 a | 5
+        1..3 a | append gaps 0..5 20..30 | 20..30, 0..1, 3..5 | 4
+        1..3 a | append gaps 0..5 20..21 + 22..23 + 24..25 + 26..27 \
+            | 20..21, 22..23, 24..25, 26..27, 0..1, 3..5 | 5",
     )
 }
 
@@ -76,5 +79,5 @@ fn each_clone_of_a_key_may_be_refused(rt: HostRuntime) -> Result<(), Fail> {
 #[test]
 fn each_command_may_be_refused(rt: HostRuntime) -> Result<(), Fail> {
     let heap = Refusing::new(rt.alloc(), MANY);
-    map::<u32, char>(&heap, "0..10 a + 20..30 b | run | | 3")
+    map::<u32, char>(&heap, "0..10 a + 20..30 b | run | 0..10 a, 20..30 b | 3")
 }

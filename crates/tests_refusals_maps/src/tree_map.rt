@@ -19,7 +19,7 @@ fn a_refused_insert_leaves_the_map(rt: HostRuntime) -> Result<(), Fail> {
         0..10 a + 3..6 b + 20..25 c | extend \
             | ; 0..10 a; 0..3 a, 3..6 b, 6..10 a, 20..25 c | 2",
     )?;
-    tree::<u32, char>(&heap, "0..10 a + 20..30 b | run | | 3")
+    tree::<u32, char>(&heap, "0..10 a + 20..30 b | run | 0..10 a, 20..30 b | 3")
 }
 
 // The first pair takes the tree and the key that it stands at, and each that joins nothing its key.
@@ -38,7 +38,7 @@ fn a_refused_insert_leaves_the_map(rt: HostRuntime) -> Result<(), Fail> {
 // and nothing where there is none. Both ends of a gap are cloned.
 //
 // Of an `extend` the first pair takes the tree and a key, the second what an insert inside it takes.
-// An append takes a clone of either end of each pair that it tells of; there is room for four.
+// An append takes a clone of either end of each pair or gap that it tells of; there is room for four.
 #[test]
 fn each_request_may_be_refused(rt: HostRuntime) -> Result<(), Fail> {
     let heap = Refusing::new(rt.alloc(), MANY);
@@ -65,13 +65,14 @@ fn each_request_may_be_refused(rt: HostRuntime) -> Result<(), Fail> {
         | remove 0..5 | | 0
         | clone | | 0
         0..2 a, 5..10 a | clone | 0..2 a, 5..10 a | 7
-        1..3 a | gaps 0..5 | 0..1, 3..5 | 2
+        1..3 a | gaps 0..5 | 0..1, 3..5 | 2 + 2
         0..10 a + 2..5 b | extend | ; ; 0..10 a; 0..10 a; 0..10 a; 0..10 a; 0..10 a; 0..10 a; \
             0..2 a, 2..5 b, 5..10 a | 8
         0..2 a, 5..10 a | append 1..6 0..2 a + 5..10 a | 0..2 a, 5..10 a, 0..2 a, 5..10 a | 4
         0..2 a, 5..10 a | append 1..6 20..30 b | 20..30 b, 0..2 a, 5..10 a | 4
         0..2 a, 5..10 a | append 1..3 20..30 b | 20..30 b, 0..2 a | 2
-        0..2 a, 5..10 a | append all 20..30 b | 20..30 b, 0..2 a, 5..10 a | 4",
+        0..2 a, 5..10 a | append all 20..30 b | 20..30 b, 0..2 a, 5..10 a | 4
+        1..3 a | append gaps 0..5 20..30 | 20..30, 0..1, 3..5 | 4",
     )
 }
 

@@ -29,9 +29,9 @@ fn each_request_of_a_set_may_be_refused(rt: HostRuntime) -> Result<(), Fail> {
         0..2, 4..6, 8..10, 12..14, 16..18 | insert 14..16 | 0..2, 4..6, 8..10, 12..18 | 2
         0..2, 4..6, 8..10, 12..14, 16..18 | remove 5..17 | 0..2, 4..5, 17..18 | 4
         0..2, 4..6, 8..10, 12..14, 16..18 | clone | 0..2, 4..6, 8..10, 12..14, 16..18 | 13
-        0..2, 4..6, 8..10, 12..14, 16..18 | gaps 5..11 | 6..8, 10..11 | 2
-        0..3, 7..10 | union 2..5, 9..13 | 0..5, 7..13 | 2
-        0..3, 7..10 | intersection 2..5, 9..13 | 2..3, 9..10 | 2
+        0..2, 4..6, 8..10, 12..14, 16..18 | gaps 5..11 | 6..8, 10..11 | 2 + 2
+        0..3, 7..10 | union 2..5, 9..13 | 0..5, 7..13 | 2 + 2
+        0..3, 7..10 | intersection 2..5, 9..13 | 2..3, 9..10 | 2 + 2
         0..3, 7..10 | or 2..5, 9..13 | 0..5, 7..13 | 6
         0..3, 7..10 | and 2..5, 9..13 | 2..3, 9..10 | 6
         0..5 + 5..10 + 10..15 | extend | ; ; 0..5; 0..5; 0..10; 0..10; 0..15 | 6
@@ -39,7 +39,8 @@ fn each_request_of_a_set_may_be_refused(rt: HostRuntime) -> Result<(), Fail> {
             0..2, 4..6, 8..10, 12..14, 16..18 | 2 + 1
         0..2, 5..10 | append 1..6 20..30 | 20..30, 0..2, 5..10 | 4
         0..2, 5..10 | append 1..3 20..30 | 20..30, 0..2 | 2
-        0..2, 5..10 | append all 20..30 | 20..30, 0..2, 5..10 | 4",
+        0..2, 5..10 | append all 20..30 | 20..30, 0..2, 5..10 | 4
+        0..2, 4..6, 8..10, 12..14, 16..18 | append gaps 5..11 20..30 | 20..30, 6..8, 10..11 | 4",
     )?;
     chunked_set::<u32, 512>(
         &heap,
@@ -85,8 +86,9 @@ fn each_request_of_a_set_may_be_refused(rt: HostRuntime) -> Result<(), Fail> {
 
 // What is cloned of a key is what a sorted vector clones, also where what stays lies in two chunks;
 // beside it the first range takes the list of chunks, a clone that list and two lists, and a set that
-// is made of two others a list more than a sorted vector does. An append takes both ends of each range
-// that it tells of; there is room for four.
+// is made of two others a list more than a sorted vector does. Of a gap an end of the outer range
+// is cloned, and one beside a stored range comes of a step. An append takes both ends of each range that
+// it tells of, or what the gaps take; there is room for four.
 #[test]
 fn each_request_of_a_closed_set_may_be_refused(rt: HostRuntime) -> Result<(), Fail> {
     let heap = Refusing::new(rt.alloc(), MANY);
@@ -107,15 +109,17 @@ fn each_request_of_a_closed_set_may_be_refused(rt: HostRuntime) -> Result<(), Fa
         0..=1, 4..=5, 8..=9, 12..=13, 16..=17 | remove 5..=16 | 0..=1, 4..=4, 17..=17 | 2
         0..=1, 4..=5, 8..=9, 12..=13, 16..=17 | clone | 0..=1, 4..=5, 8..=9, 12..=13, 16..=17 | 13
         0..=1, 4..=5, 8..=9, 12..=13, 16..=17 | gaps 6..=13 | 6..=7, 10..=11 | 1
-        10..=249 | gaps 0..=255 | 0..=9, 250..=255 | 1
-        0..=4, 9..=12 | union 4..=7, 11..=255 | 0..=7, 9..=255 | 2
-        0..=4, 9..=12 | intersection 4..=7, 11..=255 | 4..=4, 11..=12 | 2
+        10..=249 | gaps 0..=255 | 0..=9, 250..=255 | 1 + 1
+        0..=4, 9..=12 | union 4..=7, 11..=255 | 0..=7, 9..=255 | 2 + 2
+        0..=4, 9..=12 | intersection 4..=7, 11..=255 | 4..=4, 11..=12 | 2 + 2
         0..=4, 9..=12 | or 4..=7, 11..=255 | 0..=7, 9..=255 | 6
         0..=4, 9..=12 | and 4..=7, 11..=255 | 4..=4, 11..=12 | 6
         0..=4 + 5..=9 + 10..=14 | extend | ; ; 0..=4; 0..=4; 0..=9; 0..=9; 0..=14 | 6
         0..=2, 5..=10 | append 1..=6 20..=30 | 20..=30, 0..=2, 5..=10 | 4
         0..=2, 5..=10 | append 1..=3 20..=30 | 20..=30, 0..=2 | 2
-        0..=2, 5..=10 | append all 20..=30 | 20..=30, 0..=2, 5..=10 | 4",
+        0..=2, 5..=10 | append all 20..=30 | 20..=30, 0..=2, 5..=10 | 4
+        0..=1, 4..=5, 8..=9, 12..=13, 16..=17 | append gaps 6..=13 20..=30 | 20..=30, 6..=7, 10..=11 | 1
+        10..=249 | append gaps 0..=255 20..=30 | 20..=30, 0..=9, 250..=255 | 2",
     )
 }
 
@@ -124,7 +128,7 @@ fn each_request_of_a_closed_set_may_be_refused(rt: HostRuntime) -> Result<(), Fa
 #[tactic(auto, using(rangemap::proofs::TextKeys::clones_tie))]
 fn each_clone_of_a_gap_may_be_refused(rt: HostRuntime) -> Result<(), Fail> {
     let heap = Refusing::new(rt.alloc(), MANY);
-    chunked_set::<Text<'_>, 4>(&heap, "b..d | gaps a..f | a..b, d..f | 2")
+    chunked_set::<Text<'_>, 4>(&heap, "b..d | gaps a..f | a..b, d..f | 2 + 2")
 }
 
 /// A set in chunks of up to 128 ranges.

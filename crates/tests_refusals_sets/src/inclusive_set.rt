@@ -8,12 +8,12 @@ use tests_support::{Costly, MANY, Refusing};
 // The first growth takes a request, a clone of the stored end of each piece that stays another, and
 // so do both ends of a range that is joined, on whichever side what it joins lies; one that joins
 // nothing is moved. A removal that meets nothing takes nothing, nor does a clone of an empty set;
-// one of another set takes its list, and four keys. The start of a gap is cloned, and its end comes
-// of a step.
+// one of another set takes its list, and four keys. Of a gap an end of the outer range is cloned, and
+// one beside a stored range comes of a step.
 //
 // Of an item of two sets both ends are cloned; a set asks for the list too, and for two items. Of
 // an `extend` the first range takes a list, and each other is joined with what is stored. An append
-// takes both ends of each range that it tells of; there is room for four.
+// takes both ends of each range that it tells of, or what the gaps take; there is room for four.
 #[test]
 fn each_request_may_be_refused(rt: HostRuntime) -> Result<(), Fail> {
     let heap = Refusing::new(rt.alloc(), MANY);
@@ -30,15 +30,16 @@ fn each_request_may_be_refused(rt: HostRuntime) -> Result<(), Fail> {
         | remove 0..=5 | | 0
         | clone | | 0
         0..=4, 9..=255 | clone | 0..=4, 9..=255 | 5
-        10..=249 | gaps 0..=255 | 0..=9, 250..=255 | 1
-        0..=4, 9..=12 | union 4..=7, 11..=255 | 0..=7, 9..=255 | 2
-        0..=4, 9..=12 | intersection 4..=7, 11..=255 | 4..=4, 11..=12 | 2
+        10..=249 | gaps 0..=255 | 0..=9, 250..=255 | 1 + 1
+        0..=4, 9..=12 | union 4..=7, 11..=255 | 0..=7, 9..=255 | 2 + 2
+        0..=4, 9..=12 | intersection 4..=7, 11..=255 | 4..=4, 11..=12 | 2 + 2
         0..=4, 9..=12 | or 4..=7, 11..=255 | 0..=7, 9..=255 | 5
         0..=4, 9..=12 | and 4..=7, 11..=255 | 4..=4, 11..=12 | 5
         0..=4 + 5..=9 + 10..=14 | extend | ; 0..=4; 0..=4; 0..=9; 0..=9; 0..=14 | 5
         0..=2, 5..=10 | append 1..=6 20..=30 | 20..=30, 0..=2, 5..=10 | 4
         0..=2, 5..=10 | append 1..=3 20..=30 | 20..=30, 0..=2 | 2
-        0..=2, 5..=10 | append all 20..=30 | 20..=30, 0..=2, 5..=10 | 4",
+        0..=2, 5..=10 | append all 20..=30 | 20..=30, 0..=2, 5..=10 | 4
+        10..=249 | append gaps 0..=255 20..=30 | 20..=30, 0..=9, 250..=255 | 2",
     )
 }
 

@@ -12,7 +12,7 @@ use tests_support::{Costly, MANY, Refusing, Text};
 //
 // Of an item of two sets both ends are cloned; a set asks for the list too, and for two items. Of an
 // `extend` the first range takes a list, and each other is joined with what is stored, which clones
-// both ends. An append takes both ends of each range that it tells of; there is room for four.
+// both ends. An append takes both ends of each range or gap that it tells of; there is room for four.
 #[test]
 fn each_request_may_be_refused(rt: HostRuntime) -> Result<(), Fail> {
     let heap = Refusing::new(rt.alloc(), MANY);
@@ -29,14 +29,15 @@ fn each_request_may_be_refused(rt: HostRuntime) -> Result<(), Fail> {
         | remove 0..5 | | 0
         | clone | | 0
         0..2, 5..10 | clone | 0..2, 5..10 | 5
-        0..3, 7..10 | union 2..5, 9..13 | 0..5, 7..13 | 2
-        0..3, 7..10 | intersection 2..5, 9..13 | 2..3, 9..10 | 2
+        0..3, 7..10 | union 2..5, 9..13 | 0..5, 7..13 | 2 + 2
+        0..3, 7..10 | intersection 2..5, 9..13 | 2..3, 9..10 | 2 + 2
         0..3, 7..10 | or 2..5, 9..13 | 0..5, 7..13 | 5
         0..3, 7..10 | and 2..5, 9..13 | 2..3, 9..10 | 5
         0..5 + 5..10 + 10..15 | extend | ; 0..5; 0..5; 0..10; 0..10; 0..15 | 5
         0..2, 5..10 | append 1..6 20..30 | 20..30, 0..2, 5..10 | 4
         0..2, 5..10 | append 1..3 20..30 | 20..30, 0..2 | 2
-        0..2, 5..10 | append all 20..30 | 20..30, 0..2, 5..10 | 4",
+        0..2, 5..10 | append all 20..30 | 20..30, 0..2, 5..10 | 4
+        1..3 | append gaps 0..5 20..30 | 20..30, 0..1, 3..5 | 4",
     )
 }
 
@@ -45,7 +46,7 @@ fn each_request_may_be_refused(rt: HostRuntime) -> Result<(), Fail> {
 #[tactic(auto, using(rangemap::proofs::TextKeys::clones_tie))]
 fn each_clone_of_a_gap_may_be_refused(rt: HostRuntime) -> Result<(), Fail> {
     let heap = Refusing::new(rt.alloc(), MANY);
-    set::<Text<'_>>(&heap, "b..d | gaps a..f | a..b, d..f | 2")
+    set::<Text<'_>>(&heap, "b..d | gaps a..f | a..b, d..f | 2 + 2")
 }
 
 // The first growth makes room for twelve ranges, and each of the four others doubles it, so one that is

@@ -10,7 +10,7 @@ use tests_support::{Costly, MANY, Refusing, Text};
 // Of an item of two sets both ends are cloned. A set of such items takes the tree and the key that
 // the first stands at beside them, and the key of the second. Of an `extend` the first range takes
 // the tree and a key, and each other, which joins what lies to the left, clones its start and a key.
-// An append takes both ends of each range that it tells of; there is room for four.
+// An append takes both ends of each range or gap that it tells of; there is room for four.
 #[test]
 fn each_request_may_be_refused(rt: HostRuntime) -> Result<(), Fail> {
     let heap = Refusing::new(rt.alloc(), MANY);
@@ -27,15 +27,16 @@ fn each_request_may_be_refused(rt: HostRuntime) -> Result<(), Fail> {
         | remove 0..5 | | 0
         | clone | | 0
         0..2, 5..10 | clone | 0..2, 5..10 | 7
-        1..3 | gaps 0..5 | 0..1, 3..5 | 2
-        0..3, 7..10 | union 2..5, 9..13 | 0..5, 7..13 | 2
-        0..3, 7..10 | intersection 2..5, 9..13 | 2..3, 9..10 | 2
+        1..3 | gaps 0..5 | 0..1, 3..5 | 2 + 2
+        0..3, 7..10 | union 2..5, 9..13 | 0..5, 7..13 | 2 + 2
+        0..3, 7..10 | intersection 2..5, 9..13 | 2..3, 9..10 | 2 + 2
         0..3, 7..10 | or 2..5, 9..13 | 0..5, 7..13 | 7
         0..3, 7..10 | and 2..5, 9..13 | 2..3, 9..10 | 7
         0..5 + 5..10 + 10..15 | extend | ; ; 0..5; 0..5; 0..10; 0..10; 0..15 | 6
         0..2, 5..10 | append 1..6 20..30 | 20..30, 0..2, 5..10 | 4
         0..2, 5..10 | append 1..3 20..30 | 20..30, 0..2 | 2
-        0..2, 5..10 | append all 20..30 | 20..30, 0..2, 5..10 | 4",
+        0..2, 5..10 | append all 20..30 | 20..30, 0..2, 5..10 | 4
+        1..3 | append gaps 0..5 20..30 | 20..30, 0..1, 3..5 | 4",
     )
 }
 
@@ -44,7 +45,7 @@ fn each_request_may_be_refused(rt: HostRuntime) -> Result<(), Fail> {
 #[tactic(auto, using(rangemap::proofs::TextKeys::clones_tie))]
 fn each_clone_of_a_gap_may_be_refused(rt: HostRuntime) -> Result<(), Fail> {
     let heap = Refusing::new(rt.alloc(), MANY);
-    tree_set::<Text<'_>>(&heap, "b..d | gaps a..f | a..b, d..f | 2")
+    tree_set::<Text<'_>>(&heap, "b..d | gaps a..f | a..b, d..f | 2 + 2")
 }
 
 // The first range takes the tree. A node has room for fifteen, so the sixteenth takes two more: one

@@ -1,19 +1,38 @@
-//! What a list holds to which clones of a container's pairs are appended, where a request is refused.
+//! What a list holds to which clones of a container's pairs are appended, or its gaps, where a request
+//! is refused.
 ghost use Rattle.rangemap.specs.Clones.{KeysCloneFaithfully, ValuesCloneFaithfully};
 
 use crate::row::{Answer, Row};
+use crate::tried::with_range;
 use tests_support::{
-    Heap, InRows, Word, check_that, first_word, is_range, made_of, pairs_of, range_of,
+    Heap, InRows, Word, check_that, first_word, is_range, made_of, pairs_of, range_of, ranges_of,
 };
 
-/// Tries to append the pairs that a query overlaps, or `all`. The call names the query, and behind it
-/// the pairs of the list that they are appended to, with a plus between them. Where the clones were
-/// refused the list is as before.
+/// Tries to append the pairs that a query overlaps, or `all`, or the `gaps` in a range. The call names
+/// the query, or the word `gaps` and the range, and behind it the items of the list that they are
+/// appended to, with a plus between them. Where the clones were refused the list is as before.
 pub fn try_appends<M: InRows>(heap: &Heap, alloc: M::Alloc, row: &Row<'_>, left: u64) -> Answer
     requires faithful_keys { KeysCloneFaithfully M.Range.Key.is_clone M.Range.Key.cmp }
     requires faithful_values { ValuesCloneFaithfully M.Value.is_clone M.Value.eq }
 {
-    let (query, list) = first_word(first_word(row.call).1);
+    match first_word(first_word(row.call).1) {
+        ("gaps", operands) => try_gaps::<M>(heap, alloc, operands, row, left),
+        (query, list) => try_pairs::<M>(heap, alloc, (query, list), row, left),
+    }
+}
+
+/// Tries to append pairs.
+fn try_pairs<M: InRows>(
+    heap: &Heap,
+    alloc: M::Alloc,
+    operands: (&str, &str),
+    row: &Row<'_>,
+    left: u64,
+) -> Answer
+    requires faithful_keys { KeysCloneFaithfully M.Range.Key.is_clone M.Range.Key.cmp }
+    requires faithful_values { ValuesCloneFaithfully M.Value.is_clone M.Value.eq }
+{
+    let (query, list) = operands;
     let map: M = made_of(alloc, row.given)?;
     let mut pairs = pairs_of::<M::Kind, M::Range, M::Value, M::Alloc>(alloc, list)?;
     let is_appended = if query == "all" {
@@ -37,8 +56,55 @@ pub fn try_appends<M: InRows>(heap: &Heap, alloc: M::Alloc, row: &Row<'_>, left:
     Ok(is_appended)
 }
 
+/// Tries to append gaps. The operands are the range that they are asked for in, and the ranges of the
+/// list.
+fn try_gaps<M: InRows>(
+    heap: &Heap,
+    alloc: M::Alloc,
+    operands: &str,
+    row: &Row<'_>,
+    left: u64,
+) -> Answer
+    requires faithful_keys { KeysCloneFaithfully M.Range.Key.is_clone M.Range.Key.cmp }
+    requires faithful_values { ValuesCloneFaithfully M.Value.is_clone M.Value.eq }
+{
+    let (outer_range, list) = first_word(operands);
+    let (map, outer_range) = with_range::<M>(alloc, row.given, outer_range)?;
+    let mut ranges = ranges_of::<M::Kind, M::Range, M::Alloc>(alloc, list)?;
+    heap.refuse_after(left);
+    let is_appended = map.append_gaps(&outer_range, &mut ranges).is_ok();
+    row.end_refusal(heap, left)?;
+    let (expected, separator) = if is_appended {
+        (row.outcome, ", ")
+    } else {
+        (list, " + ")
+    };
+    check_that(
+        are_ranges::<M>(ranges.as_slice(), expected, separator),
+        "a list of gaps differs",
+    )?;
+    Ok(is_appended)
+}
+
+/// Whether ranges are those of a text, in which a separator stands between them.
+fn are_ranges<M: InRows>(ranges: &[M::Range], list: &str, separator: &str) -> bool {
+    let mut rest = list;
+    for range in ranges {
+        let (text, others) = rest.split_once(separator).unwrap_or((rest, ""));
+        if !is_range::<M::Range, M::Alloc>(range, text) {
+            return false;
+        }
+        rest = others;
+    }
+    rest.is_empty()
+}
+
 /// Whether pairs are those of a text, in which a separator stands between them.
-fn are_pairs<M: InRows>(pairs: &[(M::Range, M::Value)], list: &str, separator: &str) -> bool {
+pub(crate) fn are_pairs<M: InRows>(
+    pairs: &[(M::Range, M::Value)],
+    list: &str,
+    separator: &str,
+) -> bool {
     let mut rest = list;
     for (range, value) in pairs {
         let (pair, others) = rest.split_once(separator).unwrap_or((rest, ""));

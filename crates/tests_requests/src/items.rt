@@ -3,11 +3,11 @@
 use crate::row::{Answer, Row};
 use rangemap_core::key_range::KeyRange;
 use std::alloc::AllocError;
-use std::test::Fail;
-use tests_support::{Heap, Tries, Word, is_range};
+use tests_support::{Heap, Tries, Word, check_that, is_range};
 
-/// Tries to ask for the first of the two items that a row has, by `try_next` and, of the same items
-/// again, by `next`, which clone alike.
+/// Tries to ask for the two items that a row has, by `try_next` and, of the same items again, by
+/// `next`, which clone alike. The row counts the requests of the first item, and behind these those
+/// of the second. Answers whether the first came at once.
 pub fn try_both<R, A, I>(heap: &Heap, items: (I, I), row: &Row<'_>, left: u64) -> Answer
 where
     R: KeyRange<Key: Word<A>>,
@@ -16,17 +16,19 @@ where
     requires { (it : I) → I.can_next it }
 {
     let (mut tried, mut taken) = items;
-    let is_tried = try_items::<R, A, I>(heap, &mut tried, row, left);
-    let is_taken = take_items::<R, A, I>(heap, &mut taken, row, left);
-    match is_tried {
-        Some(is_accepted) if is_taken == is_tried => Ok(is_accepted),
-        _ => Err(Fail::new("the items are others, or their requests")),
-    }
+    let expected = (row.requests <= left, row.all() <= left);
+    let are_tried = try_items::<R, A, I>(heap, &mut tried, row, left);
+    let are_taken = take_items::<R, A, I>(heap, &mut taken, row, left);
+    check_that(
+        are_tried == Some(expected) && are_taken == are_tried,
+        "the items are others, or their requests",
+    )?;
+    Ok(expected.0)
 }
 
-/// Whether a `try_next` is accepted. One that is refused can be asked again, for the same item.
-/// `None` says that the items are others, or their requests.
-fn try_items<R, A, I>(heap: &Heap, items: &mut I, row: &Row<'_>, left: u64) -> Option<bool>
+/// Whether the first item comes by `try_next` at once, and whether both do. One that is refused can
+/// be asked for again. `None` says that the items are others, or their requests.
+fn try_items<R, A, I>(heap: &Heap, items: &mut I, row: &Row<'_>, left: u64) -> Option<(bool, bool)>
 where
     R: KeyRange<Key: Word<A>>,
     A: Drop,
@@ -35,43 +37,71 @@ where
 {
     let (first, second) = row.outcome.split_once(", ")?;
     heap.refuse_after(left);
-    let item = items.try_next();
-    let is_counted = row.has_as_many(heap, left);
-    let (is_accepted, is_first) = match item {
-        Ok(item) => (true, is_item::<R, A>(item, first)),
-        Err(AllocError) => (false, is_next::<R, A, I>(items, first)),
-    };
-    let are_same = is_counted
-        && is_first
-        && is_next::<R, A, I>(items, second)
-        && is_next::<R, A, I>(items, "");
-    if are_same { Some(is_accepted) } else { None }
+    let is_first = is_at_once::<R, A, I>(items, first)?;
+    let is_second = is_at_once::<R, A, I>(items, second)?;
+    let is_over = is_next::<R, A, I>(items, "");
+    if row.has_as_many(heap, left) && is_over {
+        Some((is_first, is_first && is_second))
+    } else {
+        None
+    }
 }
 
-/// Whether a `next` is accepted. One that is refused says so, and no item comes after that. `None`
-/// says that it is otherwise.
-fn take_items<R, A, I>(heap: &Heap, items: &mut I, row: &Row<'_>, left: u64) -> Option<bool>
+/// Whether the next item comes at once, or is refused, and then comes. `None` says that it is not the
+/// one that a text names.
+fn is_at_once<R: KeyRange<Key: Word<A>>, A: Drop, I: Tries<Range = R>>(
+    items: &mut I,
+    text: &str,
+) -> Option<bool>
+    requires { I.can_next items.old }
+    ensures { I.can_next items.new }
+{
+    let (is_at_once, is_same) = match items.try_next() {
+        Ok(item) => (true, is_item::<R, A>(item, text)),
+        Err(AllocError) => (false, is_next::<R, A, I>(items, text)),
+    };
+    if is_same { Some(is_at_once) } else { None }
+}
+
+/// Whether the first item comes by `next`, and whether both do. One that is refused says so, and no
+/// item comes after that. `None` says that the items are others, or their requests.
+fn take_items<R, A, I>(heap: &Heap, items: &mut I, row: &Row<'_>, left: u64) -> Option<(bool, bool)>
 where
     R: KeyRange<Key: Word<A>>,
     A: Drop,
     I: Tries<Range = R, Item = Result<R, AllocError>>,
     requires { (it : I) → I.can_next it }
 {
-    let (first, _) = row.outcome.split_once(", ")?;
+    let (first, second) = row.outcome.split_once(", ")?;
     heap.refuse_after(left);
-    let item = items.next();
-    let is_counted = row.has_as_many(heap, left);
-    let (is_accepted, is_same) = match item? {
-        Ok(item) => (true, is_item::<R, A>(Some(item), first)),
-        Err(AllocError) => (
-            false,
-            items.next().is_none() && is_next::<R, A, I>(items, ""),
-        ),
-    };
-    if is_counted && is_same {
-        Some(is_accepted)
+    let is_first = is_taken::<R, A, I>(items, first)?;
+    let is_second = is_first && is_taken::<R, A, I>(items, second)?;
+    let is_over = items.next().is_none() && is_next::<R, A, I>(items, "");
+    if row.has_as_many(heap, left) && is_over {
+        Some((is_first, is_second))
     } else {
         None
+    }
+}
+
+/// Whether the next item comes by `next`, or is refused. `None` says that it is not the one that a
+/// text names.
+fn is_taken<R, A, I>(items: &mut I, text: &str) -> Option<bool>
+where
+    R: KeyRange<Key: Word<A>>,
+    A: Drop,
+    I: Tries<Range = R, Item = Result<R, AllocError>>,
+    requires { (it : I) → I.can_next it }
+{
+    match items.next()? {
+        Ok(item) => {
+            if is_item::<R, A>(Some(item), text) {
+                Some(true)
+            } else {
+                None
+            }
+        }
+        Err(AllocError) => Some(false),
     }
 }
 

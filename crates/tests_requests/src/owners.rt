@@ -29,20 +29,21 @@ impl<'a> Heaps<'a> {
         (self.left.held(), self.right.held(), self.given.held())
     }
 
-    // The heap of which more blocks are held than were, if it is one alone.
+    // The heap of which more blocks are held than were, if there is one, and no other beside it.
     fn grown(&self, held: Held) -> &'static str {
         let (left, right, given) = self.held();
         match (left > held.0, right > held.1, given > held.2) {
             (true, false, false) => "left",
             (false, true, false) => "right",
             (false, false, true) => "given",
-            _ => "none",
+            (false, false, false) => "none",
+            _ => "several",
         }
     }
 }
 
-/// Replays calls on the two containers that a row names, and compares which heap the one that they
-/// add lies in.
+/// Replays calls on the two containers that a row names, each of which has to be accepted, and
+/// compares which heap the one that they add lies in.
 pub fn check_added<M: InRows, C: CallOn<M>>(
     heaps: Heaps<'_>,
     allocs: Allocs<M::Alloc>,
@@ -56,8 +57,10 @@ pub fn check_added<M: InRows, C: CallOn<M>>(
     let (pairs, _, owner) = parts(row)?;
     let mut maps = both_of::<M>(allocs, pairs)?;
     let held = heaps.held();
-    drop(replay(allocs.2, &mut maps, calls)?);
-    check_that(heaps.grown(held) == owner, row)
+    let answers = replay(allocs.2, &mut maps, calls)?;
+    let are_accepted = !answers.as_slice().contains(&false);
+    drop(answers);
+    check_that(are_accepted && heaps.grown(held) == owner, row)
 }
 
 /// Makes the two containers that a row names, each in its heap.

@@ -8,7 +8,7 @@ use rangemap::map::replay;
 use rangemap_containers::replay::CallOn;
 use std::alloc::AllocError;
 use std::test::Fail;
-use tests_support::{Heap, InRows, changes_of, check_that, first_word};
+use tests_support::{Heap, InRows, changes_of, check_row, check_same, check_that, first_word};
 
 /// The lists that a replay makes before its first call.
 const LISTS: u64 = 3;
@@ -25,8 +25,9 @@ pub fn try_changes<M: InRows>(heap: &Heap, alloc: M::Alloc, row: &Row<'_>, left:
 /// Tries to replay calls from no container on, where the request that comes after `left` others is
 /// refused. The caller ends the refusal.
 ///
-/// Of the calls that add a container those that were accepted have added one each; where all were, as
-/// many are left as the row has. Where there was no room for the lists none was made.
+/// Of the calls that add a container those that were accepted have added one each; where all were, the
+/// containers hold the lists that the row has. Where there was no room for the lists of the replay none
+/// was made.
 pub fn try_replay<M: InRows, C: CallOn<M>>(
     heap: &Heap,
     alloc: M::Alloc,
@@ -42,22 +43,34 @@ pub fn try_replay<M: InRows, C: CallOn<M>>(
     let mut all: Vec<M, M::Alloc> = Vec::new(alloc);
     heap.refuse_after(left);
     match replay(alloc, &mut all, calls) {
-        Ok(answers) => check_left(answers.as_slice(), all.len(), row, left),
+        Ok(answers) => check_left(answers.as_slice(), all.as_slice(), row, left),
         Err(AllocError) => check_none(all.len()),
     }
 }
 
 /// Whether all calls were accepted. Shows that as many containers are left as accepted calls have
-/// added, and those that the row has where all were accepted.
-fn check_left(answers: &[bool], count: usize, row: &Row<'_>, left: u64) -> Answer {
+/// added, and that they hold what the row has where all were accepted.
+fn check_left<M: InRows>(answers: &[bool], all: &[M], row: &Row<'_>, left: u64) -> Answer {
     let is_accepted = !answers.contains(&false);
     check_that(left >= LISTS, "there was room without a list")?;
     check_that(
-        count == added(row.given, answers),
+        all.len() == added(row.given, answers),
         "a refused call adds a container",
     )?;
-    check_that(!is_accepted || row.outcome.parse() == Ok(count), row.given)?;
+    if is_accepted {
+        check_lists(all, row.outcome)?;
+    }
     Ok(is_accepted)
+}
+
+/// Compares containers with lists, which have a semicolon between them. It takes no memory, which is
+/// still to be refused.
+fn check_lists<M: InRows>(all: &[M], lists: &str) -> Result<(), Fail> {
+    check_same(all.len(), lists.split(';').count())?;
+    for (map, list) in all.iter().zip(lists.split(';')) {
+        check_row(map, list.trim())?;
+    }
+    Ok(())
 }
 
 /// How many of the calls of a text add a container and were accepted.

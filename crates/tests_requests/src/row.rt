@@ -17,7 +17,8 @@ pub struct Row<'t> {
     pub outcome: &'t str,
     /// The number of requests without which it is refused.
     pub requests: u64,
-    /// The number of requests that it makes behind these, and does without where one is refused.
+    /// The number of requests that it makes behind these, and does without where one is refused. Of
+    /// two items that are asked for one after the other it is that of the second.
     pub spare: u64,
 }
 

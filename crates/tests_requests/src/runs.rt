@@ -4,14 +4,15 @@ ghost use Rattle.std.specs.List.{AllByRecursion};
 ghost use Rattle.rangemap.specs.Clones.{KeysCloneFaithfully, ValuesCloneFaithfully};
 ghost use Rattle.rangemap.specs.Runs.{IsAllowed};
 
+use crate::appends::are_pairs;
 use crate::makers::two_pairs;
 use crate::row::{Answer, Row};
 use rangemap::container::Container;
 use rangemap::tree_map::{Answer as Answered, Command, Outcome, run};
 use rangemap_core::key_range::KeyRange;
-use std::alloc::{AllocError, Allocator};
+use std::alloc::AllocError;
 use std::test::Fail;
-use tests_support::{Heap, InRows, check_that};
+use tests_support::{Heap, InRows, check_row, check_that};
 
 /// Commands on a container, in its memory.
 type Commands<M> = Vec<
@@ -20,6 +21,13 @@ type Commands<M> = Vec<
         <M as Container>::Range,
         <M as Container>::Value,
     >,
+    <M as Container>::Alloc,
+>;
+
+/// What comes of a command on a container.
+type OutcomeOf<M> = Outcome<
+    <M as Container>::Range,
+    <M as Container>::Value,
     <M as Container>::Alloc,
 >;
 
@@ -42,7 +50,8 @@ fn commands<M: InRows>(
     Ok(commands)
 }
 
-/// Tries the run of these commands on an empty container.
+/// Tries the run of these commands on an empty container, of two pairs that stand apart. The row has
+/// what it holds where all are accepted.
 pub fn try_run<M: InRows>(heap: &Heap, alloc: M::Alloc, row: &Row<'_>, left: u64) -> Answer
     requires faithful_keys { KeysCloneFaithfully M.Range.Key.is_clone M.Range.Key.cmp }
     requires faithful_values { ValuesCloneFaithfully M.Value.is_clone M.Value.eq }
@@ -54,7 +63,11 @@ pub fn try_run<M: InRows>(heap: &Heap, alloc: M::Alloc, row: &Row<'_>, left: u64
     let answers = run(alloc, &mut map, commands);
     row.end_refusal(heap, left)?;
     match answers {
-        Ok(answers) => are_accepted(answers.as_slice(), row, left),
+        Ok(answers) => {
+            let pairs = kept(row, left)?;
+            check_row(&map, pairs)?;
+            are_accepted::<M>(answers.as_slice(), pairs, row, left)
+        }
         Err(AllocError) => {
             check_that(
                 (left, map.len()) == (0, 0),
@@ -65,24 +78,56 @@ pub fn try_run<M: InRows>(heap: &Heap, alloc: M::Alloc, row: &Row<'_>, left: u64
     }
 }
 
-/// Whether all commands were accepted. One is refused, if any, and those behind it are run: the list
-/// of all takes the last request, and the first insert those before it.
-fn are_accepted<R, V, A: Allocator>(
-    answers: &[Outcome<R, V, A>],
+/// Whether so many requests are granted that the first insert is accepted: the list of all takes the
+/// last request, and that insert those before it.
+fn is_inserted(row: &Row<'_>, left: u64) -> bool {
+    row.requests.saturating_sub(1) <= left
+}
+
+/// The pairs that the container holds then: both, or the second alone.
+fn kept<'t>(row: &Row<'t>, left: u64) -> Result<&'t str, Fail> {
+    let (_, second) = row.outcome.split_once(", ").ok_or("there are two pairs")?;
+    Ok(if is_inserted(row, left) {
+        row.outcome
+    } else {
+        second
+    })
+}
+
+/// Whether all commands were accepted. One is refused, if any, and those behind it are run.
+fn are_accepted<M: InRows>(
+    answers: &[OutcomeOf<M>],
+    pairs: &str,
     row: &Row<'_>,
     left: u64,
 ) -> Answer {
     let [first, second, third, last] = answers else {
         return Err(Fail::new("four commands have other answers"));
     };
-    let last_request = row.requests.saturating_sub(1);
-    let is_inserted = last_request <= left;
+    let is_inserted = is_inserted(row, left);
     let expected = if is_inserted { 2 } else { 1 };
     let is_counted = matches!(third, Ok(Answered::Len(len)) if *len == expected);
-    let accepted = (first.is_ok(), second.is_ok(), is_counted, last.is_ok());
+    let is_listed = is_listed::<M>(last, pairs)?;
+    let accepted = (first.is_ok(), second.is_ok(), is_counted, is_listed);
+    let is_last_refused = left == row.requests.saturating_sub(1);
     check_that(
-        accepted == (is_inserted, true, true, left != last_request),
+        accepted == (is_inserted, true, true, !is_last_refused),
         "a command answers otherwise",
     )?;
     Ok(accepted == (true, true, true, true))
+}
+
+/// Whether the list of all pairs was made. One that was has the pairs.
+fn is_listed<M: InRows>(answer: &OutcomeOf<M>, pairs: &str) -> Answer {
+    match answer {
+        Ok(Answered::Pairs(found)) => {
+            check_that(
+                are_pairs::<M>(found.as_slice(), pairs, ", "),
+                "the list of all pairs differs",
+            )?;
+            Ok(true)
+        }
+        Ok(_) => Err(Fail::new("a list of pairs is answered otherwise")),
+        Err(AllocError) => Ok(false),
+    }
 }

@@ -4,6 +4,7 @@ ghost use Rattle.rangemap.specs.Clones.{KeysCloneFaithfully, ValuesCloneFaithful
 use crate::answers::has_gaps;
 use rangemap_core::key_range::KeyRange;
 use rangemap_laws::laws;
+use rangemap_laws::laws::overlaps::overlaps_exactly_where_covered;
 use std::test::Fail;
 use tests_support::{InRows, first_word, holds, is_range, pair_of, query_of, range_of, take_item};
 
@@ -23,6 +24,7 @@ pub(crate) fn keeps_law<M: InRows>(
         "insert" => keeps_insert(alloc, one, operand, outcome),
         "remove" => keeps_remove(alloc, one, operand, outcome),
         "parted" => is_parted(alloc, &one, operand, outcome),
+        "covered" => is_covered(alloc, &one, operand, outcome),
         "commute" => commute(alloc, one, other, operand, outcome),
         "alike" | "twice" | "back" => are_alike(alloc, one, other, law, outcome),
         _ => Err(Fail::new(format_args!("no law is called {name}"))),
@@ -74,6 +76,17 @@ fn is_parted<M: InRows>(
     let outer_range = query_of(alloc, outer_range)?;
     let found = laws::gaps_and_covered_keys_make_up_a_range(alloc, map, &outer_range)?;
     Ok(are_ranges::<M>(found.as_slice(), gaps) && has_gaps(map, &outer_range, gaps)?)
+}
+
+/// Whether some key of a range is covered is what `overlaps` answers.
+fn is_covered<M: InRows>(
+    alloc: M::Alloc,
+    map: &M,
+    range: &str,
+    answer: &str,
+) -> Result<bool, Fail> {
+    let range = range_of::<M::Kind, M::Range, M::Alloc>(alloc, range)?;
+    Ok(answer.parse() == Ok(overlaps_exactly_where_covered(map, &range)))
 }
 
 /// Whether ranges are those of a list.

@@ -6,11 +6,13 @@
 #![tactic(auto)]
 
 mod answers;
+mod iterated;
 mod iterators;
 mod laws;
 mod replays;
 mod tables;
 
+pub use iterated::iterated_to_its_end;
 pub use iterators::{check_both_ends, check_counted_back, check_three, check_tries};
-pub use replays::check_replay;
+pub use replays::{ReplayName, check_replay};
 pub use tables::check_rows;

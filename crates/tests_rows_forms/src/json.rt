@@ -33,6 +33,8 @@ pub enum Fault {
     Unwritable,
     /// It is the key that is never written.
     UnwritableKey,
+    /// It is the other key that is never written.
+    OtherUnwritableKey,
     /// There was no memory for it.
     NoMemory,
 }
@@ -54,12 +56,13 @@ fn write_number(key: &u32) -> Result<Value, Fault>
     Ok(Value::from(*key))
 }
 
-/// Writes a key, unless it is 13.
+/// Writes a key, unless it is 13 or 15.
 fn write_key(key: &u32) -> Result<Value, Fault> {
-    if *key == 13 {
-        return Err(Fault::UnwritableKey);
+    match *key {
+        13 => Err(Fault::UnwritableKey),
+        15 => Err(Fault::OtherUnwritableKey),
+        _ => write_number(key),
     }
-    write_number(key)
 }
 
 /// Reads a key.

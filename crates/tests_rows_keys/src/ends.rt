@@ -138,6 +138,11 @@ fn signed_integers_go_to_their_ends(rt: HostRuntime) -> Result<(), Fail> {
 }
 
 #[test]
+fn characters_go_to_their_ends(rt: HostRuntime) -> Result<(), Fail> {
+    goes_to_its_ends(rt.alloc(), ['\u{0}', '\u{1}', '\u{10FFFE}', '\u{10FFFF}'])
+}
+
+#[test]
 fn a_reversed_order_goes_to_its_ends(rt: HostRuntime) -> Result<(), Fail> {
     goes_to_its_ends(rt.alloc(), [Down(255), Down(254), Down(1), Down(0)])
 }

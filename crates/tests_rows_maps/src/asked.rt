@@ -11,7 +11,7 @@ use std::fmt::Debug;
 use std::iter::ExactSizeIterator;
 use std::test::Fail;
 use tests_row_checks::{
-    check_both_ends, check_counted_back, check_replay, check_rows, check_three,
+    ReplayName, check_both_ends, check_counted_back, check_replay, check_rows, check_three,
 };
 use tests_support::{
     FromEnds, InRows, Word, changes_of, check_same, check_text, lists, map_of, parts, query_of,
@@ -23,8 +23,8 @@ use tests_support::{
 pub enum Rows<'t> {
     /// What each row of a table says is answered.
     Table(&'t str),
-    /// A replay of changes: which of them are accepted, and what each map holds then.
-    Changes(&'t str),
+    /// A replay of changes by this name: which of them are accepted, and what each map holds then.
+    Changes(ReplayName, &'t str),
 }
 
 /// Compares what containers answer.
@@ -34,10 +34,10 @@ pub fn check_answers<M: InRows<Alloc = Global>>(alloc: Global, asked: &Rows<'_>)
 {
     match asked {
         Rows::Table(table) => check_rows::<M>(alloc, *table),
-        Rows::Changes(row) => {
+        Rows::Changes(name, row) => {
             let (calls, accepted, lists) = parts(*row)?;
             let changes = changes_of::<M::Kind, M::Range, M::Value, Global>(alloc, calls)?;
-            check_replay::<M, _>(alloc, changes, accepted, lists)
+            check_replay::<M, _>(*name, alloc, changes, accepted, lists)
         }
     }
 }

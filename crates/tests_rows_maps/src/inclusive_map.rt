@@ -32,6 +32,7 @@ fn ranges_with_no_key_between_are_joined(rt: HostRuntime) -> Result<(), Fail> {
         new | at 5 |
         new | holds |
         new | gaps 0..=3 | 0..=3
+        insert 0..=100 a, insert 200..=300 b, insert 400..=500 a | gaps 0..=500 | 101..=199, 301..=399
         insert 0..=9 a, insert 3..=5 b | at 2 | 0..=2 a
         insert 0..=9 a, insert 3..=5 b | at 5 | 3..=5 b
         insert 0..=9 a, insert 3..=5 b | at 6 | 6..=9 a
@@ -115,6 +116,9 @@ fn changes_and_gaps_keep_their_laws(rt: HostRuntime) -> Result<(), Fail> {
         insert 0..=9 a | law back 3..=5 b | 0..=2 a, 6..=9 a
         insert 0..=9 a | law commute 2..=3 b + 4..=11 b | 0..=1 a, 2..=11 b
         insert 1..=2 a, insert 5..=6 b | law parted 0..=7 | 0..=0, 3..=4, 7..=7
+        insert 3..=8 a | law covered 8..=9 | true
+        insert 3..=8 a | law covered 9..=9 | false
+        insert 3..=8 a | law covered 0..=2 | false
         ",
     )
 }

@@ -15,6 +15,7 @@ use std::fmt::Debug;
 use std::iter::ExactSizeIterator;
 use std::ops::{Range, RangeInclusive};
 use std::test::Fail;
+use tests_row_checks::iterated_to_its_end;
 use tests_support::{FromEnds, Word, check_same, check_text, map_of};
 
 /// Compares the three pairs of a map in a sorted vector: as it lends them, and as it hands them over.
@@ -143,6 +144,21 @@ fn iterators_of_maps_stay_ended(rt: HostRuntime) -> Result<(), Fail> {
 fn gaps_of_closed_maps_stay_ended(rt: HostRuntime) -> Result<(), Fail> {
     let gap = Lent::In(0..=3, In::OneGap);
     lent_by_vector::<Closed<u32>, RangeInclusive<u32>>(rt.alloc(), "", gap, "0..=3")
+}
+
+// Only the two ends of a query are read, which are both 4 then.
+#[test]
+fn closed_maps_are_asked_by_a_range_that_was_iterated(rt: HostRuntime) -> Result<(), Fail> {
+    let pairs = "0..=3 a, 4..=4 b, 5..=9 c";
+    let pair = "(4..=4, 'b')";
+    let one = Lent::In(iterated_to_its_end()?, In::One);
+    lent_by_vector::<Closed<u8>, RangeInclusive<u8>>(rt.alloc(), pairs, one, pair)?;
+    let one = Lent::In(iterated_to_its_end()?, In::One);
+    lent_by_chunks::<Closed<u8>, RangeInclusive<u8>>(rt.alloc(), pairs, one, pair)?;
+    let gap = Lent::In(iterated_to_its_end()?, In::OneGap);
+    lent_by_vector::<Closed<u8>, RangeInclusive<u8>>(rt.alloc(), "", gap, "4..=4")?;
+    let gap = Lent::In(iterated_to_its_end()?, In::OneGap);
+    lent_by_chunks::<Closed<u8>, RangeInclusive<u8>>(rt.alloc(), "", gap, "4..=4")
 }
 
 // The first of three pairs, or the last, may stand in a chunk of its own; beside them stand others.

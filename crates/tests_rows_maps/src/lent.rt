@@ -11,7 +11,7 @@ use std::alloc::Global;
 use std::fmt::Debug;
 use std::test::Fail;
 use tests_row_checks::{check_both_ends, check_three, check_tries};
-use tests_support::three_lists;
+use tests_support::{check_that, three_lists};
 
 /// What a test asks of a map that lends its pairs.
 #[derive(Drop)]
@@ -75,6 +75,7 @@ where
     match asked {
         In::Three => check_three_pairs(alloc, map.overlapping(range), answer, false),
         In::One => {
+            check_that(map.overlaps(range), "a range overlaps no pair")?;
             let (front, back) = (map.overlapping(range), map.overlapping(range));
             check_both_ends(alloc, front, back, answer)
         }

@@ -114,6 +114,9 @@ fn changes_and_gaps_keep_their_laws(rt: HostRuntime) -> Result<(), Fail> {
         insert 0..10 a | law back 3..6 b | 0..3 a, 6..10 a
         insert 0..10 a | law commute 2..4 b + 4..12 b | 0..2 a, 2..12 b
         insert 1..3 a, insert 5..7 b | law parted 0..8 | 0..1, 3..5, 7..8
+        insert 3..8 a | law covered 7..9 | true
+        insert 3..8 a | law covered 8..9 | false
+        insert 3..8 a | law covered 0..3 | false
         ",
     )
 }

@@ -11,7 +11,7 @@ use std::fmt::Debug;
 use std::iter::ExactSizeIterator;
 use std::test::Fail;
 use tests_row_checks::{
-    check_both_ends, check_counted_back, check_replay, check_rows, check_three,
+    ReplayName, check_both_ends, check_counted_back, check_replay, check_rows, check_three,
 };
 use tests_support::{
     FromEnds, InRows, Word, changes_of, check_row, check_same, parts, set_of, three_lists,
@@ -23,8 +23,8 @@ use tests_support::{
 pub enum Asked<'t> {
     /// What each row of a table says is answered.
     Rows(&'t str),
-    /// A replay of changes: which of them are accepted, and what each set holds then.
-    Changes(&'t str),
+    /// A replay of changes by this name: which of them are accepted, and what each set holds then.
+    Changes(ReplayName, &'t str),
     /// The three ranges of a list are handed over, in order. Their texts have semicolons between them.
     HandedOver(&'t str, &'t str),
     /// The one range that this text has is handed over, and none behind it at either end.
@@ -51,7 +51,7 @@ where
 {
     match asked {
         Asked::Rows(table) => check_rows::<Set<S>>(alloc, *table),
-        Asked::Changes(row) => check_changes::<S>(alloc, *row),
+        Asked::Changes(name, row) => check_changes::<S>(*name, alloc, *row),
         Asked::HandedOver(ranges, texts) => check_handed_over::<S>(alloc, *ranges, *texts),
         Asked::OneHandedOver(range) => {
             let set = set_of::<S>(alloc, *range)?;
@@ -69,6 +69,7 @@ where
 
 /// Compares a replay of changes.
 fn check_changes<S: HandsOver<Range: FromEnds, Value = (), Alloc = Global> + StoreMut + Drop>(
+    name: ReplayName,
     alloc: Global,
     row: &str,
 ) -> Result<(), Fail>
@@ -79,7 +80,7 @@ where
 {
     let (calls, accepted, lists) = parts(row)?;
     let changes = changes_of::<S::Kind, S::Range, (), Global>(alloc, calls)?;
-    check_replay::<Set<S>, _>(alloc, changes, accepted, lists)
+    check_replay::<Set<S>, _>(name, alloc, changes, accepted, lists)
 }
 
 /// Compares the three ranges that a set hands over, and its clone.

@@ -46,6 +46,7 @@ fn what_is_asked_is_answered(rt: HostRuntime) -> Result<(), Fail> {
         insert 0..=100, insert 200..=300 | at 301 |
         insert 0..=100, clear | at 5 |
         insert 0..=100, clear | holds |
+        insert 0..=100, insert 200..=300, insert 400..=500 | gaps 0..=500 | 101..=199, 301..=399
         new | gaps 0..=3 | 0..=3
 
         insert 3..=8 | overlapping 6..=4 | 3..=8
@@ -90,6 +91,9 @@ fn changes_and_gaps_keep_their_laws(rt: HostRuntime) -> Result<(), Fail> {
         insert 0..=9 | law back 3..=5 | 0..=2, 6..=9
         insert 0..=2, insert 6..=8 | law commute 2..=3 + 4..=6 | 0..=8
         insert 1..=2, insert 5..=6 | law parted 0..=7 | 0..=0, 3..=4, 7..=7
+        insert 3..=8 | law covered 8..=9 | true
+        insert 3..=8 | law covered 9..=9 | false
+        insert 3..=8 | law covered 0..=2 | false
         ",
     )
 }

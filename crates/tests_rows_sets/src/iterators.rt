@@ -12,6 +12,7 @@ use std::alloc::Global;
 use std::iter::ExactSizeIterator;
 use std::ops::{Range, RangeInclusive};
 use std::test::Fail;
+use tests_row_checks::iterated_to_its_end;
 use tests_support::{check_same, check_text, set_of};
 
 #[test]
@@ -56,6 +57,12 @@ fn a_loop_goes_over_a_set_in_chunks(rt: HostRuntime) -> Result<(), Fail> {
 #[test]
 fn overlapping_ranges_come_from_both_ends(rt: HostRuntime) -> Result<(), Fail> {
     lent_by_vector::<HalfOpen, Range<u32>>(
+        rt.alloc(),
+        ("0..2, 3..4, 5..6, 8..9", ""),
+        Lent::In(1..8, In::Three),
+        "0..2; 3..4; 5..6",
+    )?;
+    lent_by_tree(
         rt.alloc(),
         ("0..2, 3..4, 5..6, 8..9", ""),
         Lent::In(1..8, In::Three),
@@ -138,6 +145,20 @@ fn items_of_two_sets_stay_ended(rt: HostRuntime) -> Result<(), Fail> {
         Lent::All(All::OfBoth(OfBoth::OneItem)),
         "0..=9; 4..=4",
     )
+}
+
+// Only the two ends of a query are read, which are both 4 then.
+#[test]
+fn closed_sets_are_asked_by_a_range_that_was_iterated(rt: HostRuntime) -> Result<(), Fail> {
+    let lists = ("0..=2, 4..=4, 6..=9", "");
+    let one = Lent::In(iterated_to_its_end()?, In::One);
+    lent_by_vector::<Closed<u8>, RangeInclusive<u8>>(rt.alloc(), lists, one, "4..=4")?;
+    let one = Lent::In(iterated_to_its_end()?, In::One);
+    lent_by_chunks::<Closed<u8>, RangeInclusive<u8>>(rt.alloc(), lists, one, "4..=4")?;
+    let gap = Lent::In(iterated_to_its_end()?, In::OneGap);
+    lent_by_vector::<Closed<u8>, RangeInclusive<u8>>(rt.alloc(), ("", ""), gap, "4..=4")?;
+    let gap = Lent::In(iterated_to_its_end()?, In::OneGap);
+    lent_by_chunks::<Closed<u8>, RangeInclusive<u8>>(rt.alloc(), ("", ""), gap, "4..=4")
 }
 
 // The first of three ranges, or the last, may stand in a chunk of its own; beside them stand others.

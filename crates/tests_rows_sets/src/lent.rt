@@ -14,7 +14,7 @@ use std::fmt::{Debug, Write};
 use std::iter::{DoubleEndedIterator, Iterator};
 use std::test::Fail;
 use tests_row_checks::{check_both_ends, check_three, check_tries};
-use tests_support::{check_same, check_text, three_lists, two_lists};
+use tests_support::{check_same, check_text, check_that, three_lists, two_lists};
 
 /// What a test asks of a set that lends its ranges, or of two.
 #[derive(Drop)]
@@ -97,6 +97,7 @@ where
     match asked {
         In::Three => check_three_ranges(alloc, set.overlapping(range), answer, false),
         In::One => {
+            check_that(set.overlaps(range), "a range overlaps no range")?;
             let (front, back) = (set.overlapping(range), set.overlapping(range));
             check_both_ends(alloc, front, back, answer)
         }

@@ -74,6 +74,9 @@ fn changes_and_gaps_keep_their_laws(rt: HostRuntime) -> Result<(), Fail> {
         insert 0..10 | law back 3..6 | 0..3, 6..10
         insert 0..3, insert 6..9 | law commute 2..4 + 4..7 | 0..9
         insert 1..3, insert 5..7 | law parted 0..8 | 0..1, 3..5, 7..8
+        insert 3..8 | law covered 7..9 | true
+        insert 3..8 | law covered 8..9 | false
+        insert 3..8 | law covered 0..3 | false
         ",
     )
 }

@@ -18,7 +18,7 @@ use std::alloc::Global;
 use std::fmt::Debug;
 use std::ops::{Range, RangeInclusive};
 use std::test::Fail;
-use tests_row_checks::check_replay;
+use tests_row_checks::{ReplayName, check_replay};
 use tests_support::{ChunkedSet, FromEnds, Word, parts, set_calls_of, set_of};
 
 /// Asks two sets in a sorted vector, made of two lists, what they lend.
@@ -119,12 +119,13 @@ fn ask_half_open(alloc: Global, asked: &Asked<'_>) -> Result<(), Fail> {
 /// Asks sets of closed ranges, in a sorted vector and in chunks.
 fn ask_closed<T: StepLite + Clone + Debug + Word<Global>>(
     alloc: Global,
-    asked: &Asked<'_>,
+    in_vector: &Asked<'_>,
+    in_chunks: &Asked<'_>,
 ) -> Result<(), Fail>
     requires { KeysCloneFaithfully T.is_clone T.cmp }
 {
-    ask_vector::<Closed<T>, RangeInclusive<T>>(alloc, asked)?;
-    ask_chunks::<Closed<T>, RangeInclusive<T>>(alloc, asked)
+    ask_vector::<Closed<T>, RangeInclusive<T>>(alloc, in_vector)?;
+    ask_chunks::<Closed<T>, RangeInclusive<T>>(alloc, in_chunks)
 }
 
 /// Compares a table for sets of half-open ranges.
@@ -139,7 +140,8 @@ pub fn check_closed<T: StepLite + Clone + Debug + Word<Global>>(
 ) -> Result<(), Fail>
     requires { KeysCloneFaithfully T.is_clone T.cmp }
 {
-    ask_closed::<T>(alloc, &Asked::Rows(table))
+    let table = Asked::Rows(table);
+    ask_closed::<T>(alloc, &table, &table)
 }
 
 // The sets of replays are named once more: over any store the checker refuses the list of calls.
@@ -152,16 +154,22 @@ fn check_calls_in_chunks<Q: Kind<R, Steps = R::Key>, R: FromEnds<Key = u32>>(
 ) -> Result<(), Fail> {
     let (calls, accepted, lists) = parts(row)?;
     let calls = set_calls_of::<Q, R, Global>(alloc, calls)?;
-    check_replay::<ChunkedSet<Q, R, Global, 2>, _>(alloc, calls, accepted, lists)
+    check_replay::<ChunkedSet<Q, R, Global, 2>, _>(
+        ReplayName::Chunked,
+        alloc,
+        calls,
+        accepted,
+        lists,
+    )
 }
 
 /// Compares a replay on sets of half-open ranges, in a sorted vector, in a tree and in chunks.
 pub fn check_half_open_replay(alloc: Global, row: &str) -> Result<(), Fail> {
     let (text, accepted, lists) = parts(row)?;
     let calls = set_calls_of::<HalfOpen, Range<u32>, Global>(alloc, text)?;
-    check_replay::<RangeSet<u32>, _>(alloc, calls, accepted, lists)?;
+    check_replay::<RangeSet<u32>, _>(ReplayName::Set, alloc, calls, accepted, lists)?;
     let calls = set_calls_of::<HalfOpen, Range<u32>, Global>(alloc, text)?;
-    check_replay::<tree_set::RangeSet<u32>, _>(alloc, calls, accepted, lists)?;
+    check_replay::<tree_set::RangeSet<u32>, _>(ReplayName::TreeSet, alloc, calls, accepted, lists)?;
     check_calls_in_chunks::<HalfOpen, Range<u32>>(alloc, row)
 }
 
@@ -169,11 +177,19 @@ pub fn check_half_open_replay(alloc: Global, row: &str) -> Result<(), Fail> {
 pub fn check_closed_replay(alloc: Global, row: &str) -> Result<(), Fail> {
     let (calls, accepted, lists) = parts(row)?;
     let calls = set_calls_of::<Closed<u32>, RangeInclusive<u32>, Global>(alloc, calls)?;
-    check_replay::<RangeInclusiveSet<u32>, _>(alloc, calls, accepted, lists)?;
+    check_replay::<RangeInclusiveSet<u32>, _>(
+        ReplayName::InclusiveSet,
+        alloc,
+        calls,
+        accepted,
+        lists,
+    )?;
     check_calls_in_chunks::<Closed<u32>, RangeInclusive<u32>>(alloc, row)
 }
 
 /// Compares a replay of changes by the steps of bytes.
 pub fn check_bytes_changes(alloc: Global, row: &str) -> Result<(), Fail> {
-    ask_closed::<u8>(alloc, &Asked::Changes(row))
+    let in_vector = Asked::Changes(ReplayName::InclusiveSetWithStepFns, row);
+    let in_chunks = Asked::Changes(ReplayName::ChunkedWithStepFns, row);
+    ask_closed::<u8>(alloc, &in_vector, &in_chunks)
 }

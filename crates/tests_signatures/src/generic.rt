@@ -38,13 +38,10 @@ pub use rangemap::laws::iterators::{
     next_stays_ended, try_next_ends_tries,
 };
 pub use rangemap::laws::overlaps::overlaps_exactly_where_covered;
-pub use rangemap::laws::round_trips::{
-    for_memory, from_iter_of_into_iter_is_equal, reading_what_was_written_is_equal,
-};
+pub use rangemap::laws::round_trips::{Functions, from_iter_of_into_iter_is_equal};
 pub use rangemap::laws::runs::accepted_runs_answer_alike;
 pub use rangemap::laws::set_round_trips::{
-    from_iter_of_into_iter_is_equal as from_iter_of_a_set_is_equal,
-    reading_what_was_written_is_equal as reading_a_written_set_is_equal,
+    Functions as FunctionsOfSets, from_iter_of_into_iter_is_equal as from_iter_of_a_set_is_equal,
 };
 pub use rangemap::laws::sets::{
     Operator, Sides, absorbs, associates, closed_operations, commutes, distributes, is_idempotent,

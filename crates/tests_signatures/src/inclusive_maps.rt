@@ -1,16 +1,19 @@
-//! The calls of `inclusive_map::RangeInclusiveMap`, by their signatures, but those that `maps` names
-//! and that have nothing to do with the steps of keys: both maps are one struct.
+//! The calls of `inclusive_map::RangeInclusiveMap`, by their signatures.
 ghost use Rattle.std.specs.Prelude.{◌≡◌, IsTrue, false};
 ghost use Rattle.std.specs.Iterator.{IsFiniteIterable};
 ghost use Rattle.std.specs.Ordering.{is_le};
 ghost use Rattle.std.specs.Range.{range_inclusive_start, range_inclusive_end, range_inclusive_exhausted};
 ghost use Rattle.rangemap.specs.Clones.{KeysCloneFaithfully, ValuesCloneFaithfully};
 ghost use Rattle.rangemap.specs.NonEmptyPairs.{GivesNonEmpty};
-ghost use Rattle.rangemap.specs.Ranges.{closed};
+ghost use Rattle.rangemap.specs.Ranges.{AreNonEmpty, closed};
 
+use crate::root;
 use rangemap::inclusive_map::{Gaps, IntoIter, Iter, Overlapping, RangeInclusiveMap};
-use rangemap::{StepFns, StepLite};
-use std::alloc::{AllocError, Allocator};
+use rangemap::{Form, ReadError, StepFns, StepLite, WriteError};
+use serde_json::Value;
+use std::alloc::{AllocError, Allocator, Global};
+use std::fmt::Debug;
+use std::hash::{DefaultHasher, Hash, Hasher};
 use std::iter::IntoIterator;
 use std::ops::RangeInclusive;
 
@@ -32,6 +35,19 @@ pub fn ask<'a, K: Ord + Clone, V: Eq + Clone, S: StepFns<K>, A: Allocator>(
     let _: Gaps<'a, K, V, S> = map.gaps(range);
     let _: &'a A = map.allocator();
     map.known();
+}
+
+pub fn from<K: StepLite + Clone, V: Eq + Clone, A: Allocator + Clone, const N: usize>(
+    alloc: A,
+    value: [(RangeInclusive<K>, V); N],
+) -> Result<(RangeInclusiveMap<K, V, K, A>, RangeInclusiveMap<K, V, K, A>), AllocError>
+    requires non_empty { AreNonEmpty (closed K.StepLite.is_key K.cmp) value }
+    requires faithful_keys { KeysCloneFaithfully K.is_clone K.cmp }
+    requires faithful_values { ValuesCloneFaithfully V.is_clone V.eq }
+{
+    let map = RangeInclusiveMap::from(alloc, value)?;
+    let copy = map.clone()?;
+    Ok((map, copy))
 }
 
 pub fn empty<K: StepLite + Clone, V: Eq + Clone, A: Allocator>(
@@ -93,4 +109,77 @@ pub fn hand_over<K: StepLite + Clone, V: Eq + Clone, A: Allocator>(
     map: RangeInclusiveMap<K, V, K, A>,
 ) -> IntoIter<K, V, A> {
     map.into_iter()
+}
+
+pub fn compare_and_print<
+    K: StepLite + Clone + Hash + Debug,
+    V: Ord + Clone + Hash + Debug,
+    A: Allocator,
+    H: Hasher,
+>(
+    alloc: Global,
+    left: &RangeInclusiveMap<K, V, K, A>,
+    right: &RangeInclusiveMap<K, V, K, A>,
+    state: &mut H,
+) -> Result<(bool, String), AllocError> {
+    root::compare_and_print(alloc, left, right, state)
+}
+
+pub fn write_and_read<
+    K: StepLite + Clone,
+    V: Eq + Clone,
+    A: Allocator,
+    E,
+    WK: Fn(&K) -> Result<Value, E>,
+    WV: Fn(&V) -> Result<Value, E>,
+    RK: Fn(&Value) -> Result<K, E>,
+    RV: Fn(&Value) -> Result<V, E>,
+>(
+    map: &RangeInclusiveMap<K, V, K, A>,
+    alloc: Global,
+    write: (WK, WV),
+    other: A,
+    form: Form,
+    value: &Value,
+    read: (RK, RV),
+) -> (
+    Result<Value, WriteError<E>>,
+    Result<RangeInclusiveMap<K, V, K, A>, ReadError<E>>,
+)
+    requires write_keys { WK.IsAlwaysCallable write.0 }
+    requires write_values { WV.IsAlwaysCallable write.1 }
+    requires read_keys { RK.IsAlwaysCallable read.0 }
+    requires read_values { RV.IsAlwaysCallable read.1 }
+    requires faithful_keys { KeysCloneFaithfully K.is_clone K.cmp }
+    requires faithful_values { ValuesCloneFaithfully V.is_clone V.eq }
+{
+    let written = map.to_value(alloc, write.0, write.1);
+    (
+        written,
+        RangeInclusiveMap::from_value(other, form, value, read.0, read.1),
+    )
+}
+
+/// Makes every call at one type of keys, but those that make an empty map.
+pub fn every<K: StepLite + Clone + Hash + Debug, const N: usize>(
+    alloc: Global,
+    map: &mut RangeInclusiveMap<K, u8>,
+    listed: [(RangeInclusive<K>, u8); N],
+    given: RangeInclusive<K>,
+    taken: RangeInclusive<K>,
+) -> Result<(), AllocError>
+    requires listed_non_empty { AreNonEmpty (closed K.StepLite.is_key K.cmp) listed }
+    requires given_non_empty { (closed K.StepLite.is_key K.cmp).IsNonEmpty given }
+    requires taken_non_empty { (closed K.StepLite.is_key K.cmp).IsNonEmpty taken }
+    requires faithful_keys { KeysCloneFaithfully K.is_clone K.cmp }
+{
+    ask(map, given.start(), &given);
+    let _: (bool, String) = compare_and_print(alloc, map, map, &mut DefaultHasher::new())?;
+    let write = (root::write_nothing::<K>, root::write_nothing::<u8>);
+    let read = (|_: &Value| Err(()), |_: &Value| Err(()));
+    let _ = write_and_read(map, alloc, write, alloc, Form::Any, &Value::Null, read);
+    let (made, copy) = from(alloc, listed)?;
+    let collected = collect(alloc, made, map, copy)?;
+    let _: IntoIter<K, u8> = hand_over(collected);
+    change(map, given, 1, taken)
 }

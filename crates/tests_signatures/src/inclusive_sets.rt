@@ -1,18 +1,21 @@
-//! The calls of `inclusive_set::RangeInclusiveSet`, by their signatures, but those that `sets` names
-//! and that have nothing to do with the steps of keys: both sets are one struct.
+//! The calls of `inclusive_set::RangeInclusiveSet`, by their signatures.
 ghost use Rattle.std.specs.Prelude.{◌≡◌, IsTrue, false};
 ghost use Rattle.std.specs.Iterator.{IsFiniteIterable};
 ghost use Rattle.std.specs.Ordering.{is_le};
 ghost use Rattle.std.specs.Range.{range_inclusive_start, range_inclusive_end, range_inclusive_exhausted};
 ghost use Rattle.rangemap.specs.Clones.{KeysCloneFaithfully};
 ghost use Rattle.rangemap.specs.Ranges.{closed};
-ghost use Rattle.rangemap.specs.Sets.{GivesNonEmptyRanges};
+ghost use Rattle.rangemap.specs.Sets.{AreNonEmptyRanges, GivesNonEmptyRanges};
 
+use crate::root;
 use rangemap::inclusive_set::{
     Gaps, Intersection, IntoIter, Iter, Overlapping, RangeInclusiveSet, Union,
 };
-use rangemap::{StepFns, StepLite};
-use std::alloc::{AllocError, Allocator};
+use rangemap::{Form, ReadError, StepFns, StepLite, WriteError};
+use serde_json::Value;
+use std::alloc::{AllocError, Allocator, Global};
+use std::fmt::Debug;
+use std::hash::{Hash, Hasher};
 use std::iter::IntoIterator;
 use std::ops::RangeInclusive;
 
@@ -38,6 +41,20 @@ pub fn ask<'a, T: Ord + Clone, S: StepFns<T>, A: Allocator>(
     let _: Intersection<'a, T> = set.intersection(other);
     let _: Union<'a, T> = Union::new(set.iter(), other.iter());
     let _: Intersection<'a, T> = Intersection::new(set.iter(), other.iter());
+}
+
+pub fn from<T: StepLite + Clone, A: Allocator + Clone, const N: usize>(
+    alloc: A,
+    value: [RangeInclusive<T>; N],
+    other: &RangeInclusiveSet<T, T, A>,
+) -> Result<[RangeInclusiveSet<T, T, A>; 3], AllocError>
+    requires non_empty { AreNonEmptyRanges (closed T.StepLite.is_key T.cmp) value }
+    requires faithful_keys { KeysCloneFaithfully T.is_clone T.cmp }
+{
+    let set = RangeInclusiveSet::from(alloc, value)?;
+    let either = (&set | other)?;
+    let both = (&set & other)?;
+    Ok([set.clone()?, either, both])
 }
 
 pub fn empty<T: StepLite + Clone, A: Allocator>(alloc: A) -> RangeInclusiveSet<T, T, A> {
@@ -89,4 +106,42 @@ pub fn hand_over<T: StepLite + Clone, A: Allocator>(
     set: RangeInclusiveSet<T, T, A>,
 ) -> IntoIter<T, A> {
     set.into_iter()
+}
+
+pub fn compare_and_print<T: StepLite + Clone + Hash + Debug, A: Allocator, H: Hasher>(
+    alloc: Global,
+    left: &RangeInclusiveSet<T, T, A>,
+    right: &RangeInclusiveSet<T, T, A>,
+    state: &mut H,
+) -> Result<(bool, String), AllocError> {
+    root::compare_and_print(alloc, left, right, state)
+}
+
+pub fn write_and_read<
+    T: StepLite + Clone,
+    A: Allocator,
+    E,
+    WK: Fn(&T) -> Result<Value, E>,
+    RK: Fn(&Value) -> Result<T, E>,
+>(
+    set: &RangeInclusiveSet<T, T, A>,
+    alloc: Global,
+    write_key: WK,
+    other: A,
+    form: Form,
+    value: &Value,
+    read_key: RK,
+) -> (
+    Result<Value, WriteError<E>>,
+    Result<RangeInclusiveSet<T, T, A>, ReadError<E>>,
+)
+    requires write_keys { WK.IsAlwaysCallable write_key }
+    requires read_keys { RK.IsAlwaysCallable read_key }
+    requires faithful_keys { KeysCloneFaithfully T.is_clone T.cmp }
+{
+    let written = set.to_value(alloc, write_key);
+    (
+        written,
+        RangeInclusiveSet::from_value(other, form, value, read_key),
+    )
 }

@@ -1,33 +1,15 @@
-//! Each container at each type of keys, by functions over any keys. Texts have no steps, so no closed
-//! container has them as keys.
+//! Each container at each type of keys, by functions over any keys: of the two maps in a sorted
+//! vector every call but those that make an empty one, by one function that makes them all; of the
+//! others what asks them and what changes them. Texts have no steps, so no closed container has them
+//! as keys.
 
 use crate::{inclusive_maps, inclusive_sets, maps, sets, tree_sets, trees};
 use rangemap::{RangeInclusiveMap, RangeInclusiveSet, RangeMap, RangeSet, tree_map, tree_set};
-use std::alloc::AllocError;
+use std::alloc::{AllocError, Global};
 use std::ops::{Range, RangeInclusive};
 
-/// A container, a key, and a range.
-type AskedMap<'a, K> = (&'a RangeMap<K, u8>, &'a K, &'a Range<K>);
-
-pub fn ask_maps(
-    u32s: AskedMap<'_, u32>,
-    u64s: AskedMap<'_, u64>,
-    usizes: AskedMap<'_, usize>,
-    i64s: AskedMap<'_, i64>,
-    u128s: AskedMap<'_, u128>,
-    chars: AskedMap<'_, char>,
-    texts: AskedMap<'_, String>,
-) {
-    maps::ask(u32s.0, u32s.1, u32s.2);
-    maps::ask(u64s.0, u64s.1, u64s.2);
-    maps::ask(usizes.0, usizes.1, usizes.2);
-    maps::ask(i64s.0, i64s.1, i64s.2);
-    maps::ask(u128s.0, u128s.1, u128s.2);
-    maps::ask(chars.0, chars.1, chars.2);
-    maps::ask(texts.0, texts.1, texts.2);
-}
-
-pub fn change_maps(
+pub fn call_maps(
+    alloc: Global,
     u32s: &mut RangeMap<u32, u8>,
     u64s: &mut RangeMap<u64, u8>,
     usizes: &mut RangeMap<usize, u8>,
@@ -35,34 +17,29 @@ pub fn change_maps(
     u128s: &mut RangeMap<u128, u8>,
     chars: &mut RangeMap<char, u8>,
 ) -> Result<(), AllocError> {
-    maps::change(u32s, 0..5, 1, 2..3)?;
-    maps::change(u64s, 0..5, 1, 2..3)?;
-    maps::change(usizes, 0..5, 1, 2..3)?;
-    maps::change(i64s, -5..5, 1, -2..2)?;
-    maps::change(u128s, 0..5, 1, 2..3)?;
-    maps::change(chars, 'a'..'f', 1, 'c'..'d')
+    maps::every(alloc, u32s, [(0..5, 1)], 1..4, 2..3)?;
+    maps::every(alloc, u64s, [(0..5, 1)], 1..4, 2..3)?;
+    maps::every(alloc, usizes, [(0..5, 1)], 1..4, 2..3)?;
+    maps::every(alloc, i64s, [(-5..5, 1)], -4..4, -2..2)?;
+    maps::every(alloc, u128s, [(0..5, 1)], 1..4, 2..3)?;
+    maps::every(alloc, chars, [('a'..'f', 1)], 'b'..'e', 'c'..'d')
 }
 
-/// A container, a key, and a range.
-type AskedClosedMap<'a, K> = (&'a RangeInclusiveMap<K, u8>, &'a K, &'a RangeInclusive<K>);
-
-pub fn ask_closed_maps(
-    u32s: AskedClosedMap<'_, u32>,
-    u64s: AskedClosedMap<'_, u64>,
-    usizes: AskedClosedMap<'_, usize>,
-    i64s: AskedClosedMap<'_, i64>,
-    u128s: AskedClosedMap<'_, u128>,
-    chars: AskedClosedMap<'_, char>,
-) {
-    inclusive_maps::ask(u32s.0, u32s.1, u32s.2);
-    inclusive_maps::ask(u64s.0, u64s.1, u64s.2);
-    inclusive_maps::ask(usizes.0, usizes.1, usizes.2);
-    inclusive_maps::ask(i64s.0, i64s.1, i64s.2);
-    inclusive_maps::ask(u128s.0, u128s.1, u128s.2);
-    inclusive_maps::ask(chars.0, chars.1, chars.2);
+pub fn call_map_of_texts(
+    alloc: Global,
+    map: &mut RangeMap<String, u8>,
+    listed: Range<String>,
+    given: Range<String>,
+    taken: Range<String>,
+) -> Result<(), AllocError> {
+    if listed.is_empty() || given.is_empty() || taken.is_empty() {
+        return Ok(());
+    }
+    maps::every(alloc, map, [(listed, 1)], given, taken)
 }
 
-pub fn change_closed_maps(
+pub fn call_closed_maps(
+    alloc: Global,
     u32s: &mut RangeInclusiveMap<u32, u8>,
     u64s: &mut RangeInclusiveMap<u64, u8>,
     usizes: &mut RangeInclusiveMap<usize, u8>,
@@ -70,12 +47,12 @@ pub fn change_closed_maps(
     u128s: &mut RangeInclusiveMap<u128, u8>,
     chars: &mut RangeInclusiveMap<char, u8>,
 ) -> Result<(), AllocError> {
-    inclusive_maps::change(u32s, 0..=5, 1, 2..=3)?;
-    inclusive_maps::change(u64s, 0..=5, 1, 2..=3)?;
-    inclusive_maps::change(usizes, 0..=5, 1, 2..=3)?;
-    inclusive_maps::change(i64s, -5..=5, 1, -2..=2)?;
-    inclusive_maps::change(u128s, 0..=5, 1, 2..=3)?;
-    inclusive_maps::change(chars, 'a'..='f', 1, 'c'..='d')
+    inclusive_maps::every(alloc, u32s, [(0..=5, 1)], 1..=4, 2..=3)?;
+    inclusive_maps::every(alloc, u64s, [(0..=5, 1)], 1..=4, 2..=3)?;
+    inclusive_maps::every(alloc, usizes, [(0..=5, 1)], 1..=4, 2..=3)?;
+    inclusive_maps::every(alloc, i64s, [(-5..=5, 1)], -4..=4, -2..=2)?;
+    inclusive_maps::every(alloc, u128s, [(0..=5, 1)], 1..=4, 2..=3)?;
+    inclusive_maps::every(alloc, chars, [('a'..='f', 1)], 'b'..='e', 'c'..='d')
 }
 
 /// A container, a key, and a range.
@@ -222,17 +199,6 @@ pub fn change_sets_in_trees(
     tree_sets::change(i64s, -5..5, -2..2)?;
     tree_sets::change(u128s, 0..5, 2..3)?;
     tree_sets::change(chars, 'a'..'f', 'c'..'d')
-}
-
-pub fn change_texts_in_map(
-    map: &mut RangeMap<String, u8>,
-    given: Range<String>,
-    taken: Range<String>,
-) -> Result<(), AllocError> {
-    if given.is_empty() || taken.is_empty() {
-        return Ok(());
-    }
-    maps::change(map, given, 1, taken)
 }
 
 pub fn change_texts_in_tree(

@@ -6,6 +6,7 @@ use rangemap::{
     Form, Part, RangeInclusiveMap, RangeInclusiveSet, RangeMap, RangeSet, ReadError, StepFns,
     StepLite, WriteError, range_inclusive_map, range_inclusive_set, range_map, range_set,
 };
+use serde_json::Value;
 use std::alloc::{AllocError, Global};
 use std::cmp::Ordering;
 use std::fmt::Debug;
@@ -79,6 +80,11 @@ pub fn compare_and_print<C: Ord + Hash + Debug, H: Hasher>(
 ) -> Result<(bool, String), AllocError> {
     let answer = compare(left, right, state);
     Ok((answer, text(alloc, left)?))
+}
+
+// writes no part of a container, of whatever type
+pub fn write_nothing<P>(_part: &P) -> Result<Value, ()> {
+    Err(())
 }
 
 fn derives_part<P: Clone + Copy + Debug + PartialEq + Eq>(_p: P) {}

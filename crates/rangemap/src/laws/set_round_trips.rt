@@ -12,8 +12,7 @@ use crate::range_set::Set;
 use rangemap_core::key_range::KeyRange;
 use rangemap_core::kind::Kind;
 use rangemap_core::store::{HandsOver, Store, StoreMut};
-use rangemap_formats::json::{Form, WriteError};
-use rangemap_maps::laws::round_trips::for_memory;
+use rangemap_formats::json::{Form, ReadError, WriteError};
 use serde_json::Value;
 use std::alloc::{AllocError, Global};
 
@@ -35,43 +34,60 @@ where
     Set::from_iter(alloc, set)
 }
 
-/// Reading what was written gives an equal set: writes the set and reads the value again, in either
-/// form, where the reader gives back keys that tie with those that the writer was given. Returns the
-/// value and the set.
-///
-/// # Errors
-///
-/// The writer refused a key, or memory was refused. The reader refuses nothing of what was written.
-pub fn reading_what_was_written_is_equal<
-    S: Store<Value = ()>,
-    T: StoreMut<Range = S::Range, Value = (), Kind = S::Kind> + Drop,
-    E,
-    F: Drop,
-    WK: Fn(&<S::Range as KeyRange>::Key) -> Result<Value, E>,
-    RK: Fn(&Value) -> Result<<S::Range as KeyRange>::Key, F>,
->(
-    json: Global,
-    alloc: T::Alloc,
-    form: Form,
-    set: &Set<S>,
-    write_key: WK,
-    read_key: RK,
-) -> Result<(Value, Set<T>), WriteError<E>>
-where
-    S::Kind: Kind<S::Range, Steps = <S::Range as KeyRange>::Key>,
-    requires writes_keys { WK.IsAlwaysCallable write_key }
-    requires reads_keys { RK.IsAlwaysCallable read_key }
-    requires keys_read_back { KeysReadBack S.Kind.kind (FnReturnsAt WK.Fn write_key) (FnReturnsAt RK.Fn read_key) }
-    requires faithful_keys { KeysCloneFaithfully S.Range.Key.is_clone S.Range.Key.cmp }
-    ensures written { IfOk result (λ made. IsForm S.Kind.kind (set_writer (FnReturnsAt WK.Fn write_key)) (with_unit S.Kind.kind set.now) made.0) }
-    ensures read { IfOk result (λ made. IsReading S.Kind.kind (set_reader (FnReturnsAt RK.Fn read_key)) (unit_eq S.Kind.kind) form made.0 (with_unit S.Kind.kind made.1)) }
-    ensures equal { IfOk result (λ made. IsTrue (same_ranges S.Kind.kind set.now made.1)) }
-    ensures refused { IfErr result (RefusesToWrite S.Kind.kind (set_writer (FnReturnsAt WK.Fn write_key)) (with_unit S.Kind.kind set.now)) }
-{
-    set.known();
-    let value = set.to_value(json, write_key)?;
-    match Set::from_value(alloc, form, &value, read_key) {
-        Ok(again) => Ok((value, again)),
-        Err(error) => Err(for_memory(error)),
+/// The functions that write a set's keys as JSON, and read them again.
+#[derive(Drop)]
+pub struct Functions<WK, RK> {
+    /// Writes a key.
+    pub write_key: WK,
+    /// Reads a key.
+    pub read_key: RK,
+}
+
+impl<WK, RK> Functions<WK, RK> {
+    /// Reading what was written gives an equal set: writes the set and reads the value again, in either
+    /// form, where the reader gives back keys that tie with those that the writer was given. Returns
+    /// the value and the set.
+    ///
+    /// # Errors
+    ///
+    /// The writer refused a key, or memory was refused. The reader refuses nothing of what was written.
+    pub fn reading_what_was_written_is_equal<
+        S: Store<Value = ()>,
+        T: StoreMut<Range = S::Range, Value = (), Kind = S::Kind> + Drop,
+        E,
+        F: Drop,
+    >(
+        self,
+        json: Global,
+        alloc: T::Alloc,
+        form: Form,
+        set: &Set<S>,
+    ) -> Result<(Value, Set<T>), WriteError<E>>
+    where
+        S::Kind: Kind<S::Range, Steps = <S::Range as KeyRange>::Key>,
+        WK: Fn(&<S::Range as KeyRange>::Key) -> Result<Value, E>,
+        RK: Fn(&Value) -> Result<<S::Range as KeyRange>::Key, F>,
+        requires writes_keys { WK.IsAlwaysCallable self.write_key }
+        requires reads_keys { RK.IsAlwaysCallable self.read_key }
+        requires keys_read_back { KeysReadBack S.Kind.kind (FnReturnsAt WK.Fn self.write_key) (FnReturnsAt RK.Fn self.read_key) }
+        requires faithful_keys { KeysCloneFaithfully S.Range.Key.is_clone S.Range.Key.cmp }
+        ensures written { IfOk result (λ made. IsForm S.Kind.kind (set_writer (FnReturnsAt WK.Fn self.write_key)) (with_unit S.Kind.kind set.now) made.0) }
+        ensures read { IfOk result (λ made. IsReading S.Kind.kind (set_reader (FnReturnsAt RK.Fn self.read_key)) (unit_eq S.Kind.kind) form made.0 (with_unit S.Kind.kind made.1)) }
+        ensures equal { IfOk result (λ made. IsTrue (same_ranges S.Kind.kind set.now made.1)) }
+        ensures refused { IfErr result (RefusesToWrite S.Kind.kind (set_writer (FnReturnsAt WK.Fn self.write_key)) (with_unit S.Kind.kind set.now)) }
+    {
+        set.known();
+        let Functions {
+            write_key,
+            read_key,
+        } = self;
+        let value = set.to_value(json, write_key)?;
+        match Set::from_value(alloc, form, &value, read_key) {
+            Ok(again) => Ok((value, again)),
+            Err(error) => match error {
+                ReadError::OutOfMemory => Err(WriteError::OutOfMemory),
+                _ => unreachable!(),
+            },
+        }
     }
 }

@@ -145,7 +145,7 @@ where
 
     ghost into_iter_gives = { λ set it. (it ≡ set) × IsCanonicalSet S.Kind.kind set };
 
-    /// Returns the stored ranges in order, which can be taken from both ends.
+    /// Returns a double-ended iterator over the stored ranges, in order.
     fn into_iter(self) -> Ranges<S::IntoIter> {
         let len = self.stored.len();
         Ranges::over(self.stored.into_pairs(), len)
@@ -166,7 +166,7 @@ where
 
     ghost into_iter_gives = { λ set it. (it ≡ set.now) × IsCanonicalSet S.Kind.kind set.now };
 
-    /// Returns the stored ranges in order, which can be taken from both ends.
+    /// Returns a double-ended iterator over the stored ranges, in order.
     fn into_iter(self) -> Ranges<S::Iter> {
         self.iter()
     }

@@ -13,7 +13,7 @@ use std::alloc::{AllocError, Allocator};
 /// What came of a command: its answer, or that it was refused.
 pub type Outcome<R, V, A> = Result<Answer<R, V, A>, AllocError>;
 
-/// Runs the commands on a map, in order, and answers each.
+/// Runs the commands on a map, in order, and answers each. It takes what the calls take.
 ///
 /// The contract, in `Ran`, says of each command what it answers, up to equality, and what it makes
 /// of the map's pairs, in words of the map's point function. A command that is refused changes

@@ -7,8 +7,6 @@ ghost use Rattle.std.specs.Fn.{FnReturnsAt};
 ghost use Rattle.rangemap_core.specs.Clones.{KeysCloneFaithfully, ValuesCloneFaithfully};
 ghost use Rattle.rangemap_core.specs.Ranges.{same_pairs};
 ghost use Rattle.rangemap_formats.specs.Json.{IsForm, IsReading, KeysReadBack, ReadsBack, RefusesToWrite, map_reader, map_writer};
-ghost use Rattle.rangemap_formats.specs.declared.json.ReadError.TheVariants as read_error;
-ghost use Rattle.rangemap_formats.specs.declared.json.WriteError.TheVariants as write_error;
 
 use crate::range_map::Map;
 use rangemap_core::key_range::KeyRange;
@@ -36,61 +34,72 @@ where
     Map::from_iter(alloc, map)
 }
 
-/// Reading what was written gives an equal map: writes the map and reads the value again, in either
-/// form, where the reader gives back keys and values equal to those that the writer was given.
-/// Returns the value and the map.
-///
-/// # Errors
-///
-/// The writer refused a part, or memory was refused. The reader refuses nothing of what was
-/// written.
-pub fn reading_what_was_written_is_equal<
-    S: Store,
-    T: StoreMut<Range = S::Range, Value = S::Value, Kind = S::Kind> + Drop,
-    E,
-    F: Drop,
-    WK: Fn(&<S::Range as KeyRange>::Key) -> Result<Value, E>,
-    WV: Fn(&S::Value) -> Result<Value, E>,
-    RK: Fn(&Value) -> Result<<S::Range as KeyRange>::Key, F>,
-    RV: Fn(&Value) -> Result<S::Value, F>,
->(
-    json: Global,
-    alloc: T::Alloc,
-    form: Form,
-    map: &Map<S>,
-    writers: (WK, WV),
-    readers: (RK, RV),
-) -> Result<(Value, Map<T>), WriteError<E>>
-where
-    S::Kind: Kind<S::Range, Steps = <S::Range as KeyRange>::Key>,
-    requires writes_keys { WK.IsAlwaysCallable writers.0 }
-    requires writes_values { WV.IsAlwaysCallable writers.1 }
-    requires reads_keys { RK.IsAlwaysCallable readers.0 }
-    requires reads_values { RV.IsAlwaysCallable readers.1 }
-    requires keys_read_back { KeysReadBack S.Kind.kind (FnReturnsAt WK.Fn writers.0) (FnReturnsAt RK.Fn readers.0) }
-    requires values_read_back { ReadsBack (λ x y. S.Value.eq x y ≡ true) (FnReturnsAt WV.Fn writers.1) (FnReturnsAt RV.Fn readers.1) }
-    requires faithful_keys { KeysCloneFaithfully S.Range.Key.is_clone S.Range.Key.cmp }
-    requires faithful_values { ValuesCloneFaithfully S.Value.is_clone S.Value.eq }
-    ensures written { IfOk result (λ made. IsForm S.Kind.kind (map_writer (FnReturnsAt WK.Fn writers.0) (FnReturnsAt WV.Fn writers.1)) map.now made.0) }
-    ensures read { IfOk result (λ made. IsReading S.Kind.kind (map_reader (FnReturnsAt RK.Fn readers.0) (FnReturnsAt RV.Fn readers.1)) S.Value.eq form made.0 made.1) }
-    ensures equal { IfOk result (λ made. IsTrue (same_pairs S.Kind.kind S.Value.eq map.now made.1)) }
-    ensures refused { IfErr result (RefusesToWrite S.Kind.kind (map_writer (FnReturnsAt WK.Fn writers.0) (FnReturnsAt WV.Fn writers.1)) map.now) }
-{
-    map.known();
-    let value = map.to_value(json, writers.0, writers.1)?;
-    match Map::from_value(alloc, form, &value, readers.0, readers.1) {
-        Ok(again) => Ok((value, again)),
-        Err(error) => Err(for_memory(error)),
-    }
+/// The functions that write a map's keys and values as JSON, and those that read them again.
+#[derive(Drop)]
+pub struct Functions<WK, WV, RK, RV> {
+    /// Writes a key.
+    pub write_key: WK,
+    /// Writes a value.
+    pub write_value: WV,
+    /// Reads a key.
+    pub read_key: RK,
+    /// Reads a value.
+    pub read_value: RV,
 }
 
-/// Returns `OutOfMemory`, for the laws of a set too: what was written has no other fault.
-pub fn for_memory<E, F: Drop>(error: ReadError<F>) -> WriteError<E>
-    requires { error ≡ read_error.OutOfMemory }
-    ensures { result ≡ write_error.OutOfMemory }
-{
-    match error {
-        ReadError::OutOfMemory => WriteError::OutOfMemory,
-        _ => unreachable!(),
+impl<WK, WV, RK, RV> Functions<WK, WV, RK, RV> {
+    /// Reading what was written gives an equal map: writes the map and reads the value again, in either
+    /// form, where the readers give back keys and values equal to those that the writers were given.
+    /// Returns the value and the map.
+    ///
+    /// # Errors
+    ///
+    /// A writer refused a part, or memory was refused. The readers refuse nothing of what was written.
+    pub fn reading_what_was_written_is_equal<
+        S: Store,
+        T: StoreMut<Range = S::Range, Value = S::Value, Kind = S::Kind> + Drop,
+        E,
+        F: Drop,
+    >(
+        self,
+        json: Global,
+        alloc: T::Alloc,
+        form: Form,
+        map: &Map<S>,
+    ) -> Result<(Value, Map<T>), WriteError<E>>
+    where
+        S::Kind: Kind<S::Range, Steps = <S::Range as KeyRange>::Key>,
+        WK: Fn(&<S::Range as KeyRange>::Key) -> Result<Value, E>,
+        WV: Fn(&S::Value) -> Result<Value, E>,
+        RK: Fn(&Value) -> Result<<S::Range as KeyRange>::Key, F>,
+        RV: Fn(&Value) -> Result<S::Value, F>,
+        requires writes_keys { WK.IsAlwaysCallable self.write_key }
+        requires writes_values { WV.IsAlwaysCallable self.write_value }
+        requires reads_keys { RK.IsAlwaysCallable self.read_key }
+        requires reads_values { RV.IsAlwaysCallable self.read_value }
+        requires keys_read_back { KeysReadBack S.Kind.kind (FnReturnsAt WK.Fn self.write_key) (FnReturnsAt RK.Fn self.read_key) }
+        requires values_read_back { ReadsBack (λ x y. S.Value.eq x y ≡ true) (FnReturnsAt WV.Fn self.write_value) (FnReturnsAt RV.Fn self.read_value) }
+        requires faithful_keys { KeysCloneFaithfully S.Range.Key.is_clone S.Range.Key.cmp }
+        requires faithful_values { ValuesCloneFaithfully S.Value.is_clone S.Value.eq }
+        ensures written { IfOk result (λ made. IsForm S.Kind.kind (map_writer (FnReturnsAt WK.Fn self.write_key) (FnReturnsAt WV.Fn self.write_value)) map.now made.0) }
+        ensures read { IfOk result (λ made. IsReading S.Kind.kind (map_reader (FnReturnsAt RK.Fn self.read_key) (FnReturnsAt RV.Fn self.read_value)) S.Value.eq form made.0 made.1) }
+        ensures equal { IfOk result (λ made. IsTrue (same_pairs S.Kind.kind S.Value.eq map.now made.1)) }
+        ensures refused { IfErr result (RefusesToWrite S.Kind.kind (map_writer (FnReturnsAt WK.Fn self.write_key) (FnReturnsAt WV.Fn self.write_value)) map.now) }
+    {
+        map.known();
+        let Functions {
+            write_key,
+            write_value,
+            read_key,
+            read_value,
+        } = self;
+        let value = map.to_value(json, write_key, write_value)?;
+        match Map::from_value(alloc, form, &value, read_key, read_value) {
+            Ok(again) => Ok((value, again)),
+            Err(error) => match error {
+                ReadError::OutOfMemory => Err(WriteError::OutOfMemory),
+                _ => unreachable!(),
+            },
+        }
     }
 }

@@ -12,9 +12,9 @@ use std::alloc::AllocError;
 impl<S: StoreMut> Map<S> {
     /// Gives every key of `range` the `value`, whatever it had before.
     ///
-    /// What stays of stored ranges to the left and right of it keeps its value. Stored ranges that
-    /// it overlaps or touches and that have an equal value become one range with it, which carries
-    /// the new value. The map grows by at most two ranges.
+    /// What stays of stored ranges to the left and right of it keeps a value equal to its own.
+    /// Stored ranges that it overlaps or touches and that have an equal value become one range with
+    /// it, which carries the new value. The map grows by at most two ranges.
     ///
     /// # Requires
     ///

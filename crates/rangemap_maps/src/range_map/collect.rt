@@ -63,9 +63,11 @@ where
     /// map.extend((0..100u32).map(|i| (10 * i..10 * i + 5, 'a')))?;
     /// map.extend([(0..5u32, 'a'), (5..9, 'b')])?;
     ///
-    /// extend-requires-clause-non_empty g c it h =
+    /// extend-requires-clause-non_empty c it h =
     ///     listed (half_open nat_cmp) array_into_iter_items h.2 it _ h.0 (refl, (refl, tt))
     /// ```
+    ///
+    /// In a generic function the answer takes one argument more, first: `g c it h`.
     ///
     /// `listed` stands in `Rattle.rangemap.proofs.IncomingLemmas`. Of a vector it takes
     /// `into_iter_items` and `h.3`; an iterator that owns the pairs of a map is answered by `owned`
@@ -168,8 +170,8 @@ where
 
     ghost into_iter_gives = { λ map it. (it ≡ map) × IsCanonical S.Kind.kind S.Value.eq map };
 
-    /// Returns the stored pairs, in order, from both ends. Those that are not taken are dropped
-    /// with it.
+    /// Returns a double-ended iterator over the stored pairs, in order. Those that are not taken are
+    /// dropped with it.
     fn into_iter(self) -> PairIter<S::IntoIter> {
         let len = self.stored.len();
         PairIter::over(self.stored.into_pairs(), len)
@@ -190,7 +192,7 @@ where
 
     ghost into_iter_gives = { λ map it. (it ≡ map.now) × IsCanonical S.Kind.kind S.Value.eq map.now };
 
-    /// Returns the stored pairs, in order, from both ends.
+    /// Returns a double-ended iterator over the stored pairs, in order.
     fn into_iter(self) -> PairIter<S::Iter> {
         self.iter()
     }

@@ -5,7 +5,7 @@ ghost use Rattle.rangemap.specs.Clones.{KeysCloneFaithfully, ValuesCloneFaithful
 use super::made::Made;
 use rangemap::map::Map;
 use rangemap::range_set::Set;
-use rangemap::{Form, RangeInclusiveMap, ReadError};
+use rangemap::{Form, RangeInclusiveMap, RangeMap, ReadError, tree_map};
 use rangemap_core::key_range::KeyRange;
 use rangemap_core::kind::Kind;
 use rangemap_core::store::StoreMut;
@@ -13,7 +13,7 @@ use serde_json::Value;
 use std::alloc::{AllocError, Global};
 use std::test::Fail;
 use tests_requests::{Answer, Row};
-use tests_support::{Costly, FromEnds, Heap};
+use tests_support::{Costly, CostlySet, FromEnds, HalfOpenCostlySet, Heap};
 
 /// A part is no whole number of the size that is read.
 #[derive(Drop)]
@@ -71,15 +71,59 @@ where
     Made::is_made(unless_refused(read)?, row.outcome)
 }
 
-/// A map of parts whose clones take memory.
-type CostlyParts<'a> = RangeInclusiveMap<Costly<'a>, Costly<'a>, Costly<'a>, &'a Heap>;
+/// A map over closed ranges, of parts whose clones take memory.
+type ClosedParts<'a> = RangeInclusiveMap<Costly<'a>, Costly<'a>, Costly<'a>, &'a Heap>;
 
-/// Tries to read such a map.
-pub fn try_costly(heap: &Heap, alloc: Global, row: &Row<'_>, left: u64) -> Answer {
+/// The same over half-open ranges.
+type Parts<'a> = RangeMap<Costly<'a>, Costly<'a>, &'a Heap>;
+
+/// The same in a tree.
+type PartsInTree<'a> = tree_map::RangeMap<Costly<'a>, Costly<'a>, &'a Heap>;
+
+// A closure that holds the heap can't be passed over any store, so each type has a function of its own.
+
+/// Tries to read a closed map of such parts.
+pub fn try_costly_inclusive_map(heap: &Heap, alloc: Global, row: &Row<'_>, left: u64) -> Answer {
     let (form, value) = form_and_value(alloc, row.given)?;
     let read = move |part: &Value| read_costly(heap, part);
     heap.refuse_after(left);
-    let read = CostlyParts::from_value(heap, form, &value, read, read);
+    let read = ClosedParts::from_value(heap, form, &value, read, read);
+    Made::is_made(unless_refused(read)?, row.outcome)
+}
+
+/// Tries to read a map of such parts.
+pub fn try_costly_map(heap: &Heap, alloc: Global, row: &Row<'_>, left: u64) -> Answer {
+    let (form, value) = form_and_value(alloc, row.given)?;
+    let read = move |part: &Value| read_costly(heap, part);
+    heap.refuse_after(left);
+    let read = Parts::from_value(heap, form, &value, read, read);
+    Made::is_made(unless_refused(read)?, row.outcome)
+}
+
+/// Tries to read a map of such parts in a tree.
+pub fn try_costly_tree(heap: &Heap, alloc: Global, row: &Row<'_>, left: u64) -> Answer {
+    let (form, value) = form_and_value(alloc, row.given)?;
+    let read = move |part: &Value| read_costly(heap, part);
+    heap.refuse_after(left);
+    let read = PartsInTree::from_value(heap, form, &value, read, read);
+    Made::is_made(unless_refused(read)?, row.outcome)
+}
+
+/// Tries to read a set of such keys.
+pub fn try_costly_set(heap: &Heap, alloc: Global, row: &Row<'_>, left: u64) -> Answer {
+    let (form, value) = form_and_value(alloc, row.given)?;
+    let read = move |part: &Value| read_costly(heap, part);
+    heap.refuse_after(left);
+    let read = HalfOpenCostlySet::from_value(heap, form, &value, read);
+    Made::is_made(unless_refused(read)?, row.outcome)
+}
+
+/// Tries to read a closed set of such keys.
+pub fn try_costly_inclusive_set(heap: &Heap, alloc: Global, row: &Row<'_>, left: u64) -> Answer {
+    let (form, value) = form_and_value(alloc, row.given)?;
+    let read = move |part: &Value| read_costly(heap, part);
+    heap.refuse_after(left);
+    let read = CostlySet::from_value(heap, form, &value, read);
     Made::is_made(unless_refused(read)?, row.outcome)
 }
 

@@ -71,6 +71,9 @@ fn maps_are_written_and_read(rt: HostRuntime) -> Result<(), Fail> {
         written 0..5 a, 7..9 ? | Caller(Unwritable)
         written 13..20 a | Caller(UnwritableKey)
         written 0..5 a, 7..13 ? | Caller(UnwritableKey)
+        written 13..15 a | Caller(UnwritableKey)
+        written 12..15 a | Caller(OtherUnwritableKey)
+        written 0..5 ?, 7..13 a | Caller(Unwritable)
 
         written 12..14 d, 8..10 c, 4..6 b, 0..2 a | [[[0,2],"a"],[[4,6],"b"],[[8,10],"c"],[[12,14],"d"]]
 
@@ -111,10 +114,12 @@ fn damaged_values_are_refused(rt: HostRuntime) -> Result<(), Fail> {
         any [[["x","y"],7]] | BadKey { at: 0, part: Start, fault: NoNumber }
         any [[[1,"y"],7]] | BadKey { at: 0, part: End, fault: NoNumber }
         canonical [[[0,5],"a"],[[3,6],7],[[9,9],"a"],null] | BadValue { at: 1, fault: NoText }
+        canonical [[[0,5],"a"],[[3,3],"b"]] | EmptyRange { at: 1 }
 
         canonical [[[0,10],"a"],[[5,15],"b"]] | OutOfOrder { at: 1 }
         canonical [[[5,6],"a"],[[0,1],"b"]] | OutOfOrder { at: 1 }
         canonical [[[0,5],"a"],[[0,5],"a"]] | OutOfOrder { at: 1 }
+        canonical [[[5,10],"a"],[[0,5],"a"]] | OutOfOrder { at: 1 }
         canonical [[[0,5],"a"],[[5,10],"a"]] | Uncoalesced { at: 1 }
         canonical [[[0,2],"a"],[[4,6],"b"],[[6,10],"b"]] | Uncoalesced { at: 2 }
         canonical [[[0,2],"a"],[[4,6],"b"],[[5,10],"b"]] | OutOfOrder { at: 2 }
@@ -132,6 +137,9 @@ fn closed_maps_are_written_and_read(rt: HostRuntime) -> Result<(), Fail> {
         written 0..=4 a, 7..=9 ? | Caller(Unwritable)
         written 13..=20 a | Caller(UnwritableKey)
         written 0..=4 a, 7..=13 ? | Caller(UnwritableKey)
+        written 13..=15 a | Caller(UnwritableKey)
+        written 12..=15 a | Caller(OtherUnwritableKey)
+        written 0..=4 ?, 7..=13 a | Caller(Unwritable)
 
         any [] | {}
         any [[[7,7],"a"]] | {7..=7: "a"}
@@ -148,7 +156,9 @@ fn closed_maps_are_written_and_read(rt: HostRuntime) -> Result<(), Fail> {
 
         canonical [[[0,4],"a"],[[6,9],"a"]] | {0..=4: "a", 6..=9: "a"}
         canonical [[[0,4],"a"],[[5,9],"b"]] | {0..=4: "a", 5..=9: "b"}
+        canonical [[[0,5],"a"],[[4,3],"b"]] | EmptyRange { at: 1 }
         canonical [[[0,4],"a"],[[4,9],"b"]] | OutOfOrder { at: 1 }
+        canonical [[[5,9],"a"],[[0,4],"a"]] | OutOfOrder { at: 1 }
         canonical [[[0,4],"a"],[[5,9],"a"]] | Uncoalesced { at: 1 }
         "#,
     )

@@ -28,14 +28,13 @@ where
 {
     let map: Map<S> = Made::made_of(alloc, pairs)?;
     for form in [Form::Any, Form::Canonical] {
-        let answer = round_trips::reading_what_was_written_is_equal(
-            alloc,
-            alloc,
-            form,
-            &map,
-            (write_number, write_number),
-            (read_number, read_number),
-        );
+        let functions = round_trips::Functions {
+            write_key: write_number,
+            write_value: write_number,
+            read_key: read_number,
+            read_value: read_number,
+        };
+        let answer = functions.reading_what_was_written_is_equal(alloc, alloc, form, &map);
         let Ok((_, again)) = answer else {
             return Err(Fail::new("a map was not read again"));
         };
@@ -64,14 +63,11 @@ where
 {
     let set: Set<S> = Made::made_of(alloc, ranges)?;
     for form in [Form::Any, Form::Canonical] {
-        let answer = set_round_trips::reading_what_was_written_is_equal(
-            alloc,
-            alloc,
-            form,
-            &set,
-            write_number,
-            read_number,
-        );
+        let functions = set_round_trips::Functions {
+            write_key: write_number,
+            read_key: read_number,
+        };
+        let answer = functions.reading_what_was_written_is_equal(alloc, alloc, form, &set);
         let Ok((_, again)) = answer else {
             return Err(Fail::new("a set was not read again"));
         };

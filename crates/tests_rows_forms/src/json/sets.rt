@@ -69,6 +69,9 @@ fn sets_are_written_and_read(rt: HostRuntime) -> Result<(), Fail> {
         written 0..100, 200..300 | [[0,100],[200,300]]
         written 13..20 | Caller(UnwritableKey)
         written 0..5, 7..13 | Caller(UnwritableKey)
+        written 13..15 | Caller(UnwritableKey)
+        written 12..15 | Caller(OtherUnwritableKey)
+        written 7..13, 15..20 | Caller(UnwritableKey)
 
         written 12..14, 8..10, 4..6, 0..2 | [[0,2],[4,6],[8,10],[12,14]]
 
@@ -92,9 +95,11 @@ fn sets_are_written_and_read(rt: HostRuntime) -> Result<(), Fail> {
         any [["x","y"]] | BadKey { at: 0, part: Start, fault: NoNumber }
         any [[0,4294967296]] | BadKey { at: 0, part: End, fault: NoNumber }
 
+        canonical [[0,5],[3,3]] | EmptyRange { at: 1 }
         canonical [[0,10],[5,15]] | OutOfOrder { at: 1 }
         canonical [[5,6],[0,1]] | OutOfOrder { at: 1 }
         canonical [[0,5],[0,5]] | OutOfOrder { at: 1 }
+        canonical [[5,10],[0,5]] | OutOfOrder { at: 1 }
         canonical [[0,5],[5,10]] | Uncoalesced { at: 1 }
         "#,
     )
@@ -109,6 +114,9 @@ fn closed_sets_are_written_and_read(rt: HostRuntime) -> Result<(), Fail> {
         written 7..=7 | [[7,7]]
         written 13..=20 | Caller(UnwritableKey)
         written 0..=4, 7..=13 | Caller(UnwritableKey)
+        written 13..=15 | Caller(UnwritableKey)
+        written 12..=15 | Caller(OtherUnwritableKey)
+        written 7..=13, 15..=20 | Caller(UnwritableKey)
 
         any [] | {}
         any [[7,7]] | {7..=7}
@@ -121,7 +129,9 @@ fn closed_sets_are_written_and_read(rt: HostRuntime) -> Result<(), Fail> {
         any [[8,7]] | EmptyRange { at: 0 }
         any [["x","y"]] | BadKey { at: 0, part: Start, fault: NoNumber }
         any [[0,4294967296]] | BadKey { at: 0, part: End, fault: NoNumber }
+        canonical [[0,5],[4,3]] | EmptyRange { at: 1 }
         canonical [[0,4],[4,9]] | OutOfOrder { at: 1 }
+        canonical [[5,9],[0,4]] | OutOfOrder { at: 1 }
         canonical [[0,4],[5,9]] | Uncoalesced { at: 1 }
         "#,
     )

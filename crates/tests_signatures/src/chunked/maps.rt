@@ -1,19 +1,18 @@
-//! The calls of the maps, by their signatures.
+//! The calls of `chunked::RangeMap`, by their signatures; `changes` has what changes it.
 ghost use Rattle.std.specs.Iterator.{IsFiniteIterable};
 ghost use Rattle.rangemap.specs.Clones.{KeysCloneFaithfully, ValuesCloneFaithfully};
 ghost use Rattle.rangemap.specs.NonEmptyPairs.{GivesNonEmpty};
-ghost use Rattle.rangemap.specs.Ranges.{half_open};
+ghost use Rattle.rangemap.specs.Ranges.{AreNonEmpty, half_open};
 
 use crate::root;
-use rangemap::StepFns;
-use rangemap::chunked::{
-    Gaps, InclusiveGaps, InclusiveIter, InclusiveOverlapping, IntoIter, Iter, Overlapping,
-    RangeInclusiveMap, RangeMap,
-};
+use rangemap::chunked::{Gaps, IntoIter, Iter, Overlapping, RangeMap};
+use rangemap::{Form, ReadError, WriteError};
+use serde_json::Value;
 use std::alloc::{AllocError, Global};
+use std::fmt::Debug;
 use std::hash::{Hash, Hasher};
 use std::iter::IntoIterator;
-use std::ops::{Range, RangeInclusive};
+use std::ops::Range;
 
 pub fn ask<'a, K: Ord + Clone, V: Eq + Clone>(
     map: &'a RangeMap<K, V>,
@@ -35,19 +34,17 @@ pub fn ask<'a, K: Ord + Clone, V: Eq + Clone>(
     map.known();
 }
 
-pub fn ask_closed<'a, K: Ord + Clone, V: Eq + Clone, S: StepFns<K>>(
-    map: &'a RangeInclusiveMap<K, V, S>,
-    key: &K,
-    range: &'a RangeInclusive<K>,
-) {
-    let _: Option<&'a V> = map.get(key);
-    let _: Option<(&'a RangeInclusive<K>, &'a V)> = map.get_key_value(key);
-    let _: Option<(&'a RangeInclusive<K>, &'a V)> = map.first_range_value();
-    let _: usize = map.len();
-    let _: bool = map.overlaps(range);
-    let _: InclusiveIter<'a, K, V> = map.iter();
-    let _: InclusiveOverlapping<'a, K, V> = map.overlapping(range);
-    let _: InclusiveGaps<'a, K, V, S> = map.gaps(range);
+pub fn from<K: Ord + Clone, V: Eq + Clone, const N: usize>(
+    alloc: Global,
+    value: [(Range<K>, V); N],
+) -> Result<(RangeMap<K, V>, RangeMap<K, V>), AllocError>
+    requires non_empty { AreNonEmpty (half_open K.cmp) value }
+    requires faithful_keys { KeysCloneFaithfully K.is_clone K.cmp }
+    requires faithful_values { ValuesCloneFaithfully V.is_clone V.eq }
+{
+    let map = RangeMap::from(alloc, value)?;
+    let copy = map.clone()?;
+    Ok((map, copy))
 }
 
 pub fn collect<K: Ord + Clone, V: Eq + Clone, I: IntoIterator<Item = (Range<K>, V)>>(
@@ -73,19 +70,51 @@ pub fn hand_over<K: Ord + Clone, V: Eq + Clone>(map: RangeMap<K, V>) -> IntoIter
     map.into_iter()
 }
 
-pub fn compare<K: Ord + Clone + Hash, V: Ord + Clone + Hash, H: Hasher>(
+pub fn compare_and_print<K: Ord + Clone + Hash + Debug, V: Ord + Clone + Hash + Debug, H: Hasher>(
+    alloc: Global,
     left: &RangeMap<K, V>,
     right: &RangeMap<K, V>,
     state: &mut H,
-) -> bool {
-    root::compare(left, right, state)
+) -> Result<(bool, String), AllocError> {
+    root::compare_and_print(alloc, left, right, state)
+}
+
+pub fn write_and_read<
+    K: Ord + Clone,
+    V: Eq + Clone,
+    E,
+    WK: Fn(&K) -> Result<Value, E>,
+    WV: Fn(&V) -> Result<Value, E>,
+    RK: Fn(&Value) -> Result<K, E>,
+    RV: Fn(&Value) -> Result<V, E>,
+>(
+    map: &RangeMap<K, V>,
+    alloc: Global,
+    write: (WK, WV),
+    other: Global,
+    form: Form,
+    value: &Value,
+    read: (RK, RV),
+) -> (
+    Result<Value, WriteError<E>>,
+    Result<RangeMap<K, V>, ReadError<E>>,
+)
+    requires write_keys { WK.IsAlwaysCallable write.0 }
+    requires write_values { WV.IsAlwaysCallable write.1 }
+    requires read_keys { RK.IsAlwaysCallable read.0 }
+    requires read_values { RV.IsAlwaysCallable read.1 }
+    requires faithful_keys { KeysCloneFaithfully K.is_clone K.cmp }
+    requires faithful_values { ValuesCloneFaithfully V.is_clone V.eq }
+{
+    let written = map.to_value(alloc, write.0, write.1);
+    (
+        written,
+        RangeMap::from_value(other, form, value, read.0, read.1),
+    )
 }
 
 /// A container, a key, and a range.
 type Asked<'a, K> = (&'a RangeMap<K, u8>, &'a K, &'a Range<K>);
-
-/// The same of closed ranges.
-type AskedClosed<'a, K> = (&'a RangeInclusiveMap<K, u8>, &'a K, &'a RangeInclusive<K>);
 
 pub fn ask_all(
     u32s: Asked<'_, u32>,
@@ -103,20 +132,4 @@ pub fn ask_all(
     ask(u128s.0, u128s.1, u128s.2);
     ask(chars.0, chars.1, chars.2);
     ask(texts.0, texts.1, texts.2);
-}
-
-pub fn ask_all_closed(
-    u32s: AskedClosed<'_, u32>,
-    u64s: AskedClosed<'_, u64>,
-    usizes: AskedClosed<'_, usize>,
-    i64s: AskedClosed<'_, i64>,
-    u128s: AskedClosed<'_, u128>,
-    chars: AskedClosed<'_, char>,
-) {
-    ask_closed(u32s.0, u32s.1, u32s.2);
-    ask_closed(u64s.0, u64s.1, u64s.2);
-    ask_closed(usizes.0, usizes.1, usizes.2);
-    ask_closed(i64s.0, i64s.1, i64s.2);
-    ask_closed(u128s.0, u128s.1, u128s.2);
-    ask_closed(chars.0, chars.1, chars.2);
 }
