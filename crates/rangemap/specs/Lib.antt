@@ -20,4 +20,5 @@ pub use Rattle.rangemap_laws.specs.GapPartition
 pub use Rattle.rangemap_laws.specs.SmallLists
 pub use Rattle.rangemap_laws.specs.IteratorEnds
 pub use Rattle.rangemap_laws.specs.Runs
+pub use Rattle.rangemap_laws.specs.Refusals
 pub mod Joined

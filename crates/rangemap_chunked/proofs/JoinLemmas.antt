@@ -32,7 +32,7 @@ module _ {X : Type 0} where
 
     -- what is left when the pairs of the second chunk were moved, and it was taken out
     module _ (front_new back_new new : List (List X)) (to_is : front_new ≡ set front at (get_or front at [] ++ get_or back 0 [])) (from_is : back_new ≡ set back 0 [])
-        (new_is : new ≡ take (at + 1) (take all (front_new ++ back_new ++ rest)) ++ drop (at + 1 + 1) (take all (front_new ++ back_new ++ rest))) where
+        (new_is : new ≡ take (at + 1) (take all (front_new ++ back_new ++ rest)) ++ drop (at + 2) (take all (front_new ++ back_new ++ rest))) where
       abbrev both : List X
       both = get_or chunks at [] ++ whole (take 1 (drop (at + 1) chunks))
 
@@ -52,7 +52,7 @@ module _ {X : Type 0} where
       back_new_length : length back_new ≡ length back
       back_new_length = ap length from_is ∙ length-set back 0 []
 
-      pub joined_length : length new + 1 ≡ length (take all (front_new ++ back_new ++ rest)) → length new + 1 ≡ length chunks
+      pub joined_length : length new + (at + 2) ≡ length (take all (front_new ++ back_new ++ rest)) + (at + 1) → length new + 1 ≡ length chunks
       joined_length fewer =
           let halves = ap length (halves_are front_new back_new front_new_length back_new_length) in
           let sum = length-append front_new back_new in
@@ -71,7 +71,8 @@ module _ {X : Type 0} where
       joined =
           let halves = halves_are front_new back_new front_new_length back_new_length in
           let parts = cut front_new back_new (at + 1) (front_new_length ∙ front_length) in
-          new_is ∙ (λ i. take (at + 1) (halves i) ++ drop (at + 1 + 1) (halves i)) ∙ (λ i. parts.0 i ++ parts.1 1 i) ∙ (λ i. front_new_is i ++ left_behind i)
+          let next : at + 2 ≡ at + 1 + 1 = omega arith in
+          new_is ∙ (λ i. take (at + 1) (halves i) ++ drop (next i) (halves i)) ∙ (λ i. parts.0 i ++ parts.1 1 i) ∙ (λ i. front_new_is i ++ left_behind i)
 
       set_last : (ps : List (List X)) (n : ℕ) (a : List X) → n < length ps → set (take (suc n) ps) n a ≡ take n ps ++ a ∷ []
       set_last [] n a h = absurd (omega arith)

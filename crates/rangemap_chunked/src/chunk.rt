@@ -18,6 +18,9 @@ use std::alloc::{AllocError, Allocator};
 use std::marker::Model;
 use std::vec;
 
+// The fewest pairs that a chunk keeps room for when it gives room back.
+const LEAST: usize = 32;
+
 /// Pairs of a range and a value in one vector.
 #[derive(Drop)]
 pub struct Chunk<R, V, A: Allocator> {
@@ -115,15 +118,15 @@ impl<R, V, A: Allocator> Chunk<R, V, A> {
     }
 
     /// Shrinks the room where at most half of it, and one pair, is used, as after a growth, which doubles
-    /// it, or after removals. What stays is room for a third more pairs than there are, within `least` and
-    /// `most`, and for those that there are. A refusal leaves all room.
-    pub fn shrink_to(&mut self, least: usize, most: usize)
+    /// it, or after removals. What stays is room for a third more pairs than there are, within `LEAST` and
+    /// `most`, and for those that there are. Room for no more than `LEAST` stays, and a refusal leaves all.
+    pub fn give_room_back(&mut self, most: usize)
         ensures { self.new ≡ self.old }
     {
         let room = self.pairs.capacity();
         let len = self.pairs.len();
-        if least < room && len <= room / 2 + 1 {
-            self.pairs.shrink_to((len + len / 3).min(most).max(least));
+        if LEAST < room && len <= room / 2 + 1 {
+            self.pairs.shrink_to((len + len / 3).min(most).max(LEAST));
         }
     }
 }

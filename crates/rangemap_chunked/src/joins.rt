@@ -6,15 +6,6 @@ use crate::chunk::Chunk;
 use crate::moves::insert_reserved;
 use std::alloc::{AllocError, Allocator};
 
-// Takes a chunk out.
-fn take_out<R: Drop, V: Drop, A: Allocator>(chunks: &mut Vec<Chunk<R, V, A>, A>, at: usize)
-    requires { at < length chunks.old.items }
-    ensures items { chunks.new.items ≡ take at chunks.old.items ++ drop (at + 1) chunks.old.items }
-    ensures len { length chunks.new.items + 1 ≡ length chunks.old.items }
-{
-    let _chunk = chunks.remove(at);
-}
-
 // Moves the pairs of the first chunk of one slice into a chunk of another.
 fn move_first<R: Drop, V: Drop, A: Allocator>(
     from: &mut [Chunk<R, V, A>],
@@ -39,15 +30,12 @@ fn take_out_between<R: Drop, V: Drop, A: Allocator>(
     requires order { from ≤ to }
     requires in_bounds { to ≤ length chunks.old.items }
     ensures items { chunks.new.items ≡ take from chunks.old.items ++ drop to chunks.old.items }
+    ensures len { length chunks.new.items + to ≡ length chunks.old.items + from }
 {
     let _chunks = chunks.drain(from..to);
 }
 
-// The fewest pairs that a chunk keeps room for when it gives room back.
-const LEAST: usize = 32;
-
-/// Gives back the memory that a chunk does not use, as `Chunk::shrink_to` says: what stays is room for up
-/// to `most` pairs, or for those that there are. A chunk with room for no more than `LEAST` keeps it.
+/// Has a chunk give back the memory that it does not use, as `Chunk::give_room_back` says.
 pub fn shrink_at<R: Drop, V: Drop, A: Allocator>(
     chunks: &mut Vec<Chunk<R, V, A>, A>,
     at: usize,
@@ -56,13 +44,7 @@ pub fn shrink_at<R: Drop, V: Drop, A: Allocator>(
     requires { at < length chunks.old.items }
     ensures { chunks.new.items ≡ chunks.old.items }
 {
-    chunks[at].shrink_to(LEAST, most);
-}
-
-// How many pairs a chunk has before it is cut in two, at most: an insert into a full one that cuts a
-// stored range adds two.
-fn most_pairs<const N: usize>() -> usize {
-    N.saturating_add(2)
+    chunks[at].give_room_back(most);
 }
 
 /// Drops the chunks from `from` up to `last`, and that one, too, where it is empty.
@@ -139,14 +121,15 @@ pub fn settle<R: Drop, V: Drop, A: Allocator + Clone, const N: usize>(
 {
     let chunk = &chunks[at];
     if chunk.len() == 0 {
-        take_out(chunks, at);
+        take_out_between(chunks, at, at + 1);
         return;
     }
     if !is_resized {
         return;
     }
     split::<R, V, A, N>(chunks, at);
-    shrink_at(chunks, at, most_pairs::<N>());
+    // An insert into a full chunk that cuts a stored range adds two pairs before the chunk is cut.
+    shrink_at(chunks, at, N.saturating_add(2));
     // First with the one before: so no pair is moved into a neighbour twice.
     let at = if 0 < at && join_small::<R, V, A, N>(chunks, at - 1) {
         at - 1
@@ -195,6 +178,6 @@ fn join_next<R: Drop, V: Drop, A: Allocator>(
 {
     let (front, back) = chunks.split_at_mut(at + 1);
     move_first(back, front, at)?;
-    take_out(chunks, at + 1);
+    take_out_between(chunks, at + 1, at + 2);
     Ok(())
 }

@@ -1,2 +1,3 @@
 mod MeetLemmas
 pub mod ReplayLemmas
+mod NothingLemmas

@@ -1,6 +1,12 @@
 -- What calls on a list of maps make of the functions that these stand for.
-use Rattle.std.proofs.Common.{arith, ◌≡◌, ℕ, ◌<◌, ◌≤◌, Bool, true, false, List, [], ◌∷◌, ◌++◌, length, get_or, set, Option, Some, Result, Ok, Err, IfOk, OnOk, OnErr, IsOk, is_ok, refl, subst, sym, ap, ◌∙◌, true≢false}
+use Rattle.std.proofs.Common.{arith, ◌≡◌, ℕ, ◌<◌, ◌≤◌, Bool, true, false, List, [], ◌∷◌, ◌++◌, length, map, get_or, set, Option, None, Some, inl, inr, Result, Ok, Err, IfOk, OnOk, OnErr, IsOk, is_ok, refl, subst, sym, ap, ◌∙◌, true≢false}
+use Rattle.std.proofs.IntoIterSteps.{All-taken}
 use Rattle.std.specs.Cmp.{IsEquivalence}
+use Rattle.std.specs.Iterator.{Yields}
+use Rattle.std.specs.Iterator.Adapters.{zip_first, zip_second, zip_steps}
+use Rattle.std.specs.Vec.Iter.{into_iter_items, into_iter_len, into_iter_steps}
+use Rattle.std.specs.declared.iter.Zip.{Zip}
+use Rattle.std.specs.declared.vec.IntoIter.{IntoIter}
 use Rattle.std.specs.List.{slice_get}
 use Rattle.std.specs.Option.{unwrap_or}
 use Rattle.std.specs.declared.alloc.AllocError.{AllocError}
@@ -21,6 +27,29 @@ Run-last step old mid new [] [] call answer r s = (new, subst (λ fs. step fs ca
 Run-last step old mid new [] (a ∷ answers) call answer r s = absurd r
 Run-last step old mid new (c ∷ calls) [] call answer r s = absurd r
 Run-last step old mid new (c ∷ calls) (a ∷ answers) call answer r s = (r.0, r.1, Run-last step r.0 mid new calls answers call answer r.2 s)
+
+-- of two vectors of one length, what was taken of both is all of the first
+module _ (C X A B : Type 0) where
+  abbrev Both : Type 0
+  Both = Zip (IntoIter C A) (IntoIter X B)
+
+  abbrev takes : Both → Option (C × X) → Both → Type 0
+  takes = zip_steps into_iter_steps into_iter_steps
+
+  of_first : (s : Both) (xs : List (C × X)) (t : Both) → Yields takes s xs t → Yields into_iter_steps (zip_first s) (map (λ x. x.0) xs) (zip_first t)
+  of_first s [] t ran = ap zip_first ran
+  of_first s (x ∷ xs) t ran = (zip_first ran.0, ran.1.0, of_first ran.0 xs t ran.2)
+
+  as_many : (s : Both) (xs : List (C × X)) (t : Both) → Yields takes s xs t → into_iter_len (zip_first s) ≡ into_iter_len (zip_second s) → into_iter_len (zip_first t) ≡ into_iter_len (zip_second t)
+  as_many s [] t ran same = subst (λ (u : Both). into_iter_len (zip_first u) ≡ into_iter_len (zip_second u)) ran same
+  as_many s (x ∷ xs) t ran same = as_many ran.0 xs t ran.2 (omega (arith, ran.1.0.1, ran.1.1.1, same))
+
+  pub all_of_first : (s : Both) (xs : List (C × X)) (t u : Both) → into_iter_len (zip_first s) ≡ into_iter_len (zip_second s) → Yields takes s xs t → takes t None u → map (λ x. x.0) xs ≡ into_iter_items (zip_first s)
+  all_of_first s xs t u same ran ended = All-taken (zip_first s) (map (λ x. x.0) xs) (zip_first t, (zip_first t, of_first s xs t ran, (at_end ended, at_end ended)))
+    where
+      at_end : takes t None u → into_iter_len (zip_first t) ≡ 0
+      at_end (inl w) = w.1.0
+      at_end (inr w) = as_many s xs t ran same ∙ w.1.0
 
 -- what calls make of the functions, from what each makes of the maps
 module _ {K X V M C : Type 0} (k : RangeKind K X) (eq : V → V → Bool) (pairs : M → List (X × V)) (step : List (K → Option V) → C → Bool → List (K → Option V) → Type 0) where

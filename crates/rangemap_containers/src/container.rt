@@ -156,7 +156,8 @@ pub trait Container: PartialEq + Drop {
     ///
     /// # Errors
     ///
-    /// A clone, or the growth of `out`, was refused: then `out` is as it was.
+    /// A clone, or the growth of `out`, was refused: then `out` is as it was. Where there is nothing to
+    /// append, the call takes no memory, succeeds and changes nothing.
     fn append_all<B: Allocator>(
         &self,
         out: &mut Vec<(Self::Range, Self::Value), B>,
@@ -164,7 +165,8 @@ pub trait Container: PartialEq + Drop {
         requires faithful_keys { KeysCloneFaithfully Self.Range.Key.is_clone Self.Range.Key.cmp }
         requires faithful_values { ValuesCloneFaithfully Self.Value.is_clone Self.Value.eq }
         ensures ok { OnOk result (Appends Self.Kind.kind Self.Value.eq (pairs self.now) out.old.items out.new.items) }
-        ensures err { OnErr result (out.new.items ≡ out.old.items) };
+        ensures err { OnErr result (out.new.items ≡ out.old.items) }
+        ensures nothing { pairs self.now ≡ [] → IsOk result × (out.new.items ≡ out.old.items) };
 
     /// Appends clones of the pairs that overlap `range`, in order. Nothing is asked of `range`. It
     /// takes *O*(log *n* + *k*), with *k* pairs appended.
@@ -184,7 +186,8 @@ pub trait Container: PartialEq + Drop {
         requires faithful_keys { KeysCloneFaithfully Self.Range.Key.is_clone Self.Range.Key.cmp }
         requires faithful_values { ValuesCloneFaithfully Self.Value.is_clone Self.Value.eq }
         ensures ok { OnOk result (Appends Self.Kind.kind Self.Value.eq (overlapped Self.Kind.kind (pairs self.now) range.now) out.old.items out.new.items) }
-        ensures err { OnErr result (out.new.items ≡ out.old.items) };
+        ensures err { OnErr result (out.new.items ≡ out.old.items) }
+        ensures nothing { overlapped Self.Kind.kind (pairs self.now) range.now ≡ [] → IsOk result × (out.new.items ≡ out.old.items) };
 
     /// Appends the parts of `outer_range` that no stored range covers, in order. Nothing is asked
     /// of `outer_range`. It takes *O*(log *n* + *k*), with *k* stored ranges that it overlaps.
@@ -203,7 +206,8 @@ pub trait Container: PartialEq + Drop {
     ) -> Result<(), AllocError>
         requires faithful_keys { KeysCloneFaithfully Self.Range.Key.is_clone Self.Range.Key.cmp }
         ensures ok { OnOk result (AppendsGaps Self.Kind.kind (map (λ pair. pair.0) (pairs self.now)) outer_range.now out.old.items out.new.items) }
-        ensures err { OnErr result (out.new.items ≡ out.old.items) };
+        ensures err { OnErr result (out.new.items ≡ out.old.items) }
+        ensures nothing { AreGaps Self.Kind.kind (map (λ pair. pair.0) (pairs self.now)) outer_range.now [] → IsOk result × (out.new.items ≡ out.old.items) };
 
     /// Containers are equal where their pairs are.
     ghost equal: { (left right : Self) → Self.eq left right ≡ same_pairs Self.Kind.kind Self.Value.eq (pairs left) (pairs right) };
@@ -219,14 +223,16 @@ pub trait Container: PartialEq + Drop {
 ///
 /// # Errors
 ///
-/// The memory of the vector, or a clone of a key, was refused.
+/// The memory of the vector, or a clone of a key, was refused. Where there is no gap, the call takes no
+/// memory and succeeds.
 pub fn collect_gaps<M: Container, B: Allocator>(
     alloc: B,
     stored: &M,
     outer_range: &M::Range,
 ) -> Result<Vec<M::Range, B>, AllocError>
     requires { KeysCloneFaithfully M.Range.Key.is_clone M.Range.Key.cmp }
-    ensures { IfOk result (λ gaps. AreGaps M.Kind.kind (map (λ pair. pair.0) (M.pairs stored.now)) outer_range.now gaps.items) }
+    ensures ok { IfOk result (λ gaps. AreGaps M.Kind.kind (map (λ pair. pair.0) (M.pairs stored.now)) outer_range.now gaps.items) }
+    ensures nothing { AreGaps M.Kind.kind (map (λ pair. pair.0) (M.pairs stored.now)) outer_range.now [] → IsOk result }
 {
     let mut gaps = Vec::new(alloc);
     stored.append_gaps(outer_range, &mut gaps)?;

@@ -100,7 +100,7 @@ where
 
 // Makes the calls, for which there is room, with an allocator for each.
 fn make_all<M: Container, C: CallOn<M>>(
-    mut allocators: Vec<M::Alloc, M::Alloc>,
+    allocators: Vec<M::Alloc, M::Alloc>,
     maps: &mut Vec<M, M::Alloc>,
     calls: Vec<C, M::Alloc>,
     answers: &mut Vec<bool, M::Alloc>,
@@ -114,11 +114,7 @@ fn make_all<M: Container, C: CallOn<M>>(
     requires faithful_values { ValuesCloneFaithfully M.Value.is_clone M.Value.eq }
     ensures { Run (Makes M.Kind.kind M.Value.eq M.pairs C.step) maps.old.items calls.items answers.new.items maps.new.items }
 {
-    for call in calls {
-        let accepted = match allocators.pop() {
-            Some(alloc) => call.make(alloc, maps),
-            None => unreachable!(),
-        };
-        answers.push_reserved(accepted);
+    for (call, alloc) in calls.into_iter().zip(allocators) {
+        answers.push_reserved(call.make(alloc, maps));
     }
 }

@@ -12,6 +12,7 @@ use Rattle.rangemap_core.specs.engine.ClosedPlaces.{After, after_le, after_le_fr
 use Rattle.rangemap_core.specs.engine.Endpoints.{EndpointOf, AtStart, AtEnd, IsAsked, IsAskedAt, is_before}
 use Rattle.rangemap_core.specs.engine.ClosedEndpoints.{closed_placed, closed_first, closed_last, closed_part}
 use Rattle.rangemap_core.specs.Touch.{IsTouch}
+use Rattle.rangemap_core.specs.declared.std_ext.Touch.{Touch}
 use Rattle.rangemap_core.specs.declared.std_ext.Touch.TheVariants.{Apart, Touching, NotBefore}
 
 module _ {K : Type 0} (is_key : K → Type 0) (cmp : K → K → Ordering) (o : IsTotalOrder cmp) (after before : K → Option K)
@@ -52,7 +53,7 @@ module _ {K : Type 0} (is_key : K → Type 0) (cmp : K → K → Ordering) (o : 
     next : After is_key cmp o (range_inclusive_end r) (after (range_inclusive_end r))
     next = follows (range_inclusive_end r) a.end_is_key
 
-    pub apart_is_before : IsTouch (closed is_key cmp) r s Apart → true ≡ is_lt ends_at
+    apart_is_before : IsTouch (closed is_key cmp) r s Apart → true ≡ is_lt ends_at
     apart_is_before h = go ends_at refl (after_le is_key cmp o (range_inclusive_end r) (range_inclusive_start s) b.start_is_key h.0 (after (range_inclusive_end r)) next)
       where
         go : (t : Ordering) → ends_at ≡ t → is_le t ≡ true → true ≡ is_lt t
@@ -60,16 +61,29 @@ module _ {K : Type 0} (is_key : K → Type 0) (cmp : K → K → Ordering) (o : 
         go Equal e l = absurd (h.1 (h.0, tied_touches is_key cmp o (range_inclusive_end r) (range_inclusive_start s) (after (range_inclusive_end r)) next e))
         go Greater e l = absurd (true≢false (sym l))
 
-    pub touching_is_not_before : IsTouch (closed is_key cmp) r s Touching → false ≡ is_lt ends_at
+    touching_is_not_before : IsTouch (closed is_key cmp) r s Touching → false ≡ is_lt ends_at
     touching_is_not_before h = sym (ap is_lt (touches_tied is_key cmp o (range_inclusive_end r) (range_inclusive_start s) b.start_is_key (after (range_inclusive_end r)) next h.1.0 h.1.1))
 
-    pub behind_is_not_before : IsTouch (closed is_key cmp) r s NotBefore → false ≡ is_lt ends_at
+    behind_is_not_before : IsTouch (closed is_key cmp) r s NotBefore → false ≡ is_lt ends_at
     behind_is_not_before h = go ends_at refl
       where
         go : (t : Ordering) → ends_at ≡ t → false ≡ is_lt t
         go Less e = absurd (h (after_le_from is_key cmp o (range_inclusive_end r) (range_inclusive_start s) (after (range_inclusive_end r)) next (ap is_le e)))
         go Equal e = refl
         go Greater e = refl
+
+    told_otherwise : (touch : Touch) → IsTouch (closed is_key cmp) r s touch → ¬ (touch ≡ Apart) → false ≡ is_lt ends_at
+    told_otherwise Apart h other = absurd (other refl)
+    told_otherwise Touching h other = touching_is_not_before h
+    told_otherwise NotBefore h other = behind_is_not_before h
+
+  pub end_to_start : (from to : EndpointOf (RangeInclusive K)) (r s : RangeInclusive K) (touch : Touch) → from ≡ AtEnd r → to ≡ AtStart s → IsKeyed from → IsKeyed to → IsTouch (closed is_key cmp) r s touch
+      → (touch ≡ Apart → true ≡ is_before (closed is_key cmp) (closed_end_place after) from to) × (¬ (touch ≡ Apart) → false ≡ is_before (closed is_key cmp) (closed_end_place after) from to)
+  end_to_start from to r s touch h i a b told =
+      let r-asked = subst IsKeyed h a in
+      let s-asked = subst IsKeyed i b in
+      let back = sym (ap (λ f. is_before (closed is_key cmp) (closed_end_place after) f to) h ∙ ap (is_before (closed is_key cmp) (closed_end_place after) (AtEnd r)) i) in
+      (λ e. apart_is_before r s r-asked s-asked (subst (IsTouch (closed is_key cmp) r s) e told) ∙ back, λ other. told_otherwise r s r-asked s-asked touch told other ∙ back)
 
   -- a range with the ends of a part
   pub same_part : (from to : EndpointOf (RangeInclusive K)) (range : RangeInclusive K) → IsKeyed from → IsKeyed to → is_part from to

@@ -1,16 +1,16 @@
 //! Closed ranges as a kind.
 //!
 //! A step is asked of a key only where a greater or smaller key was seen, which is a condition of
-//! the step: so nothing here steps past the last key of a type. Whether two ranges touch is told by
-//! `touch_test_inclusive` of `std_ext`, which stands beside the test of `a..b`.
+//! the step: so nothing here steps past the last key of a type.
 ghost use Rattle.std.specs.Prelude.{◌≡◌};
 ghost use Rattle.rangemap_core.specs.engine.Endpoints.{AtEnd, AtStart, IsAsked, IsAskedAt, endpoint_of, is_before};
 ghost use Rattle.rangemap_core.specs.engine.ClosedPlaces.{closed_end_place};
 ghost use Rattle.rangemap_core.specs.Ranges.{closed};
 
 use crate::kind::{Endpoint, Kind};
-use crate::std_ext::{StepFns, Touch, touch_test_inclusive};
+use crate::std_ext::{StepFns, Touch};
 use std::alloc::AllocError;
+use std::cmp::Ordering;
 use std::marker::PhantomData;
 use std::ops::RangeInclusive;
 
@@ -59,8 +59,23 @@ impl<K: Ord + Clone, StepFnsT: StepFns<K>> Kind<RangeInclusive<K>> for Closed<St
         StepFnsT::known(key)
     }
 
+    /// Returns how the first range lies relative to the second. They touch where the first one's end is
+    /// less than the second one's start and no key lies strictly between.
     fn touch_test(first: &RangeInclusive<K>, second: &RangeInclusive<K>) -> Touch {
-        touch_test_inclusive::<K, StepFnsT>(first, second)
+        let end = first.end();
+        let start = second.start();
+        StepFnsT::known(end);
+        StepFnsT::known(start);
+        match end.cmp(start) {
+            Ordering::Less => {
+                if StepFnsT::add_one(end).cmp(start).is_lt() {
+                    Touch::Apart
+                } else {
+                    Touch::Touching
+                }
+            }
+            _ => Touch::NotBefore,
+        }
     }
 
     fn is_before(from: Endpoint<'_, RangeInclusive<K>>, to: Endpoint<'_, RangeInclusive<K>>) -> bool
@@ -71,7 +86,9 @@ impl<K: Ord + Clone, StepFnsT: StepFns<K>> Kind<RangeInclusive<K>> for Closed<St
         match (from, to) {
             (Endpoint::Start(from), Endpoint::Start(to)) => from.start().cmp(to.start()).is_lt(),
             (Endpoint::Start(from), Endpoint::End(to)) => from.start().cmp(to.end()).is_le(),
-            (Endpoint::End(from), Endpoint::Start(to)) => { is_apart::<K, StepFnsT>(from, to) }
+            (Endpoint::End(from), Endpoint::Start(to)) => {
+                matches!(Self::touch_test(from, to), Touch::Apart)
+            }
             (Endpoint::End(from), Endpoint::End(to)) => from.end().cmp(to.end()).is_lt(),
         }
     }
@@ -98,22 +115,6 @@ impl<K: Ord + Clone, StepFnsT: StepFns<K>> Kind<RangeInclusive<K>> for Closed<St
         StepFnsT::known(&start);
         StepFnsT::known(&end);
         Ok(RangeInclusive::new(start, end))
-    }
-}
-
-// Whether the first range lies wholly before the second, with a key between.
-fn is_apart<K: Ord + Clone, StepFnsT: StepFns<K>>(
-    first: &RangeInclusive<K>,
-    second: &RangeInclusive<K>,
-) -> bool
-    requires first { IsAsked (closed StepFnsT.is_key K.cmp) first.now }
-    requires second { IsAsked (closed StepFnsT.is_key K.cmp) second.now }
-    ensures { result ≡ is_before (closed StepFnsT.is_key K.cmp) (closed_end_place StepFnsT.after) (AtEnd first.now) (AtStart second.now) }
-{
-    match touch_test_inclusive::<K, StepFnsT>(first, second) {
-        Touch::Apart => true,
-        Touch::Touching => false,
-        Touch::NotBefore => false,
     }
 }
 

@@ -1,18 +1,19 @@
 //! The parts of a range that no stored range covers, whatever keeps the ranges.
-ghost use Rattle.std.specs.Prelude.{◌≡◌, ◌≢◌, ◌++◌, [], false, true, IfOk, IfSome, IsOk, List, MatchOption, None as NoneWord, Ok as OkWord, OnErr, OnOk, length, map};
+ghost use Rattle.std.specs.Prelude.{◌≡◌, ◌≢◌, ◌++◌, [], Bool, false, true, IfOk, IfSome, IsOk, List, MatchOption, None as NoneWord, Ok as OkWord, OnErr, OnOk, length, map};
 ghost use Rattle.std.specs.Iterator.{Drains, IsFinite, UpTo, at_most};
 ghost use Rattle.std.specs.Iterator.SizeHint.{IsWithinCount};
 ghost use Rattle.std.specs.Map.Iter.{TakesFirst};
 ghost use Rattle.std.specs.Option.{option_map, option_to_list};
 ghost use Rattle.rangemap_core.specs.Clones.{KeysCloneFaithfully, KeysCloneInfallibly};
-ghost use Rattle.rangemap_core.specs.engine.Endpoints.{AtStart, endpoint_of, gaps_from, is_before};
-ghost use Rattle.rangemap_core.specs.MadeRanges.{GivesRange, IsSame, TakesRange};
-ghost use Rattle.rangemap_core.specs.Ranges.{AreGaps};
+ghost use Rattle.rangemap_core.specs.engine.Endpoints.{AtStart, IsAsked, gaps_from};
+ghost use Rattle.rangemap_core.specs.MadeRanges.{GivesRange, TakesRange};
+ghost use Rattle.rangemap_core.specs.NonEmptyPairs.{GivesNothing};
+ghost use Rattle.rangemap_core.specs.Ranges.{AreGaps, IsCanonical, overlapped};
 ghost use Rattle.rangemap_core.specs.Shown.{shown};
 
 use crate::cursor::{Cursor, LentCursor};
 use crate::key_range::KeyRange;
-use crate::kind::{Endpoint, Kind, known_ends};
+use crate::kind::{Endpoint, Kind, known_ends, part_between};
 use crate::store::Lends;
 use std::alloc::{AllocError, Allocator};
 use std::iter::Iterator;
@@ -45,7 +46,8 @@ impl<'a, Q: Kind<R>, R: KeyRange, C: Cursor<Range = R>> Model for Gaps<'a, Q, R,
 impl<'a, Q: Kind<R>, R: KeyRange + 'a, C: LentCursor<'a, R, GivenValue: Drop>> Gaps<'a, Q, R, C> {
     /// Returns the gaps that pairs leave in the range, where they are those that overlap it.
     pub fn over(pairs: C, outer_range: &'a R) -> Self
-        ensures { result ≡ gaps_from Q.kind Q.end_place Q.part_of (AtStart outer_range.now) outer_range.now (C.left pairs) }
+        ensures items { result ≡ gaps_from Q.kind Q.end_place Q.part_of (AtStart outer_range.now) outer_range.now (C.left pairs) }
+        ensures gaps { (eq : C.Value → C.Value → Bool) → (list : List (R × C.Value)) → IsCanonical Q.kind eq list → IsAsked Q.kind outer_range.now → C.left pairs ≡ overlapped Q.kind list outer_range.now → AreGaps Q.kind (map (λ pair. pair.0) list) outer_range.now result }
     {
         Gaps {
             from: Endpoint::Start(outer_range),
@@ -151,7 +153,8 @@ where
 /// # Errors
 ///
 /// A clone of a key, or the growth of the vector, was refused: then the vector is as it was. What was
-/// put there before the refusal is taken off again.
+/// put there before the refusal is taken off again. Where there is no gap, the call takes no memory,
+/// succeeds and changes nothing.
 pub fn append_gaps<
     'a,
     Q: Kind<R>,
@@ -162,6 +165,7 @@ pub fn append_gaps<
     requires { KeysCloneFaithfully R.Key.is_clone R.Key.cmp }
     ensures ok { OnOk result ((gaps : List _) × Drains (GivesRange Q.kind) (gaps_from Q.kind Q.end_place Q.part_of (AtStart outer_range.now) outer_range.now (C.left pairs)) (map OkWord gaps) × (out.new.items ≡ out.old.items ++ gaps)) }
     ensures err { OnErr result (out.new.items ≡ out.old.items) }
+    ensures nothing { gaps_from Q.kind Q.end_place Q.part_of (AtStart outer_range.now) outer_range.now (C.left pairs) ≡ [] → IsOk result × (out.new.items ≡ out.old.items) }
 {
     append_items(Gaps::<Q, R, C>::over(pairs, outer_range), out)
 }
@@ -176,6 +180,7 @@ fn append_items<R: Drop, I: Iterator<Item = Result<R, AllocError>> + Drop, B: Al
     requires ends { IsFinite (I.remaining gaps) }
     ensures ok { OnOk result ((items : List _) × Drains I.next_gives gaps (map OkWord items) × (out.new.items ≡ out.old.items ++ items)) }
     ensures err { OnErr result (out.new.items ≡ out.old.items) }
+    ensures nothing { GivesNothing I.next_gives gaps → IsOk result × (out.new.items ≡ out.old.items) }
 {
     let start = out.len();
     for gap in gaps {
@@ -203,21 +208,4 @@ fn take_next<C: Cursor>(
         return Some(next);
     }
     pairs.take_first()
-}
-
-// The part from one endpoint up to another, if it has a key.
-fn part_between<Q: Kind<R>, R: KeyRange>(
-    from: Endpoint<'_, R>,
-    to: Endpoint<'_, R>,
-) -> Result<Option<R>, AllocError>
-    requires { KeysCloneFaithfully R.Key.is_clone R.Key.cmp }
-    ensures ok { IfOk result (λ gap. MatchOption gap (is_before Q.kind Q.end_place (endpoint_of from.entry) (endpoint_of to.entry) ≡ false) (λ r. (is_before Q.kind Q.end_place (endpoint_of from.entry) (endpoint_of to.entry) ≡ true) × IsSame Q.kind (Q.part_of (endpoint_of from.entry) (endpoint_of to.entry)) r)) }
-    ensures err { OnErr result (is_before Q.kind Q.end_place (endpoint_of from.entry) (endpoint_of to.entry) ≡ true) }
-    ensures succeeds { KeysCloneInfallibly R.Key.is_infallible → IsOk result }
-{
-    if Q::is_before(from, to) {
-        Ok(Some(Q::part(from, to)?))
-    } else {
-        Ok(None)
-    }
 }

@@ -4,8 +4,9 @@ ghost use Rattle.rangemap_core.specs.engine.Endpoints.{endpoint_of};
 ghost use Rattle.rangemap_core.specs.engine.EndpointKinds.{half_open_key};
 
 use crate::kind::{Endpoint, Kind};
-use crate::std_ext::{Touch, touch_test};
+use crate::std_ext::Touch;
 use std::alloc::AllocError;
+use std::cmp::Ordering;
 use std::ops::Range;
 
 /// The ranges `a..b`.
@@ -50,8 +51,14 @@ impl<K: Ord + Clone> Kind<Range<K>> for HalfOpen {
 
     fn known(key: &K) {}
 
+    /// Returns how the first range lies relative to the second. They touch where the first one's end
+    /// equals the second one's start.
     fn touch_test(first: &Range<K>, second: &Range<K>) -> Touch {
-        touch_test(first, second)
+        match first.end.cmp(&second.start) {
+            Ordering::Less => Touch::Apart,
+            Ordering::Equal => Touch::Touching,
+            Ordering::Greater => Touch::NotBefore,
+        }
     }
 
     fn is_before(from: Endpoint<'_, Range<K>>, to: Endpoint<'_, Range<K>>) -> bool

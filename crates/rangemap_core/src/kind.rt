@@ -1,5 +1,5 @@
 //! The kinds of range that a map may store.
-ghost use Rattle.std.specs.Prelude.{◌≡◌, List, false, true, Option as OptionOf, IfOk, IsOk};
+ghost use Rattle.std.specs.Prelude.{◌≡◌, List, false, true, Option as OptionOf, IfOk, IsOk, MatchOption, OnErr};
 ghost use Rattle.rangemap_core.specs.Clones.{KeysCloneFaithfully, KeysCloneInfallibly};
 ghost use Rattle.rangemap_core.specs.engine.Endpoints.{EndpointOf, IsAsked, IsPlaced, endpoint_of, is_before};
 ghost use Rattle.rangemap_core.specs.engine.Intervals.{IsInterval, ReadsAs};
@@ -110,4 +110,29 @@ pub fn known_ends<Q: Kind<R>, R: KeyRange>(range: &R)
 {
     Q::known(range.start());
     Q::known(range.end());
+}
+
+/// Returns the part from one endpoint up to another, made of clones, if it has a key.
+///
+/// # Requires
+///
+/// A clone of a key compares equal to its original.
+///
+/// # Errors
+///
+/// A clone was refused, which those of numbers, characters and references never are.
+pub fn part_between<Q: Kind<R>, R: KeyRange>(
+    from: Endpoint<'_, R>,
+    to: Endpoint<'_, R>,
+) -> Result<Option<R>, AllocError>
+    requires { KeysCloneFaithfully R.Key.is_clone R.Key.cmp }
+    ensures ok { IfOk result (λ part. MatchOption part (is_before Q.kind Q.end_place (endpoint_of from.entry) (endpoint_of to.entry) ≡ false) (λ r. (is_before Q.kind Q.end_place (endpoint_of from.entry) (endpoint_of to.entry) ≡ true) × IsSame Q.kind (Q.part_of (endpoint_of from.entry) (endpoint_of to.entry)) r)) }
+    ensures err { OnErr result (is_before Q.kind Q.end_place (endpoint_of from.entry) (endpoint_of to.entry) ≡ true) }
+    ensures succeeds { KeysCloneInfallibly R.Key.is_infallible → IsOk result }
+{
+    if Q::is_before(from, to) {
+        Ok(Some(Q::part(from, to)?))
+    } else {
+        Ok(None)
+    }
 }

@@ -44,6 +44,13 @@ impl<C: Cursor> PairIter<C> {
     {
         &self.cursor
     }
+
+    /// Returns what takes the pairs, by value.
+    pub fn into_cursor(self) -> C
+        ensures { C.left result ≡ self }
+    {
+        self.cursor
+    }
 }
 
 impl<C: Cursor> Iterator for PairIter<C> {

@@ -8,7 +8,7 @@ ghost use Rattle.rangemap_core.specs.engine.Shape.{shape_of};
 ghost use Rattle.rangemap_core.specs.engine.Stretch.{Every, IsCut};
 
 use crate::key_range::KeyRange;
-use crate::kind::{Endpoint, Kind};
+use crate::kind::{Endpoint, Kind, part_between};
 use std::alloc::AllocError;
 use std::cmp::Ordering;
 
@@ -70,9 +70,8 @@ pub fn piece<Q: Kind<R>, R: KeyRange, V: Eq + Clone>(
     ensures cut { IfOk result (IsCut (shape_of Q.kind Q.end_place V.eq) (place_of Q.kind Q.end_place (endpoint_of from.entry)) (place_of Q.kind Q.end_place (endpoint_of to.entry)) value.now) }
     ensures storable { IfOk result (λ piece. Every (λ a. IsStorable Q.kind a.0) (option_to_list piece)) }
 {
-    if !Q::is_before(from, to) {
+    let Some(range) = part_between::<Q, R>(from, to)? else {
         return Ok(None);
-    }
-    let range = Q::part(from, to)?;
+    };
     Ok(Some((range, value.clone()?)))
 }

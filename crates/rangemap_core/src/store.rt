@@ -8,7 +8,7 @@ ghost use Rattle.std.specs.Map.Iter.{deref_pair};
 ghost use Rattle.std.specs.Option.{option_map};
 ghost use Rattle.rangemap_core.specs.Appends.{AppendsGaps};
 ghost use Rattle.rangemap_core.specs.Clones.{KeysCloneFaithfully, ValuesCloneFaithfully};
-ghost use Rattle.rangemap_core.specs.Ranges.{IsCanonOf, IsCanonical, IsNewest, covering, erase, overlapped, override, same_pairs, value_at};
+ghost use Rattle.rangemap_core.specs.Ranges.{AreGaps, IsCanonOf, IsCanonical, IsNewest, covering, erase, overlapped, override, same_pairs, value_at};
 ghost use Rattle.rangemap_core.specs.Shown.{shown};
 
 use crate::cursor::{Cursor, LentCursor};
@@ -91,7 +91,8 @@ pub trait Store {
     ///
     /// # Errors
     ///
-    /// A clone of a key, or the growth of `out`, was refused: then `out` is as it was.
+    /// A clone of a key, or the growth of `out`, was refused: then `out` is as it was. Where there is no
+    /// gap, the call takes no memory, succeeds and changes nothing.
     fn append_gaps<B: Allocator>(
         &self,
         outer_range: &Self::Range,
@@ -99,7 +100,8 @@ pub trait Store {
     ) -> Result<(), AllocError>
         requires faithful_keys { KeysCloneFaithfully Self.Range.Key.is_clone Self.Range.Key.cmp }
         ensures ok { OnOk result (AppendsGaps Self.Kind.kind (map (λ pair. pair.0) (pairs self.now)) outer_range.now out.old.items out.new.items) }
-        ensures err { OnErr result (out.new.items ≡ out.old.items) };
+        ensures err { OnErr result (out.new.items ≡ out.old.items) }
+        ensures nothing { AreGaps Self.Kind.kind (map (λ pair. pair.0) (pairs self.now)) outer_range.now [] → IsOk result × (out.new.items ≡ out.old.items) };
 }
 
 /// A store that is made and changed.

@@ -18,7 +18,7 @@ use Rattle.rangemap_laws.specs.declared.commands.command.Answer.{Answer}
 use Rattle.rangemap_laws.specs.declared.commands.command.Answer.TheVariants as answer
 use Rattle.rangemap_laws.specs.declared.commands.command.Command.{Command}
 use Rattle.rangemap_laws.specs.declared.commands.command.Command.TheVariants.{Insert, Remove, Clear, Len, Get, GetKeyValue, All, Overlapping}
-use Rattle.rangemap_laws.specs.Runs.{IsAccepted, CommandStep, IsAllowed, IsSameAnswer, IsSameResult, Ran}
+use Rattle.rangemap_laws.specs.Runs.{IsAccepted, CommandStep, IsSameAnswer, IsSameResult, Ran}
 
 -- one more command
 pub Ran-last : {S C R : Type 0} (step : S → C → R → S → Type 0) (old mid new : S) (commands : List C) (answers : List R) (command : C) (given : R)
@@ -97,66 +97,67 @@ module _ {K X V : Type 0} (k : RangeKind K X) {end_place : X → Option K} {part
   of_alike : (f g : K → Option V) (new after : List (X × V)) → Alike k eq f g → IsCanonOf k eq f new → IsCanonOf k eq g after → AreEqual new after
   of_alike f g new after h n a = (n.canonical, a.canonical, canon_unique k p eq e f new after n (canon_along k e g f after (Alike-turned k e f g h) a))
 
-  module _ {A B : Type 0} where
+  -- where every value is a key, as of half-open ranges
+  module _ {A B : Type 0} (every : (x : K) → k.is_key x) where
     named : (given : Answer X V A) (other : Answer X V B) (a : Answer X V A) (b : Answer X V B) → given ≡ a → other ≡ b → IsSameAnswer k eq a b → IsSameAnswer k eq given other
     named given other a b g o same = subst (λ x. IsSameAnswer k eq x other) (sym g) (subst (λ y. IsSameAnswer k eq a y) (sym o) same)
 
     -- one command
-    accepted_alike : (command : Command K X V) (one other new after : List (X × V)) (given : Answer X V A) (reply : Answer X V B) → IsAllowed k command → AreEqual one other
+    accepted_alike : (command : Command K X V) (one other new after : List (X × V)) (given : Answer X V A) (reply : Answer X V B) → AreEqual one other
         → IsAccepted k eq one command given new → IsAccepted k eq other command reply after → IsSameAnswer k eq given reply × AreEqual new after
-    accepted_alike (Insert range value) one other new after given reply allowed h n a =
+    accepted_alike (Insert range value) one other new after given reply h n a =
         let before = alike_from_same k p eq e one other h.0 h.1 h.2 in (
           named given reply answer.Done answer.Done n.0 a.0 tt,
           of_alike (override k (value_at k one) range value) (override k (value_at k other) range value) new after (override-alike k e (value_at k one) (value_at k other) range range value value (λ x key. refl) (e.refl value) before) n.1 a.1,
         )
-    accepted_alike (Remove range) one other new after given reply allowed h n a =
+    accepted_alike (Remove range) one other new after given reply h n a =
         let before = alike_from_same k p eq e one other h.0 h.1 h.2 in (
           named given reply answer.Done answer.Done n.0 a.0 tt,
           of_alike (erase k (value_at k one) range) (erase k (value_at k other) range) new after (erase-alike k e (value_at k one) (value_at k other) range range (λ x key. refl) before) n.1 a.1,
         )
-    accepted_alike Clear one other new after given reply allowed h n a = (named given reply answer.Done answer.Done n.0 a.0 tt, unchanged [] [] new after (tt, tt, refl) n.1 a.1)
-    accepted_alike Len one other new after given reply allowed h n a = (
+    accepted_alike Clear one other new after given reply h n a = (named given reply answer.Done answer.Done n.0 a.0 tt, unchanged [] [] new after (tt, tt, refl) n.1 a.1)
+    accepted_alike Len one other new after given reply h n a = (
       named given reply (answer.Len (length one)) (answer.Len (length other)) n.0 a.0 (equal_numbers one other h.2),
       unchanged one other new after h n.1 a.1,
     )
-    accepted_alike (Get key) one other new after given reply allowed h n a = (
+    accepted_alike (Get key) one other new after given reply h n a = (
       named given reply (answer.Value n.0) (answer.Value a.0) n.1 a.1
-          (joined (options_equiv e) (value_at k one key) n.0 (value_at k other key) a.0 n.2 (alike_from_same k p eq e one other h.0 h.1 h.2 key allowed) a.2),
+          (joined (options_equiv e) (value_at k one key) n.0 (value_at k other key) a.0 n.2 (alike_from_same k p eq e one other h.0 h.1 h.2 key (every key)) a.2),
       unchanged one other new after h n.3 a.3,
     )
-    accepted_alike (GetKeyValue key) one other new after given reply allowed h n a = (
+    accepted_alike (GetKeyValue key) one other new after given reply h n a = (
       named given reply (answer.Pair n.0) (answer.Pair a.0) n.1 a.1
-          (joined (options_equiv pair_equiv) (covering k one key) n.0 (covering k other key) a.0 n.2 (same_covering key allowed one other h.0 h.1 h.2) a.2),
+          (joined (options_equiv pair_equiv) (covering k one key) n.0 (covering k other key) a.0 n.2 (same_covering key (every key) one other h.0 h.1 h.2) a.2),
       unchanged one other new after h n.4 a.4,
     )
-    accepted_alike All one other new after given reply allowed h n a = (
+    accepted_alike All one other new after given reply h n a = (
       named given reply (answer.Pairs n.0) (answer.Pairs a.0) n.1 a.1 (joined (same_pairs_equiv k p.total e) one n.0.items other a.0.items n.2 h.2 a.2),
       unchanged one other new after h n.4 a.4,
     )
-    accepted_alike (Overlapping query) one other new after given reply allowed h n a =
-        let ends_are_keys : IsAsked k query = record { start_is_key = allowed.0; end_is_key = allowed.1 } in (
+    accepted_alike (Overlapping query) one other new after given reply h n a =
+        let ends_are_keys : IsAsked k query = record { start_is_key = every (k.start query); end_is_key = every (k.end query) } in (
           named given reply (answer.Pairs n.0) (answer.Pairs a.0) n.1 a.1
               (joined (same_pairs_equiv k p.total e) (overlapped k one query) n.0.items (overlapped k other query) a.0.items n.2 (same_overlapped query ends_are_keys one other h.0 h.1 h.2) a.2),
           unchanged one other new after h n.4 a.4,
         )
 
     -- commands, one after another, all of which are accepted
-    pub run_alike : (commands : List (Command K X V)) (one other new after : List (X × V)) (answers : List (Result (Answer X V A) AllocError)) (replies : List (Result (Answer X V B) AllocError)) → AllByRecursion (IsAllowed k) commands
+    pub run_alike : (commands : List (Command K X V)) (one other new after : List (X × V)) (answers : List (Result (Answer X V A) AllocError)) (replies : List (Result (Answer X V B) AllocError))
         → IsCanonical k eq one → IsCanonical k eq other → same_pairs k eq one other ≡ true → Ran (CommandStep k eq) one commands answers new → Ran (CommandStep k eq) other commands replies after
         → AllByRecursion IsOk answers → AllByRecursion IsOk replies → AllZip (IsSameResult k eq) answers replies × (same_pairs k eq new after ≡ true)
-    run_alike commands one other new after answers replies allowed co ct same r s os ot = go commands one other answers replies allowed (co, ct, same) r s os ot
+    run_alike commands one other new after answers replies co ct same r s os ot = go commands one other answers replies (co, ct, same) r s os ot
       where
-        go : (commands : List (Command K X V)) (one other : List (X × V)) (answers : List (Result (Answer X V A) AllocError)) (replies : List (Result (Answer X V B) AllocError)) → AllByRecursion (IsAllowed k) commands
+        go : (commands : List (Command K X V)) (one other : List (X × V)) (answers : List (Result (Answer X V A) AllocError)) (replies : List (Result (Answer X V B) AllocError))
             → AreEqual one other → Ran (CommandStep k eq) one commands answers new → Ran (CommandStep k eq) other commands replies after
             → AllByRecursion IsOk answers → AllByRecursion IsOk replies → AllZip (IsSameResult k eq) answers replies × (same_pairs k eq new after ≡ true)
-        go [] one other [] [] allowed h r s os ot = (tt, (unchanged one other new after h r s).2)
-        go [] one other [] (b ∷ bs) allowed h r s os ot = absurd s
-        go [] one other (a ∷ gs) bs allowed h r s os ot = absurd r
-        go (c ∷ cs) one other [] bs allowed h r s os ot = absurd r
-        go (c ∷ cs) one other (a ∷ gs) [] allowed h r s os ot = absurd s
-        go (c ∷ cs) one other (Err x ∷ gs) (b ∷ bs) allowed h r s os ot = absurd (true≢false (sym os.0))
-        go (c ∷ cs) one other (Ok x ∷ gs) (Err y ∷ bs) allowed h r s os ot = absurd (true≢false (sym ot.0))
-        go (c ∷ cs) one other (Ok x ∷ gs) (Ok y ∷ bs) allowed h r s os ot =
-            let first = accepted_alike c one other r.0 s.0 x y allowed.0 h r.1 s.1 in
-            let rest = go cs r.0 s.0 gs bs allowed.1 first.1 r.2 s.2 os.1 ot.1 in
+        go [] one other [] [] h r s os ot = (tt, (unchanged one other new after h r s).2)
+        go [] one other [] (b ∷ bs) h r s os ot = absurd s
+        go [] one other (a ∷ gs) bs h r s os ot = absurd r
+        go (c ∷ cs) one other [] bs h r s os ot = absurd r
+        go (c ∷ cs) one other (a ∷ gs) [] h r s os ot = absurd s
+        go (c ∷ cs) one other (Err x ∷ gs) (b ∷ bs) h r s os ot = absurd (true≢false (sym os.0))
+        go (c ∷ cs) one other (Ok x ∷ gs) (Err y ∷ bs) h r s os ot = absurd (true≢false (sym ot.0))
+        go (c ∷ cs) one other (Ok x ∷ gs) (Ok y ∷ bs) h r s os ot =
+            let first = accepted_alike c one other r.0 s.0 x y h r.1 s.1 in
+            let rest = go cs r.0 s.0 gs bs first.1 r.2 s.2 os.1 ot.1 in
             ((first.0, rest.0), rest.1)

@@ -8,16 +8,11 @@ use Rattle.rangemap_laws.specs.declared.commands.command.Command.{Command}
 use Rattle.rangemap_laws.specs.declared.commands.command.Command.TheVariants.{Insert, Remove, Clear, Len, Get, GetKeyValue, All, Overlapping}
 use Rattle.rangemap_core.specs.Ranges.{RangeKind, AreStorable, IsCanonOf, IsStorable, covering, erase, overlapped, override, same_pair, same_pairs, value_at}
 
--- The range that a command changes is not empty. A key that it asks about is one, and so are the ends of a range that it asks about.
+-- The range that a command changes is not empty. Of one that only asks, nothing is asked.
 abbrev pub IsAllowed : {K X V : Type 0} → RangeKind K X → Command K X V → Type 0
 IsAllowed k (Insert range value) = k.IsNonEmpty range
 IsAllowed k (Remove range) = k.IsNonEmpty range
-IsAllowed k Clear = ⊤
-IsAllowed k Len = ⊤
-IsAllowed k (Get key) = k.is_key key
-IsAllowed k (GetKeyValue key) = k.is_key key
-IsAllowed k All = ⊤
-IsAllowed k (Overlapping query) = k.is_key (k.start query) × k.is_key (k.end query)
+IsAllowed k _ = ⊤
 
 module _ {K X V : Type 0} (k : RangeKind K X) (eq : V → V → Bool) where
   -- A command was accepted on a map of the pairs `old`, answered, and left the pairs `new`. What it asked for it answers up to

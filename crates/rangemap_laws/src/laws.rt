@@ -6,17 +6,18 @@
 //! is inserted or removed is empty, and clones are faithful, as for `insert`.
 //!
 //! A law holds where all of its calls are accepted. `Err(AllocError)` says that one was refused. A
-//! law of one call says that nothing changed then. A law of more leaves open what the containers
-//! hold; in its body the calls before the refused one were made.
+//! law of one call says that nothing changed then. A law of more says that each container is as it was,
+//! or as one of the calls that it got left it; in its body the calls before the refused one were made.
 //!
 //! A contract speaks of what is held, not of how often or in which order it was written. So a law
 //! can't tell one insert from two equal ones, nor the order of two inserts that share no key; that
 //! the calls are made, once and in their order, is read in the bodies.
-ghost use Rattle.std.specs.Prelude.{◌≡◌, ◌↔◌, ◌&&◌, true, false, not, is_some, map, IsTrue, IfOk, List, Some as SomeWord, None as NoneWord, OnErr, OnOk};
+ghost use Rattle.std.specs.Prelude.{◌≡◌, ◌↔◌, ◌&&◌, ◌∷◌, [], true, false, not, is_some, map, IsTrue, IfOk, IsOk, List, Some as SomeWord, None as NoneWord, OnErr, OnOk};
 ghost use Rattle.std.specs.Option.{option_eq};
 ghost use Rattle.rangemap_core.specs.Clones.{KeysCloneFaithfully, ValuesCloneFaithfully};
 ghost use Rattle.rangemap_laws.specs.GapPartition.{IsPartition};
-ghost use Rattle.rangemap_core.specs.Ranges.{Alike, AreGaps, IsCanonOf, IsCanonical, covering, erase, override, same_pairs, value_at};
+ghost use Rattle.rangemap_laws.specs.Refusals.{IsOneOfOrOld};
+ghost use Rattle.rangemap_core.specs.Ranges.{Alike, AreGaps, IsCanonOf, IsCanonical, covering, erase, overlapped, override, same_pairs, value_at};
 
 mod clones;
 pub mod comparisons;
@@ -88,6 +89,7 @@ pub fn remove_changes_its_range_alone<M: Container>(
     ensures within { OnOk result ((x : M.Range.Key) → M.Kind.kind.is_key x → M.Kind.kind.holds range x ≡ true → value_at M.Kind.kind (M.pairs map.new) x ≡ NoneWord) }
     ensures elsewhere { OnOk result ((x : M.Range.Key) → M.Kind.kind.is_key x → M.Kind.kind.holds range x ≡ false → option_eq M.Value.eq (value_at M.Kind.kind (M.pairs map.new) x) (value_at M.Kind.kind (M.pairs map.old) x) ≡ true) }
     ensures err { OnErr result (M.pairs map.new ≡ M.pairs map.old) }
+    ensures meets_nothing { overlapped M.Kind.kind (M.pairs map.old) range ≡ [] → IsOk result × (M.pairs map.new ≡ M.pairs map.old) }
 {
     map.remove(range)
 }
@@ -107,6 +109,8 @@ pub fn insert_twice_equals_once<M: Container>(
     ensures once { OnOk result (IsCanonOf M.Kind.kind M.Value.eq (override M.Kind.kind (value_at M.Kind.kind (M.pairs once.old)) range.now value.now) (M.pairs once.new)) }
     ensures twice { OnOk result (IsCanonOf M.Kind.kind M.Value.eq (override M.Kind.kind (override M.Kind.kind (value_at M.Kind.kind (M.pairs twice.old)) range.now value.now) range.now value.now) (M.pairs twice.new)) }
     ensures equal { OnOk result (IsTrue (same_pairs M.Kind.kind M.Value.eq (M.pairs once.new) (M.pairs twice.new))) }
+    ensures err_once { OnErr result (IsOneOfOrOld M.Kind.kind M.Value.eq (override M.Kind.kind (value_at M.Kind.kind (M.pairs once.old)) range.now value.now ∷ []) (M.pairs once.old) (M.pairs once.new)) }
+    ensures err_twice { OnErr result (IsOneOfOrOld M.Kind.kind M.Value.eq (override M.Kind.kind (value_at M.Kind.kind (M.pairs twice.old)) range.now value.now ∷ []) (M.pairs twice.old) (M.pairs twice.new)) }
 {
     insert_clone(once, range, value)?;
     insert_clone(twice, range, value)?;
@@ -130,6 +134,8 @@ pub fn inserts_commute<M: Container>(
     ensures forth { OnOk result (IsCanonOf M.Kind.kind M.Value.eq (override M.Kind.kind (override M.Kind.kind (value_at M.Kind.kind (M.pairs forth.old)) first.entry.0.now first.entry.1.now) second.entry.0.now second.entry.1.now) (M.pairs forth.new)) }
     ensures back { OnOk result (IsCanonOf M.Kind.kind M.Value.eq (override M.Kind.kind (override M.Kind.kind (value_at M.Kind.kind (M.pairs back.old)) second.entry.0.now second.entry.1.now) first.entry.0.now first.entry.1.now) (M.pairs back.new)) }
     ensures equal { OnOk result (IsTrue (same_pairs M.Kind.kind M.Value.eq (M.pairs forth.new) (M.pairs back.new))) }
+    ensures err_forth { OnErr result (IsOneOfOrOld M.Kind.kind M.Value.eq (override M.Kind.kind (value_at M.Kind.kind (M.pairs forth.old)) first.entry.0.now first.entry.1.now ∷ override M.Kind.kind (override M.Kind.kind (value_at M.Kind.kind (M.pairs forth.old)) first.entry.0.now first.entry.1.now) second.entry.0.now second.entry.1.now ∷ []) (M.pairs forth.old) (M.pairs forth.new)) }
+    ensures err_back { OnErr result (IsOneOfOrOld M.Kind.kind M.Value.eq (override M.Kind.kind (value_at M.Kind.kind (M.pairs back.old)) second.entry.0.now second.entry.1.now ∷ []) (M.pairs back.old) (M.pairs back.new)) }
 {
     insert_clone(forth, first.0, first.1)?;
     insert_clone(forth, second.0, second.1)?;
@@ -152,6 +158,8 @@ pub fn remove_after_insert_equals_remove<M: Container>(
     ensures changed { OnOk result (IsCanonOf M.Kind.kind M.Value.eq (erase M.Kind.kind (override M.Kind.kind (value_at M.Kind.kind (M.pairs changed.old)) range.now value.now) range.now) (M.pairs changed.new)) }
     ensures removed { OnOk result (IsCanonOf M.Kind.kind M.Value.eq (erase M.Kind.kind (value_at M.Kind.kind (M.pairs removed.old)) range.now) (M.pairs removed.new)) }
     ensures equal { OnOk result (IsTrue (same_pairs M.Kind.kind M.Value.eq (M.pairs changed.new) (M.pairs removed.new))) }
+    ensures err_changed { OnErr result (IsOneOfOrOld M.Kind.kind M.Value.eq (override M.Kind.kind (value_at M.Kind.kind (M.pairs changed.old)) range.now value.now ∷ erase M.Kind.kind (override M.Kind.kind (value_at M.Kind.kind (M.pairs changed.old)) range.now value.now) range.now ∷ []) (M.pairs changed.old) (M.pairs changed.new)) }
+    ensures err_removed { OnErr result (M.pairs removed.new ≡ M.pairs removed.old) }
 {
     insert_clone(changed, range, value)?;
     remove_clone(changed, range)?;

@@ -61,18 +61,8 @@ impl<'a, R: KeyRange, V: Eq> Overlapping<'a, R, V> {
         requires { IsCanonical Q.kind V.eq pairs.now }
         ensures { result ≡ overlapped Q.kind pairs.now query.now }
     {
-        Overlapping::over(overlapping_tail::<Q, R, V>(pairs, query), query)
-    }
-}
-
-impl<'a, R: KeyRange, V> Overlapping<'a, R, V> {
-    /// Returns the pairs that start before the query ends, of a list in which these come first.
-    pub fn over(pairs: &'a [(R, V)], query: &'a R) -> Self
-        requires { IsPartitionedBy (is_begun R.read R.has_end query.now) pairs.now }
-        ensures { result ≡ take_while (is_begun R.read R.has_end query.now) pairs.now }
-    {
         Overlapping {
-            pairs,
+            pairs: overlapping_tail::<Q, R, V>(pairs, query),
             query,
             is_bounded: false,
         }

@@ -55,7 +55,8 @@ impl<C: Peek> Intersection<C> {
     pub fn over(left: C, right: C) -> Self
         requires left { IsCanonicalSet C.Range.read (ranges (C.left left)) }
         requires right { IsCanonicalSet C.Range.read (ranges (C.left right)) }
-        ensures { result ≡ intersection_items C.Range.places (ranges (C.left left)) (ranges (C.left right)) }
+        ensures items { result ≡ intersection_items C.Range.places (ranges (C.left left)) (ranges (C.left right)) }
+        ensures common { AreCommon C.Range.read (ranges (C.left left)) (ranges (C.left right)) result }
     {
         Intersection {
             sides: Sides { left, right },

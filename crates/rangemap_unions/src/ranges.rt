@@ -7,6 +7,7 @@ ghost use Rattle.rangemap_core.specs.Sets.{IsCanonicalSet, ranges};
 
 use rangemap_core::cursor::Cursor;
 use rangemap_core::key_range::KeyRange;
+use rangemap_core::pair_iter::PairIter;
 use std::iter::{DoubleEndedIterator, ExactSizeIterator, Iterator};
 use std::marker::Model;
 
@@ -14,20 +15,18 @@ use std::marker::Model;
 /// ranges themselves. What is left of a set is a canonical list too.
 #[derive(Drop)]
 pub struct Ranges<C: Cursor<Range: KeyRange>> {
-    cursor: C,
-    // How many are left.
-    len: usize,
+    pairs: PairIter<C>,
 }
 
 impl<C: Cursor<Range: KeyRange>> Model for Ranges<C> {
-    ghost use Rattle.std.specs.Prelude.{◌≡◌, List, length, map};
+    ghost use Rattle.std.specs.Prelude.{List, map};
     ghost use Rattle.rangemap_core.specs.Sets.{IsCanonicalSet};
 
     ghost Value = { List C.Range };
 
-    ghost view = { λ s. map (λ p. p.0) (C.left s.cursor) };
+    ghost view = { λ s. map (λ p. p.0) s.pairs };
 
-    ghost invariant = { λ s. IsCanonicalSet C.Range.read (map (λ p. p.0) (C.left s.cursor)) × (s.len ≡ length (C.left s.cursor)) };
+    ghost invariant = { λ s. IsCanonicalSet C.Range.read (map (λ p. p.0) s.pairs) };
 }
 
 impl<C: Cursor<Range: KeyRange>> Ranges<C> {
@@ -37,7 +36,8 @@ impl<C: Cursor<Range: KeyRange>> Ranges<C> {
         requires len { len ≡ length (C.left cursor) }
         ensures { result ≡ map (λ p. p.0) (C.left cursor) }
     {
-        Ranges { cursor, len }
+        let pairs = PairIter::over(cursor, len);
+        Ranges { pairs }
     }
 
     /// Returns the cursor.
@@ -45,8 +45,7 @@ impl<C: Cursor<Range: KeyRange>> Ranges<C> {
         ensures rest { map (λ p. p.0) (C.left result) ≡ self }
         ensures canonical { IsCanonicalSet C.Range.read self }
     {
-        let Ranges { cursor, len: _ } = self;
-        cursor
+        self.pairs.into_cursor()
     }
 }
 
@@ -58,9 +57,7 @@ impl<C: Cursor<Range: KeyRange, GivenValue: Drop>> Iterator for Ranges<C> {
     ghost remaining = { λ s. at_most (length s) };
 
     fn next(&mut self) -> Option<C::Given> {
-        let (range, _) = self.cursor.take_first()?;
-        self.len -= 1;
-        Some(range)
+        Some(self.pairs.next()?.0)
     }
 
     fn size_hint(&self) -> (usize, Option<usize>)
@@ -68,7 +65,7 @@ impl<C: Cursor<Range: KeyRange, GivenValue: Drop>> Iterator for Ranges<C> {
         ensures upper { IfSome result.1 (UpTo (at_most (length self.now))) }
         ensures exact { result ≡ (length self.now, SomeWord (length self.now)) }
     {
-        (self.len, Some(self.len))
+        self.pairs.size_hint()
     }
 }
 
@@ -76,16 +73,14 @@ impl<C: Cursor<Range: KeyRange, GivenValue: Drop>> DoubleEndedIterator for Range
     ghost next_back_gives = { TakesLast C.given };
 
     fn next_back(&mut self) -> Option<C::Given> {
-        let (range, _) = self.cursor.take_last()?;
-        self.len -= 1;
-        Some(range)
+        Some(self.pairs.next_back()?.0)
     }
 }
 
 impl<C: Cursor<Range: KeyRange, GivenValue: Drop>> ExactSizeIterator for Ranges<C> {
     /// Returns how many ranges are still to come.
     fn len(&self) -> usize {
-        self.len
+        self.pairs.len()
     }
 }
 

@@ -62,7 +62,9 @@ impl<C: Peek> Union<C> {
     pub fn over(left: C, right: C) -> Self
         requires left { IsCanonicalSet C.Range.read (ranges (C.left left)) }
         requires right { IsCanonicalSet C.Range.read (ranges (C.left right)) }
-        ensures { result ≡ union_items C.Range.places (ranges (C.left left)) (ranges (C.left right)) }
+        ensures items { result ≡ union_items C.Range.places (ranges (C.left left)) (ranges (C.left right)) }
+        ensures hulls { AreHulls C.Range.read (ranges (C.left left) ++ ranges (C.left right)) result }
+        ensures points { CoverEither C.Range.read (ranges (C.left left)) (ranges (C.left right)) result }
     {
         Union {
             sides: Sides {

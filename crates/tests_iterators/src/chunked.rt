@@ -43,19 +43,21 @@ pub fn closed_ranges(set: &RangeInclusiveSet<u64>) -> InclusiveSetIter<'_, u64> 
     set.iter()
 }
 
-pub fn walk(
-    map: &RangeMap<u64, u32>,
-    query: &Range<u64>,
-    closed: &RangeInclusiveMap<u64, u32>,
-    closed_query: &RangeInclusive<u64>,
-) -> Result<(), AllocError> {
+pub fn walk_map(map: &RangeMap<u64, u32>, query: &Range<u64>) -> Result<(), AllocError> {
     let _: Option<(&Range<u64>, &u32)> = map.iter().next();
     let _: usize = map.iter().len();
     let _: Option<(&Range<u64>, &u32)> = map.overlapping(query).next_back();
     let _: Option<Range<u64>> = map.gaps(query).try_next()?;
-    let _: Option<(&RangeInclusive<u64>, &u32)> = closed.iter().next_back();
-    let _: Option<(&RangeInclusive<u64>, &u32)> = closed.overlapping(closed_query).next();
-    let _: Option<RangeInclusive<u64>> = closed.gaps(closed_query).try_next()?;
+    Ok(())
+}
+
+pub fn walk_closed_map(
+    map: &RangeInclusiveMap<u64, u32>,
+    query: &RangeInclusive<u64>,
+) -> Result<(), AllocError> {
+    let _: Option<(&RangeInclusive<u64>, &u32)> = map.iter().next_back();
+    let _: Option<(&RangeInclusive<u64>, &u32)> = map.overlapping(query).next();
+    let _: Option<RangeInclusive<u64>> = map.gaps(query).try_next()?;
     Ok(())
 }
 

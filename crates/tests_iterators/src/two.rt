@@ -161,8 +161,14 @@ pub fn of_sets<'a>(
     let _: Option<&Range<i64>> = overlapping.1.next_back();
     let mut gaps = one.gaps(query);
     let mut other_gaps = other.gaps(other_query);
-    let _: Option<Range<u64>> = gaps.try_next()?;
-    let _: Option<Range<i64>> = other_gaps.try_next()?;
+    let first = gaps.try_next()?;
+    Ok((first, other_gaps.try_next()?))
+}
+
+pub fn combined_by_sets(
+    one: &RangeSet<u64>,
+    other: &RangeSet<i64>,
+) -> Result<(Option<Range<u64>>, Option<Range<i64>>), AllocError> {
     let mut union = one.union(one);
     let mut other_union = other.union(other);
     let _: Option<Range<u64>> = union.try_next()?;
@@ -187,8 +193,14 @@ pub fn of_closed_sets<'a>(
     let _: Option<&RangeInclusive<i64>> = overlapping.1.next_back();
     let mut gaps = one.gaps(query);
     let mut other_gaps = other.gaps(other_query);
-    let _: Option<RangeInclusive<u64>> = gaps.try_next()?;
-    let _: Option<RangeInclusive<i64>> = other_gaps.try_next()?;
+    let first = gaps.try_next()?;
+    Ok((first, other_gaps.try_next()?))
+}
+
+pub fn combined_by_closed_sets(
+    one: &RangeInclusiveSet<u64>,
+    other: &RangeInclusiveSet<i64>,
+) -> Result<(Option<RangeInclusive<u64>>, Option<RangeInclusive<i64>>), AllocError> {
     let mut union = one.union(one);
     let mut other_union = other.union(other);
     let _: Option<RangeInclusive<u64>> = union.try_next()?;
@@ -213,8 +225,14 @@ pub fn of_sets_in_trees<'a>(
     let _: Option<&Range<i64>> = overlapping.1.next_back();
     let mut gaps = one.gaps(query);
     let mut other_gaps = other.gaps(other_query);
-    let _: Option<Range<u64>> = gaps.try_next()?;
-    let _: Option<Range<i64>> = other_gaps.try_next()?;
+    let first = gaps.try_next()?;
+    Ok((first, other_gaps.try_next()?))
+}
+
+pub fn combined_by_sets_in_trees(
+    one: &tree_set::RangeSet<u64>,
+    other: &tree_set::RangeSet<i64>,
+) -> Result<(Option<Range<u64>>, Option<Range<i64>>), AllocError> {
     let mut union = one.union(one);
     let mut other_union = other.union(other);
     let _: Option<Range<u64>> = union.try_next()?;

@@ -41,7 +41,7 @@ struct Three<'a, S> {
 /// run on sets of its own.
 fn check_sides<S: StoreMut<Range: Debug, Value = (), Alloc = Global> + Drop>(
     alloc: Global,
-    operator: &Operator,
+    operator: Operator,
     sets: &Three<'_, Set<S>>,
     distributed: &Three<'_, Set<S>>,
     texts: &str,
@@ -75,10 +75,10 @@ where
     requires { KeysCloneFaithfully S.Range.Key.is_clone S.Range.Key.cmp }
 {
     let (first, second, third) = (sets.first, sets.second, sets.third);
-    check_made(alloc, is_idempotent(&Operator::Union, first), text)?;
-    check_made(alloc, absorbs(&Operator::Union, first, third), text)?;
-    check_made(alloc, is_idempotent(&Operator::Intersection, first), text)?;
-    check_made(alloc, absorbs(&Operator::Intersection, first, second), text)
+    check_made(alloc, is_idempotent(Operator::Union, first), text)?;
+    check_made(alloc, absorbs(Operator::Union, first, third), text)?;
+    check_made(alloc, is_idempotent(Operator::Intersection, first), text)?;
+    check_made(alloc, absorbs(Operator::Intersection, first, second), text)
 }
 
 /// Makes three sets, and runs all laws on them.
@@ -100,7 +100,7 @@ where
         second: &second,
         third: &third,
     };
-    check_sides(alloc, &Operator::Union, &sets, &sets, laws.unions)?;
+    check_sides(alloc, Operator::Union, &sets, &sets, laws.unions)?;
     // The first two have no key in common, so in `&` the third stands between them.
     let crossed = Three {
         first: &first,
@@ -114,7 +114,7 @@ where
     };
     check_sides(
         alloc,
-        &Operator::Intersection,
+        Operator::Intersection,
         &crossed,
         &distributed,
         laws.intersections,

@@ -22,6 +22,7 @@ pub use rangemap_unions::laws::closed_operations;
 use std::alloc::AllocError;
 
 /// One of the two operators.
+#[derive(Clone, Copy)]
 pub enum Operator {
     /// `|`, the keys of either set.
     Union,
@@ -36,7 +37,7 @@ impl Operator {
     ///
     /// Memory or a clone was refused.
     pub fn apply<S: StoreMut<Value = ()> + Drop>(
-        &self,
+        self,
         first: &Set<S>,
         second: &Set<S>,
     ) -> Result<Set<S>, AllocError>
@@ -44,7 +45,7 @@ impl Operator {
         S::Alloc: Clone,
         S::Kind: Kind<S::Range, Steps = <S::Range as KeyRange>::Key>,
         requires faithful_keys { KeysCloneFaithfully S.Range.Key.is_clone S.Range.Key.cmp }
-        ensures { IfOk result (IsCanonOfPoints S.Kind.kind (joined self.now (covers S.Kind.kind first.now) (covers S.Kind.kind second.now))) }
+        ensures { IfOk result (IsCanonOfPoints S.Kind.kind (joined self (covers S.Kind.kind first.now) (covers S.Kind.kind second.now))) }
     {
         match self {
             Operator::Union => first | second,
@@ -53,12 +54,12 @@ impl Operator {
     }
 
     /// Returns the other operator.
-    pub fn other(&self) -> &Operator
-        ensures { result.now ≡ other_of self.now }
+    pub fn other(self) -> Operator
+        ensures { result ≡ other_of self }
     {
         match self {
-            Operator::Union => &Operator::Intersection,
-            Operator::Intersection => &Operator::Union,
+            Operator::Union => Operator::Intersection,
+            Operator::Intersection => Operator::Union,
         }
     }
 }
@@ -68,7 +69,7 @@ pub type Sides<M> = Result<(M, M), AllocError>;
 
 /// `a | b` equals `b | a`, and `a & b` equals `b & a`.
 pub fn commutes<S: StoreMut<Value = ()> + Drop>(
-    operator: &Operator,
+    operator: Operator,
     first: &Set<S>,
     second: &Set<S>,
 ) -> Sides<Set<S>>
@@ -76,8 +77,8 @@ where
     S::Alloc: Clone,
     S::Kind: Kind<S::Range, Steps = <S::Range as KeyRange>::Key>,
     requires faithful_keys { KeysCloneFaithfully S.Range.Key.is_clone S.Range.Key.cmp }
-    ensures left { IfOk result (λ sets. IsCanonOfPoints S.Kind.kind (joined operator.now (covers S.Kind.kind first.now) (covers S.Kind.kind second.now)) sets.0) }
-    ensures right { IfOk result (λ sets. IsCanonOfPoints S.Kind.kind (joined operator.now (covers S.Kind.kind second.now) (covers S.Kind.kind first.now)) sets.1) }
+    ensures left { IfOk result (λ sets. IsCanonOfPoints S.Kind.kind (joined operator (covers S.Kind.kind first.now) (covers S.Kind.kind second.now)) sets.0) }
+    ensures right { IfOk result (λ sets. IsCanonOfPoints S.Kind.kind (joined operator (covers S.Kind.kind second.now) (covers S.Kind.kind first.now)) sets.1) }
     ensures equal { IfOk result (λ sets. IsTrue (same_ranges S.Kind.kind sets.0 sets.1)) }
 {
     let left = operator.apply(first, second)?;
@@ -87,7 +88,7 @@ where
 
 /// `(a | b) | c` equals `a | (b | c)`, and `(a & b) & c` equals `a & (b & c)`.
 pub fn associates<S: StoreMut<Value = ()> + Drop>(
-    operator: &Operator,
+    operator: Operator,
     first: &Set<S>,
     second: &Set<S>,
     third: &Set<S>,
@@ -96,8 +97,8 @@ where
     S::Alloc: Clone,
     S::Kind: Kind<S::Range, Steps = <S::Range as KeyRange>::Key>,
     requires faithful_keys { KeysCloneFaithfully S.Range.Key.is_clone S.Range.Key.cmp }
-    ensures left { IfOk result (λ sets. IsCanonOfPoints S.Kind.kind (joined operator.now (joined operator.now (covers S.Kind.kind first.now) (covers S.Kind.kind second.now)) (covers S.Kind.kind third.now)) sets.0) }
-    ensures right { IfOk result (λ sets. IsCanonOfPoints S.Kind.kind (joined operator.now (covers S.Kind.kind first.now) (joined operator.now (covers S.Kind.kind second.now) (covers S.Kind.kind third.now))) sets.1) }
+    ensures left { IfOk result (λ sets. IsCanonOfPoints S.Kind.kind (joined operator (joined operator (covers S.Kind.kind first.now) (covers S.Kind.kind second.now)) (covers S.Kind.kind third.now)) sets.0) }
+    ensures right { IfOk result (λ sets. IsCanonOfPoints S.Kind.kind (joined operator (covers S.Kind.kind first.now) (joined operator (covers S.Kind.kind second.now) (covers S.Kind.kind third.now))) sets.1) }
     ensures equal { IfOk result (λ sets. IsTrue (same_ranges S.Kind.kind sets.0 sets.1)) }
 {
     first.known();
@@ -111,14 +112,14 @@ where
 
 /// `a | a` equals `a`, and so does `a & a`.
 pub fn is_idempotent<S: StoreMut<Value = ()> + Drop>(
-    operator: &Operator,
+    operator: Operator,
     first: &Set<S>,
 ) -> Result<Set<S>, AllocError>
 where
     S::Alloc: Clone,
     S::Kind: Kind<S::Range, Steps = <S::Range as KeyRange>::Key>,
     requires faithful_keys { KeysCloneFaithfully S.Range.Key.is_clone S.Range.Key.cmp }
-    ensures made { IfOk result (IsCanonOfPoints S.Kind.kind (joined operator.now (covers S.Kind.kind first.now) (covers S.Kind.kind first.now))) }
+    ensures made { IfOk result (IsCanonOfPoints S.Kind.kind (joined operator (covers S.Kind.kind first.now) (covers S.Kind.kind first.now))) }
     ensures equal { IfOk result (λ set. IsTrue (same_ranges S.Kind.kind set first.now)) }
 {
     first.known();
@@ -127,7 +128,7 @@ where
 
 /// `a | (a & b)` equals `a`, and so does `a & (a | b)`. The operator is the outer one.
 pub fn absorbs<S: StoreMut<Value = ()> + Drop>(
-    operator: &Operator,
+    operator: Operator,
     first: &Set<S>,
     second: &Set<S>,
 ) -> Result<Set<S>, AllocError>
@@ -135,7 +136,7 @@ where
     S::Alloc: Clone,
     S::Kind: Kind<S::Range, Steps = <S::Range as KeyRange>::Key>,
     requires faithful_keys { KeysCloneFaithfully S.Range.Key.is_clone S.Range.Key.cmp }
-    ensures made { IfOk result (IsCanonOfPoints S.Kind.kind (joined operator.now (covers S.Kind.kind first.now) (joined (other_of operator.now) (covers S.Kind.kind first.now) (covers S.Kind.kind second.now)))) }
+    ensures made { IfOk result (IsCanonOfPoints S.Kind.kind (joined operator (covers S.Kind.kind first.now) (joined (other_of operator) (covers S.Kind.kind first.now) (covers S.Kind.kind second.now)))) }
     ensures equal { IfOk result (λ set. IsTrue (same_ranges S.Kind.kind set first.now)) }
 {
     first.known();
@@ -146,7 +147,7 @@ where
 /// `a | (b & c)` equals `(a | b) & (a | c)`, and `a & (b | c)` equals `(a & b) | (a & c)`. The operator
 /// is the outer one of the left side.
 pub fn distributes<S: StoreMut<Value = ()> + Drop>(
-    operator: &Operator,
+    operator: Operator,
     first: &Set<S>,
     second: &Set<S>,
     third: &Set<S>,
@@ -155,8 +156,8 @@ where
     S::Alloc: Clone,
     S::Kind: Kind<S::Range, Steps = <S::Range as KeyRange>::Key>,
     requires faithful_keys { KeysCloneFaithfully S.Range.Key.is_clone S.Range.Key.cmp }
-    ensures left { IfOk result (λ sets. IsCanonOfPoints S.Kind.kind (joined operator.now (covers S.Kind.kind first.now) (joined (other_of operator.now) (covers S.Kind.kind second.now) (covers S.Kind.kind third.now))) sets.0) }
-    ensures right { IfOk result (λ sets. IsCanonOfPoints S.Kind.kind (joined (other_of operator.now) (joined operator.now (covers S.Kind.kind first.now) (covers S.Kind.kind second.now)) (joined operator.now (covers S.Kind.kind first.now) (covers S.Kind.kind third.now))) sets.1) }
+    ensures left { IfOk result (λ sets. IsCanonOfPoints S.Kind.kind (joined operator (covers S.Kind.kind first.now) (joined (other_of operator) (covers S.Kind.kind second.now) (covers S.Kind.kind third.now))) sets.0) }
+    ensures right { IfOk result (λ sets. IsCanonOfPoints S.Kind.kind (joined (other_of operator) (joined operator (covers S.Kind.kind first.now) (covers S.Kind.kind second.now)) (joined operator (covers S.Kind.kind first.now) (covers S.Kind.kind third.now))) sets.1) }
     ensures equal { IfOk result (λ sets. IsTrue (same_ranges S.Kind.kind sets.0 sets.1)) }
 {
     first.known();

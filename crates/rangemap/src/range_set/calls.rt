@@ -68,20 +68,17 @@ where
                 Some(set) => set.extend(ranges).is_ok(),
                 None => false,
             },
-            SetCall::Union { left, right } => push_joined(&Operator::Union, sets, left, right),
-            SetCall::Intersection { left, right } => push_joined(
-                &Operator::Intersection,
-                sets,
-                left,
-                right,
-            ),
+            SetCall::Union { left, right } => push_joined(Operator::Union, sets, left, right),
+            SetCall::Intersection { left, right } => {
+                push_joined(Operator::Intersection, sets, left, right)
+            }
         }
     }
 }
 
 // Pushes what the operator makes of two sets, for which there is room. Returns whether it was made.
 fn push_joined<S: StoreMut<Value = ()> + Drop>(
-    operator: &Operator,
+    operator: Operator,
     sets: &mut Vec<Set<S>, S::Alloc>,
     left: usize,
     right: usize,
@@ -91,7 +88,7 @@ where
     S::Kind: Kind<S::Range, Steps = <S::Range as KeyRange>::Key>,
     requires room { vec_len sets.old < vec_capacity sets.old }
     requires faithful_keys { KeysCloneFaithfully S.Range.Key.is_clone S.Range.Key.cmp }
-    ensures made { Makes S.Kind.kind (unit_eq S.Kind.kind) (with_unit S.Kind.kind) (SetStep {A = S.Alloc} S.Kind.kind) sets.old.items (joining operator.now left right) result sets.new.items }
+    ensures made { Makes S.Kind.kind (unit_eq S.Kind.kind) (with_unit S.Kind.kind) (SetStep {A = S.Alloc} S.Kind.kind) sets.old.items (joining operator left right) result sets.new.items }
     ensures len { vec_len sets.new ≤ vec_len sets.old + 1 }
     ensures capacity { vec_capacity sets.old ≤ vec_capacity sets.new }
 {

@@ -1,7 +1,8 @@
 //! Making sets out of ranges and of other sets, and handing their ranges over.
-ghost use Rattle.std.specs.Prelude.{◌≡◌, List, IfOk, true};
+ghost use Rattle.std.specs.Prelude.{◌≡◌, List, IfOk, IsOk, true};
 ghost use Rattle.std.specs.Iterator.{Drains, ExtendsWithItems, IsFiniteIterable};
 ghost use Rattle.rangemap.specs.Clones.{KeysCloneFaithfully};
+ghost use Rattle.rangemap.specs.NonEmptyPairs.{GivesNothing};
 ghost use Rattle.rangemap.specs.Ranges.{IsCanonOfPoints, covers, same_ranges};
 ghost use Rattle.rangemap.specs.Sets.{Adds, AreNonEmptyRanges, GivesNonEmptyRanges};
 
@@ -67,12 +68,13 @@ where
     /// # Errors
     ///
     /// An insert was refused, as there. The items before that one are inserted and stay; it and those
-    /// after it are dropped.
+    /// after it are dropped. Where no item comes, the call succeeds and changes nothing.
     pub fn extend<I: IntoIterator<Item = S::Range>>(&mut self, iter: I) -> Result<(), AllocError>
         requires ends { IsFiniteIterable I.into_iter_gives I.IntoIter.can_next I.IntoIter.remaining iter }
         requires non_empty { (it : I.IntoIter) → I.into_iter_gives iter it → GivesNonEmptyRanges S.Kind.kind I.IntoIter.next_gives it }
         requires faithful_keys { KeysCloneFaithfully S.Range.Key.is_clone S.Range.Key.cmp }
-        ensures { ExtendsWithItems I.into_iter_gives I.IntoIter.next_gives (Adds S.Kind.kind) iter self.old self.new result }
+        ensures items { ExtendsWithItems I.into_iter_gives I.IntoIter.next_gives (Adds S.Kind.kind) iter self.old self.new result }
+        ensures nothing { ((it : I.IntoIter) → I.into_iter_gives iter it → GivesNothing I.IntoIter.next_gives it) → IsOk result × (self.new ≡ self.old) }
     {
         self.known();
         for range in iter {

@@ -9,7 +9,7 @@ use super::Set;
 use rangemap_core::key_range::KeyRange;
 use rangemap_core::kind::Kind;
 use rangemap_core::store::{Store, StoreMut};
-use rangemap_formats::json::{Form, ReadError, WriteError, read_set, write_set};
+use rangemap_formats::json::{Form, ReadError, SetReader, SetWriter, WriteError, read, write};
 use serde_json::Value;
 use std::alloc::Global;
 use std::marker::PhantomData;
@@ -47,7 +47,8 @@ where
         ensures ok { IfOk result (IsForm S.Kind.kind (set_writer (FnReturnsAt WK.Fn write_key)) (with_unit S.Kind.kind self.now)) }
         ensures err { IfErr result (RefusesToWrite S.Kind.kind (set_writer (FnReturnsAt WK.Fn write_key)) (with_unit S.Kind.kind self.now)) }
     {
-        write_set(alloc, &self.stored, write_key)
+        let writer = SetWriter { alloc, write_key };
+        write(alloc, &self.stored, writer)
     }
 }
 
@@ -95,7 +96,8 @@ where
         ensures err { IfErr result (RefusesToRead S.Kind.kind (set_reader (FnReturnsAt RK.Fn read_key)) (unit_eq S.Kind.kind) form value.now) }
         ensures exact { IfErr result (IsRefusedForMemoryAlone S.Kind.kind (set_reader (FnReturnsAt RK.Fn read_key)) (unit_eq S.Kind.kind) form value.now) }
     {
-        let stored = read_set(alloc, form, value, read_key)?;
+        let reader = SetReader { read_key };
+        let stored = read(alloc, form, value, &reader)?;
         Ok(Set {
             stored,
             lives: PhantomData,

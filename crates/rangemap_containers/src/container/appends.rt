@@ -16,11 +16,11 @@ use std::alloc::{AllocError, Allocator};
 use std::marker::PhantomData;
 
 /// Appends clones of the pairs that it reads to a vector. It answers `Err` where a clone, or the
-/// growth of the vector, was refused: then the vector is as it was.
+/// growth of the vector, was refused: then the vector is as it was. Of no pairs it takes no memory.
 pub struct Appending<Q, B>(PhantomData<(Q, B)>);
 
 impl<Q: Kind<R>, R: KeyRange, V: Eq + Clone, B: Allocator> Reader<R, V> for Appending<Q, B> {
-    ghost use Rattle.std.specs.Prelude.{◌≡◌, OnErr, OnOk};
+    ghost use Rattle.std.specs.Prelude.{◌≡◌, [], IsOk, OnErr, OnOk};
     ghost use Rattle.rangemap_core.specs.Appends.{Appends};
     ghost use Rattle.rangemap_core.specs.Clones.{KeysCloneFaithfully, ValuesCloneFaithfully};
     ghost use Rattle.rangemap_core.specs.Ranges.{IsStorable};
@@ -32,7 +32,7 @@ impl<Q: Kind<R>, R: KeyRange, V: Eq + Clone, B: Allocator> Reader<R, V> for Appe
 
     ghost may_read = { λ pairs _. Every (λ pair. IsStorable Q.kind pair.0) pairs × KeysCloneFaithfully R.Key.is_clone R.Key.cmp × ValuesCloneFaithfully V.is_clone V.eq };
 
-    ghost reads = { λ pairs old result new. OnOk result (Appends Q.kind V.eq pairs old.items new.items) × OnErr result (new.items ≡ old.items) };
+    ghost reads = { λ pairs old result new. OnOk result (Appends Q.kind V.eq pairs old.items new.items) × OnErr result (new.items ≡ old.items) × (pairs ≡ [] → IsOk result × (new.items ≡ old.items)) };
 
     fn read<C: Cursor<Range = R, Value = V, Given: Drop, GivenValue: Drop>>(
         pairs: C,

@@ -13,9 +13,11 @@ use std::alloc::{AllocError, Global};
 
 /// Reads the entries of a map, `[[start, end], value]`.
 #[derive(Drop)]
-pub(crate) struct MapReader<RK, RV> {
-    pub(crate) read_key: RK,
-    pub(crate) read_value: RV,
+pub struct MapReader<RK, RV> {
+    /// Reads a key.
+    pub read_key: RK,
+    /// Reads a value.
+    pub read_value: RV,
 }
 
 impl<
@@ -51,10 +53,13 @@ impl<
 
 /// Writes the entries of a map.
 #[derive(Drop)]
-pub(crate) struct MapWriter<WK, WV> {
-    pub(crate) alloc: Global,
-    pub(crate) write_key: WK,
-    pub(crate) write_value: WV,
+pub struct MapWriter<WK, WV> {
+    /// What the memory of the value comes from.
+    pub alloc: Global,
+    /// Writes a key.
+    pub write_key: WK,
+    /// Writes a value.
+    pub write_value: WV,
 }
 
 impl<
@@ -86,8 +91,9 @@ impl<
 
 /// Reads the entries of a set, `[start, end]`, as those of a map to the unit.
 #[derive(Drop)]
-pub(crate) struct SetReader<RK> {
-    pub(crate) read_key: RK,
+pub struct SetReader<RK> {
+    /// Reads a key.
+    pub read_key: RK,
 }
 
 impl<S: Store<Value = ()>, E, RK: Fn(&Value) -> Result<<S::Range as KeyRange>::Key, E>> ReadsParts<
@@ -120,9 +126,11 @@ impl<S: Store<Value = ()>, E, RK: Fn(&Value) -> Result<<S::Range as KeyRange>::K
 
 /// Writes the entries of a set.
 #[derive(Drop)]
-pub(crate) struct SetWriter<WK> {
-    pub(crate) alloc: Global,
-    pub(crate) write_key: WK,
+pub struct SetWriter<WK> {
+    /// What the memory of the value comes from.
+    pub alloc: Global,
+    /// Writes a key.
+    pub write_key: WK,
 }
 
 impl<S: Store<Value = ()>, E, WK: Fn(&<S::Range as KeyRange>::Key) -> Result<Value, E>> WritesParts<

@@ -40,12 +40,15 @@ pub(crate) trait ReadsParts<S: Store, E> {
         ensures { (reader self.now).value part.now result };
 }
 
-/// Reads a store: inserts the pairs of the entries, in order.
+/// Returns the store that a value of the JSON form stands for: the pairs that the reader reads of its
+/// entries, inserted in order.
 ///
 /// # Errors
 ///
-/// The first fault, as `read_map` says.
-pub(crate) fn read<S: StoreMut + Drop, E, R: ReadsParts<S, E>>(
+/// Entries are read in order. In an entry the order is shape, start, end, value, emptiness, and
+/// with `Form::Canonical` then the order and the touch with the pair before. The first fault is the
+/// answer, and nothing is made then.
+pub fn read<S: StoreMut + Drop, E, R: ReadsParts<S, E>>(
     alloc: S::Alloc,
     form: Form,
     value: &Value,

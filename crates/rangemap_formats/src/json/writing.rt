@@ -34,12 +34,14 @@ pub(crate) trait WritesParts<S: Store, E>: Drop {
         ensures err { IfErr result (CallerOr (λ fault. (writer self.now).value value.now (ErrWord fault))) };
 }
 
-/// Writes the list of the entries of the pairs, in order.
+/// Returns the JSON form of a store, the list of the entries of its pairs. The parts are written in the
+/// order start, end, value, pair by pair.
 ///
 /// # Errors
 ///
-/// As for `write_map`.
-pub(crate) fn write<S: Store, E, W: WritesParts<S, E>>(
+/// `Caller` has what was answered where a part was refused, the first one refused. `OutOfMemory` says
+/// that memory for the value was refused.
+pub fn write<S: Store, E, W: WritesParts<S, E>>(
     alloc: Global,
     stored: &S,
     writer: W,

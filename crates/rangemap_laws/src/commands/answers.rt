@@ -61,7 +61,6 @@ fn get_key_value<M: Container, A: Allocator>(
     map: &M,
     key: &<M::Range as KeyRange>::Key,
 ) -> Outcome<M::Range, M::Value, A>
-    requires allowed { M.Kind.kind.is_key key.now }
     requires faithful_keys { KeysCloneFaithfully M.Range.Key.is_clone M.Range.Key.cmp }
     requires faithful_values { ValuesCloneFaithfully M.Value.is_clone M.Value.eq }
     ensures { CommandStep M.Kind.kind M.Value.eq (M.pairs map.now) (command_word.GetKeyValue key.now) result (M.pairs map.now) }

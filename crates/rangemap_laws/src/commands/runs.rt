@@ -23,8 +23,7 @@ pub type Outcome<R, V, A> = Result<Answer<R, V, A>, AllocError>;
 ///
 /// # Requires
 ///
-/// No range that is inserted or removed is empty, what is asked about is a key, which holds of each
-/// key of half-open ranges, and clones are faithful, as for `insert`.
+/// No range that is inserted or removed is empty, and clones are faithful, as for `insert`.
 ///
 /// # Errors
 ///

@@ -1,5 +1,5 @@
 //! Calls with clones of a range and a value, which the laws make more than once.
-ghost use Rattle.std.specs.Prelude.{IfOk, OnOk};
+ghost use Rattle.std.specs.Prelude.{◌≡◌, IfOk, OnErr, OnOk};
 ghost use Rattle.rangemap_core.specs.MadeRanges.{IsSame};
 ghost use Rattle.rangemap_core.specs.Clones.{KeysCloneFaithfully, ValuesCloneFaithfully};
 ghost use Rattle.rangemap_core.specs.Ranges.{IsCanonOf, IsCanonical, IsStorable, erase, override, value_at};
@@ -20,6 +20,7 @@ pub fn insert_clone<M: Container>(
     requires faithful_values { ValuesCloneFaithfully M.Value.is_clone M.Value.eq }
     ensures before { IsCanonical M.Kind.kind M.Value.eq (M.pairs map.old) }
     ensures ok { OnOk result (IsCanonOf M.Kind.kind M.Value.eq (override M.Kind.kind (value_at M.Kind.kind (M.pairs map.old)) range.now value.now) (M.pairs map.new)) }
+    ensures err { OnErr result (M.pairs map.new ≡ M.pairs map.old) }
 {
     map.known();
     let range = clone_range::<M>(range)?;
@@ -33,6 +34,7 @@ pub fn remove_clone<M: Container>(map: &mut M, range: &M::Range) -> Result<(), A
     requires faithful_values { ValuesCloneFaithfully M.Value.is_clone M.Value.eq }
     ensures before { IsCanonical M.Kind.kind M.Value.eq (M.pairs map.old) }
     ensures ok { OnOk result (IsCanonOf M.Kind.kind M.Value.eq (erase M.Kind.kind (value_at M.Kind.kind (M.pairs map.old)) range.now) (M.pairs map.new)) }
+    ensures err { OnErr result (M.pairs map.new ≡ M.pairs map.old) }
 {
     map.known();
     map.remove(clone_range::<M>(range)?)

@@ -6,7 +6,7 @@ ghost use Rattle.std.specs.declared.ops.Range.{Range as RangeOf};
 ghost use Rattle.rangemap_laws.specs.declared.commands.command.Answer.{Answer as AnswerOf};
 ghost use Rattle.rangemap_laws.specs.declared.commands.command.Command.{Command as CommandOf};
 ghost use Rattle.rangemap_core.specs.Ranges.{IsCanonical, half_open, same_pairs};
-ghost use Rattle.rangemap_laws.specs.Runs.{CommandStep, IsAllowed, IsSameResult, Ran};
+ghost use Rattle.rangemap_laws.specs.Runs.{CommandStep, IsSameResult, Ran};
 
 use std::alloc::Allocator;
 
@@ -18,7 +18,6 @@ pub fn accepted_runs_answer_alike<K: Ord, V: Eq, A: Allocator, B: Allocator>()
         → (commands : List (CommandOf K (RangeOf K) V))
         → (answers : List (ResultOf (AnswerOf (RangeOf K) V A) Refusal))
         → (replies : List (ResultOf (AnswerOf (RangeOf K) V B) Refusal))
-        → AllByRecursion (IsAllowed (half_open K.cmp)) commands
         → IsCanonical (half_open K.cmp) V.eq one
         → IsCanonical (half_open K.cmp) V.eq other
         → IsTrue (same_pairs (half_open K.cmp) V.eq one other)

@@ -1,8 +1,8 @@
 //! Making maps out of pairs and of other maps, and handing their pairs over.
-ghost use Rattle.std.specs.Prelude.{◌≡◌, List, IfOk, true};
+ghost use Rattle.std.specs.Prelude.{◌≡◌, List, IfOk, IsOk, true};
 ghost use Rattle.std.specs.Iterator.{Drains, ExtendsWithItems, IsFiniteIterable};
 ghost use Rattle.rangemap_core.specs.Clones.{KeysCloneFaithfully, ValuesCloneFaithfully};
-ghost use Rattle.rangemap_core.specs.NonEmptyPairs.{GivesNonEmpty};
+ghost use Rattle.rangemap_core.specs.NonEmptyPairs.{GivesNonEmpty, GivesNothing};
 ghost use Rattle.rangemap_core.specs.Ranges.{AreNonEmpty, IsCanonOf, Overrides, nothing, override_all, same_pairs, value_at};
 
 use super::Map;
@@ -76,7 +76,7 @@ where
     /// # Errors
     ///
     /// An insert was refused, as there. The items before that one are inserted and stay; it and
-    /// those after it are dropped.
+    /// those after it are dropped. Where no item comes, the call succeeds and changes nothing.
     pub fn extend<I: IntoIterator<Item = (S::Range, S::Value)>>(
         &mut self,
         iter: I,
@@ -85,7 +85,8 @@ where
         requires non_empty { (it : I.IntoIter) → I.into_iter_gives iter it → GivesNonEmpty S.Kind.kind I.IntoIter.next_gives it }
         requires faithful_keys { KeysCloneFaithfully S.Range.Key.is_clone S.Range.Key.cmp }
         requires faithful_values { ValuesCloneFaithfully S.Value.is_clone S.Value.eq }
-        ensures { ExtendsWithItems I.into_iter_gives I.IntoIter.next_gives (Overrides S.Kind.kind S.Value.eq) iter self.old self.new result }
+        ensures items { ExtendsWithItems I.into_iter_gives I.IntoIter.next_gives (Overrides S.Kind.kind S.Value.eq) iter self.old self.new result }
+        ensures nothing { ((it : I.IntoIter) → I.into_iter_gives iter it → GivesNothing I.IntoIter.next_gives it) → IsOk result × (self.new ≡ self.old) }
     {
         self.known();
         for (range, value) in iter {

@@ -8,7 +8,7 @@ use super::Map;
 use rangemap_core::key_range::KeyRange;
 use rangemap_core::kind::Kind;
 use rangemap_core::store::{Store, StoreMut};
-use rangemap_formats::json::{Form, ReadError, WriteError, read_map, write_map};
+use rangemap_formats::json::{Form, MapReader, MapWriter, ReadError, WriteError, read, write};
 use serde_json::Value;
 use std::alloc::Global;
 use std::marker::PhantomData;
@@ -48,7 +48,12 @@ where
         ensures ok { IfOk result (IsForm S.Kind.kind (map_writer (FnReturnsAt WK.Fn write_key) (FnReturnsAt WV.Fn write_value)) self.now) }
         ensures err { IfErr result (RefusesToWrite S.Kind.kind (map_writer (FnReturnsAt WK.Fn write_key) (FnReturnsAt WV.Fn write_value)) self.now) }
     {
-        write_map(alloc, &self.stored, write_key, write_value)
+        let writer = MapWriter {
+            alloc,
+            write_key,
+            write_value,
+        };
+        write(alloc, &self.stored, writer)
     }
 }
 
@@ -101,7 +106,11 @@ where
         ensures err { IfErr result (RefusesToRead S.Kind.kind (map_reader (FnReturnsAt RK.Fn read_key) (FnReturnsAt RV.Fn read_value)) S.Value.eq form value.now) }
         ensures exact { IfErr result (IsRefusedForMemoryAlone S.Kind.kind (map_reader (FnReturnsAt RK.Fn read_key) (FnReturnsAt RV.Fn read_value)) S.Value.eq form value.now) }
     {
-        let stored = read_map(alloc, form, value, read_key, read_value)?;
+        let reader = MapReader {
+            read_key,
+            read_value,
+        };
+        let stored = read(alloc, form, value, &reader)?;
         Ok(Map {
             stored,
             lives: PhantomData,

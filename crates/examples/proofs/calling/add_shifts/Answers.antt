@@ -44,4 +44,4 @@ added old new xs are adds hour =
     ∙ plain hour)
 
 pub returns : goal.returns
-returns c = fact_from_extend (λ x. x) c.extend.result c.extend.ensures (λ it becomes. YieldsList-from_array it _ becomes.0) (λ xs e adds hour. added _ _ xs (sym (map-id xs) ∙ e) adds hour)
+returns c = fact_from_extend (λ x. x) c.extend.result c.extend.ensures.items (λ it becomes. YieldsList-from_array it _ becomes.0) (λ xs e adds hour. added _ _ xs (sym (map-id xs) ∙ e) adds hour)

@@ -1,11 +1,10 @@
-use Rattle.std.proofs.Common.{◌≡◌, ◌+◌, ◌≤◌, length, vec_len, vec_capacity}
+use Rattle.std.proofs.Common.{◌≡◌, ◌+◌, ◌≤◌, length, map, vec_len, vec_capacity}
 use Rattle.rangemap_containers.specs.Histories.{Makes, Run}
 use Rattle.rangemap_containers.proofs.replay.make_all.Given as goal
 
 abbrev pub invariant-loop-call : goal.invariant-loop-call
 invariant-loop-call g l = record {
-  made : Run (Makes g.M.Kind.Kind.kind g.M.Value.PartialEq.eq g.M.Container.pairs g.C.CallOn.step) l.fn.maps.items l.yielded l.answers.items l.maps.items;
-  spare : vec_len l.allocators + length l.yielded ≡ vec_len l.fn.calls;
+  made : Run (Makes g.M.Kind.Kind.kind g.M.Value.PartialEq.eq g.M.Container.pairs g.C.CallOn.step) l.fn.maps.items (map (λ turn. turn.0) l.yielded) l.answers.items l.maps.items;
   room : vec_len l.maps + vec_len l.fn.calls ≤ vec_capacity l.maps + length l.yielded;
   answered : vec_len l.answers ≡ length l.yielded;
   room_for_answers : vec_len l.fn.calls ≤ vec_capacity l.answers;

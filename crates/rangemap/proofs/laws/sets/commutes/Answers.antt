@@ -5,4 +5,4 @@ use Rattle.rangemap.proofs.laws.sets.commutes.Goals as goal
 pub returns-clause-equal : goal.returns-clause-equal
 returns-clause-equal g c =
     let k = g.S.Kind.Kind.kind in
-    same_of k g.met.S.Kind.Kind.placed _ _ _ _ c.in_ok-left.ensures c.in_ok-right.ensures (λ x. joined_commutes (covers k c.args.first.now) (covers k c.args.second.now) (covers k c.args.second.now) x c.args.operator.now)
+    same_of k g.met.S.Kind.Kind.placed _ _ _ _ c.in_ok-left.ensures c.in_ok-right.ensures (λ x. joined_commutes (covers k c.args.first.now) (covers k c.args.second.now) (covers k c.args.second.now) x c.args.operator)

@@ -7,5 +7,5 @@ pub returns-clause-equal : goal.returns-clause-equal
 returns-clause-equal g c =
     let k = g.S.Kind.Kind.kind in
     IfOk-weaker c.apply.result _ _
-    (λ made is. same_of k g.met.S.Kind.Kind.placed _ _ _ _ is (own k c.args.first.now c.known.ensures) (λ x. joined_idempotent c.args.operator.now (covers k c.args.first.now) x))
+    (λ made is. same_of k g.met.S.Kind.Kind.placed _ _ _ _ is (own k c.args.first.now c.known.ensures) (λ x. joined_idempotent c.args.operator (covers k c.args.first.now) x))
     c.apply.ensures

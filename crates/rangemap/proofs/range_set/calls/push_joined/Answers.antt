@@ -10,7 +10,7 @@ pub returns-clause-made : goal.returns-clause-made
 returns-clause-made g c =
     let k = g.S.Kind.Kind.kind in
     let sets = c.args.sets.now.items in
-    let operator = c.args.operator.now in
+    let operator = c.args.operator in
     let left = c.in-Some.first.now in
     let right = c.in-Some-get.second.now in
     let first = c.in-Some.ensures.lookup in

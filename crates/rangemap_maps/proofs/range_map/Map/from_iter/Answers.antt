@@ -4,5 +4,5 @@ use Rattle.rangemap_maps.proofs.range_map.Map.from_iter.Goals as goal
 
 pub returns : goal.returns
 returns g c =
-    let ran = c.in_ok-extend.ensures in
+    let ran = c.in_ok-extend.ensures.items in
     (ran.0, ran.1, ran.2, ran.4, subst (λ (xs : List (g.row.S-Range.Denot × g.row.S-Value.Denot)). IsCanonOf g.S.Kind.Kind.kind g.S.Value.PartialEq.eq (override_all g.S.Kind.Kind.kind (value_at g.S.Kind.Kind.kind xs) ran.1) c.extend.new.self) c.new-all.ensures ran.3)

@@ -6,7 +6,7 @@ use Rattle.rangemap_unions.proofs.inserts.IntersectingReaderOfBothRangeUnit.read
 
 pub loop-items-init : goal.loop-items-init
 loop-items-init g c = gathered_first g.met.S.Kind.Kind.has_places _ _ _ c.requires.3
-    (intersection_taken g.met.S.Kind.Kind.has_places _ _ _ _ _ refl refl c.over-items.ensures c.requires.1 c.requires.2).points
+    (intersection_taken g.met.S.Kind.Kind.has_places _ _ _ _ _ refl refl c.over-items.ensures.items c.requires.1 c.requires.2).points
 
 pub loop-items-preserved : goal.loop-items-preserved
 loop-items-preserved g c =

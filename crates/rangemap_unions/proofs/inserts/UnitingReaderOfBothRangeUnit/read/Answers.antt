@@ -7,7 +7,7 @@ use Rattle.rangemap_unions.proofs.inserts.UnitingReaderOfBothRangeUnit.read.Goal
 pub loop-items-init : goal.loop-items-init
 loop-items-init g c = gathered_first g.met.S.Kind.Kind.has_places _ _ _ c.requires.3
     (either_points g.met.S.Kind.Kind.has_places _ _ _ c.requires.1 c.requires.2
-    (union_taken g.met.S.Kind.Kind.has_places _ _ _ _ _ refl refl c.over-items.ensures c.requires.1 c.requires.2))
+    (union_taken g.met.S.Kind.Kind.has_places _ _ _ _ _ refl refl c.over-items.ensures.items c.requires.1 c.requires.2))
 
 pub loop-items-preserved : goal.loop-items-preserved
 loop-items-preserved g c =

@@ -44,7 +44,7 @@ extend-requires-clause-non_empty g c it h =
 
 pub returns-in-Some-clause-made : goal.returns-in-Some-clause-made
 returns-in-Some-clause-made g c =
-    let ran = c.extend.ensures in
+    let ran = c.extend.ensures.items in
     let k = g.S.Kind.Kind.kind in
     let before = c.in-Some.set.now in
     let after = c.extend.new.self in

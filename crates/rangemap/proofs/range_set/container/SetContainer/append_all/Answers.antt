@@ -1,5 +1,6 @@
+use Rattle.std.proofs.Common.{◌∙◌}
 use Rattle.std.proofs.lemmas.Result.{on_ok_weaker}
-use Rattle.rangemap.proofs.MapLemmas.{all_with_unit}
+use Rattle.rangemap.proofs.MapLemmas.{all_with_unit, pairs_are}
 use Rattle.rangemap_core.proofs.StoredLemmas.{all_storable}
 use Rattle.rangemap.proofs.range_set.container.SetContainer.append_all.Goals as goal
 
@@ -8,3 +9,6 @@ read-requires g c = (all_storable g.S.Kind.Kind.kind _ _ c.known.ensures, c.requ
 
 pub returns-clause-ok : goal.returns-clause-ok
 returns-clause-ok g c = on_ok_weaker c.read.result (all_with_unit g.S.Kind.Kind.kind _ _ c.self.view_is _ _) c.read.ensures.0
+
+pub returns-clause-nothing : goal.returns-clause-nothing
+returns-clause-nothing g c = λ none. c.read.ensures.2 (pairs_are g.S.Kind.Kind.kind _ _ c.self.view_is ∙ none)

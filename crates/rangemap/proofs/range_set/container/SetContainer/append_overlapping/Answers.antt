@@ -1,8 +1,9 @@
 use Rattle.std.proofs.lemmas.Result.{on_ok_weaker}
-use Rattle.rangemap.proofs.MapLemmas.{overlapped_with_unit}
+use Rattle.rangemap.proofs.MapLemmas.{overlapped_with_unit, pairs_are}
 use Rattle.rangemap_core.proofs.StoredLemmas.{all_storable}
 use Rattle.rangemap_core.proofs.AppendLemmas.{met_storable}
-use Rattle.std.proofs.Common.{true}
+use Rattle.std.proofs.Common.{ap, true, ◌∙◌}
+use Rattle.rangemap_core.specs.Ranges.{overlapped}
 use Rattle.rangemap.proofs.range_set.container.SetContainer.append_overlapping.Goals as goal
 
 pub read_overlapping-requires : goal.read_overlapping-requires
@@ -14,3 +15,9 @@ read_overlapping-requires g c = (
 
 pub returns-clause-ok : goal.returns-clause-ok
 returns-clause-ok g c = on_ok_weaker c.read_overlapping.result (overlapped_with_unit g.S.Kind.Kind.kind _ _ c.self.view_is c.args.range.now _ _) c.read_overlapping.ensures.0
+
+pub returns-clause-nothing : goal.returns-clause-nothing
+returns-clause-nothing g c =
+    let k = g.S.Kind.Kind.kind in
+    λ none.
+    c.read_overlapping.ensures.2 (ap (λ pairs. overlapped k pairs c.args.range.now) (pairs_are k _ _ c.self.view_is) ∙ none)

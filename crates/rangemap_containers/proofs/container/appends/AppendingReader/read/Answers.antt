@@ -1,7 +1,8 @@
-use Rattle.std.proofs.Common.{rules, arith, ◌≡◌, ◌<◌, ◌∷◌, ◌∙◌, ap, length, subst, take}
+use Rattle.std.proofs.Common.{rules, arith, ◌≡◌, ◌<◌, ◌∷◌, ◌∙◌, ap, length, refl, subst, take}
 use Rattle.rangemap_core.specs.Appends.{AppendsOne}
 use Rattle.rangemap_core.specs.Shown.{shown}
 use Rattle.rangemap_core.proofs.AppendLemmas.{cut_back, next_stored, so_far-all, so_far-next, so_far-none}
+use Rattle.rangemap_containers.proofs.NothingLemmas.{appended_none, none_to_come}
 use Rattle.rangemap_containers.proofs.container.appends.AppendingReader.read.Goals as goal
 
 pub pairs-init : goal.pairs-init
@@ -32,11 +33,21 @@ pairs-preserved g c =
 
 pub returns : goal.returns
 returns g c =
+    let k = g.Q.Kind.kind in
+    let eq = g.V.PartialEq.eq in
     let ended = rw c.in_default.is at c.take_first.ensures in
-    (so_far-all g.Q.Kind.kind g.V.PartialEq.eq (g.C.Cursor.left c.args.pairs) (g.C.Cursor.left c.pairs.rest) c.args.out.now.items c.pairs.out.items c.pairs.invariant ended.0, tt)
+    let all = so_far-all k eq (g.C.Cursor.left c.args.pairs) (g.C.Cursor.left c.pairs.rest) c.args.out.now.items c.pairs.out.items c.pairs.invariant ended.0 in
+    (all, tt, λ none. (refl, appended_none k eq _ _ _ none all))
 
 pub returns-in-Err : goal.returns-in-Err
 returns-in-Err g c =
+    let k = g.Q.Kind.kind in
+    let eq = g.V.PartialEq.eq in
+    let pair = shown g.C.Cursor.given g.C.Cursor.given_value c.in-Some.pair in
+    let taken : g.C.Cursor.left c.pairs.rest ≡ pair ∷ g.C.Cursor.left c.take_first.new.self = rw c.in-Some.is at c.take_first.ensures in
     let kept : c.append_clone.new.out.items ≡ c.pairs.out.items = search rules in
-    let place : c.len-len.result ≡ length c.args.out.now.items = search rules in
-    (tt, cut_back g.Q.Kind.kind g.V.PartialEq.eq c.pairs.invariant.0 c.args.out.now.items c.pairs.out.items c.truncate.new.self.items c.len-len.result c.pairs.invariant.2 place (c.truncate.ensures.items ∙ ap (λ xs. take c.len-len.result xs) kept))
+    let place : c.len-len.result ≡ length c.args.out.now.items = search rules in (
+      tt,
+      cut_back k eq c.pairs.invariant.0 c.args.out.now.items c.pairs.out.items c.truncate.new.self.items c.len-len.result c.pairs.invariant.2 place (c.truncate.ensures.items ∙ ap (λ xs. take c.len-len.result xs) kept),
+      λ none. absurd (none_to_come k eq _ _ _ _ _ _ none c.pairs.invariant taken),
+    )

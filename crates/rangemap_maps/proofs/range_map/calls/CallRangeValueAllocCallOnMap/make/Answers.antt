@@ -40,7 +40,7 @@ extend-requires-clause-non_empty g c it h =
 
 pub returns-in-Some-clause-made : goal.returns-in-Some-clause-made
 returns-in-Some-clause-made g c =
-    let ran = c.extend.ensures in
+    let ran = c.extend.ensures.items in
     rw c.in-Extend.is (
     rw c.is_ok.ensures.value (extend_here g.S.Kind.Kind.kind g.met.S.Value.Eq.laws c.args.maps.now.items c.in-Extend.pairs c.in-Extend.at c.in-Some.map.now c.extend.new.self c.in-Some.ensures.item.3.0 c.in-Some.ensures.value
     ran.1 c.extend.result ran.3

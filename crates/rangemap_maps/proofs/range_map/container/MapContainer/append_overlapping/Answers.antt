@@ -1,6 +1,6 @@
-use Rattle.std.proofs.Common.{sym, subst}
+use Rattle.std.proofs.Common.{ap, sym, subst, ◌∙◌}
 use Rattle.rangemap_core.specs.engine.Stretch.{Every}
-use Rattle.rangemap_core.specs.Ranges.{IsStorable}
+use Rattle.rangemap_core.specs.Ranges.{IsStorable, overlapped}
 use Rattle.rangemap_core.proofs.AppendLemmas.{met_storable}
 use Rattle.rangemap_core.proofs.StoredLemmas.{all_storable}
 use Rattle.rangemap_maps.proofs.range_map.container.MapContainer.append_overlapping.Goals as goal
@@ -11,3 +11,6 @@ read_overlapping-requires g c = (
   c.requires.faithful_keys,
   c.requires.faithful_values,
 )
+
+pub returns-clause-nothing : goal.returns-clause-nothing
+returns-clause-nothing g c = λ none. c.read_overlapping.ensures.2 (ap (λ pairs. overlapped g.S.Kind.Kind.kind pairs c.args.range.now) c.self.view_is ∙ none)
