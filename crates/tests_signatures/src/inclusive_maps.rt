@@ -160,7 +160,7 @@ pub fn write_and_read<
     )
 }
 
-/// Makes every call at one type of keys, but those that make an empty map.
+/// Makes every call, at one type of keys.
 pub fn every<K: StepLite + Clone + Hash + Debug, const N: usize>(
     alloc: Global,
     map: &mut RangeInclusiveMap<K, u8>,
@@ -178,6 +178,8 @@ pub fn every<K: StepLite + Clone + Hash + Debug, const N: usize>(
     let write = (root::write_nothing::<K>, root::write_nothing::<u8>);
     let read = (|_: &Value| Err(()), |_: &Value| Err(()));
     let _ = write_and_read(map, alloc, write, alloc, Form::Any, &Value::Null, read);
+    let _: RangeInclusiveMap<K, u8> = empty(alloc);
+    let _: RangeInclusiveMap<K, u8> = by_step_fns(alloc);
     let (made, copy) = from(alloc, listed)?;
     let collected = collect(alloc, made, map, copy)?;
     let _: IntoIter<K, u8> = hand_over(collected);

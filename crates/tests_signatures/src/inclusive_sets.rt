@@ -15,7 +15,7 @@ use rangemap::{Form, ReadError, StepFns, StepLite, WriteError};
 use serde_json::Value;
 use std::alloc::{AllocError, Allocator, Global};
 use std::fmt::Debug;
-use std::hash::{Hash, Hasher};
+use std::hash::{DefaultHasher, Hash, Hasher};
 use std::iter::IntoIterator;
 use std::ops::RangeInclusive;
 
@@ -47,14 +47,21 @@ pub fn from<T: StepLite + Clone, A: Allocator + Clone, const N: usize>(
     alloc: A,
     value: [RangeInclusive<T>; N],
     other: &RangeInclusiveSet<T, T, A>,
-) -> Result<[RangeInclusiveSet<T, T, A>; 3], AllocError>
+) -> Result<
+    (
+        RangeInclusiveSet<T, T, A>,
+        RangeInclusiveSet<T, T, A>,
+        RangeInclusiveSet<T, T, A>,
+    ),
+    AllocError,
+>
     requires non_empty { AreNonEmptyRanges (closed T.StepLite.is_key T.cmp) value }
     requires faithful_keys { KeysCloneFaithfully T.is_clone T.cmp }
 {
     let set = RangeInclusiveSet::from(alloc, value)?;
     let either = (&set | other)?;
     let both = (&set & other)?;
-    Ok([set.clone()?, either, both])
+    Ok((set.clone()?, either, both))
 }
 
 pub fn empty<T: StepLite + Clone, A: Allocator>(alloc: A) -> RangeInclusiveSet<T, T, A> {
@@ -144,4 +151,29 @@ pub fn write_and_read<
         written,
         RangeInclusiveSet::from_value(other, form, value, read_key),
     )
+}
+
+/// Makes every call, at one type of keys.
+pub fn every<T: StepLite + Clone + Hash + Debug, const N: usize>(
+    alloc: Global,
+    set: &mut RangeInclusiveSet<T>,
+    listed: [RangeInclusive<T>; N],
+    given: RangeInclusive<T>,
+    taken: RangeInclusive<T>,
+) -> Result<(), AllocError>
+    requires listed_non_empty { AreNonEmptyRanges (closed T.StepLite.is_key T.cmp) listed }
+    requires given_non_empty { (closed T.StepLite.is_key T.cmp).IsNonEmpty given }
+    requires taken_non_empty { (closed T.StepLite.is_key T.cmp).IsNonEmpty taken }
+    requires faithful_keys { KeysCloneFaithfully T.is_clone T.cmp }
+{
+    ask(set, given.start(), &given, set);
+    let _: (bool, String) = compare_and_print(alloc, set, set, &mut DefaultHasher::new())?;
+    let (write, read) = (root::write_nothing::<T>, |_: &Value| Err(()));
+    let _ = write_and_read(set, alloc, write, alloc, Form::Any, &Value::Null, read);
+    let _: RangeInclusiveSet<T> = empty(alloc);
+    let _: RangeInclusiveSet<T> = by_step_fns(alloc);
+    let (made, either, _both) = from(alloc, listed, set)?;
+    let collected = collect(alloc, made, set, either)?;
+    let _: IntoIter<T> = hand_over(collected);
+    change(set, given, taken)
 }

@@ -1,14 +1,13 @@
 //! Names every public item, from `rangemap` alone, and every call of a container but those by which
-//! the library's crates make and read parts for one another: `over`, `cursor`, `into_cursor`, `as_slice` and `new`
-//! of iterators other than `Union` and `Intersection`; `new_with_step_fns` of half-open containers, which
-//! does what `new` does; and a loop over `&map`, which wants the crate `rangemap_maps` listed too.
+//! the library's crates make and read parts for one another: `over`, `cursor`, `into_cursor`,
+//! `as_slice` and `new` of iterators other than `Union` and `Intersection`; and a loop over `&map`,
+//! which wants the crate `rangemap_maps` listed too.
 //!
-//! The modules of one container name its calls over any keys; `keys` has each container at each type
-//! of keys, `literals` what users write there without a function over any keys, `chunked` the
-//! containers in chunks, `defaults` each alias with its defaults. All maps are one struct, and so are
-//! all sets: of closed ones and of sets in chunks a few calls, which the heads of their modules say,
-//! are named in a sorted vector alone. The crate `tests_iterators` names the iterators. Laws, replays
-//! and what code over any container names are re-exports (`generic`), which cost nothing to prove.
+//! The modules of one container name its calls over any keys, each once, and end in `every`, which
+//! makes them all; `keys` calls that at each type of keys. `literals` has what users write there
+//! without a function over any keys, `chunked` the containers in chunks, `defaults` each alias with
+//! its defaults. The crate `tests_iterators` names the iterators. Laws, replays and what code over
+//! any container names are re-exports (`generic`), which cost nothing to prove.
 #![tactic(auto)]
 
 mod chunked;

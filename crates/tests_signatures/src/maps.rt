@@ -47,8 +47,11 @@ pub fn from<K: Ord + Clone, V: Eq + Clone, A: Allocator + Clone, const N: usize>
     Ok((map, copy))
 }
 
-pub fn empty<K: Ord + Clone, V: Eq + Clone, A: Allocator>(alloc: A) -> RangeMap<K, V, A> {
-    RangeMap::new(alloc)
+pub fn empty<K: Ord + Clone, V: Eq + Clone, A: Allocator>(
+    alloc: A,
+    other: A,
+) -> (RangeMap<K, V, A>, RangeMap<K, V, A>) {
+    (RangeMap::new(alloc), RangeMap::new_with_step_fns(other))
 }
 
 pub fn collect<K: Ord + Clone, V: Eq + Clone, A: Allocator, I: IntoIterator<Item = (Range<K>, V)>>(
@@ -142,7 +145,7 @@ pub fn write_and_read<
     )
 }
 
-/// Makes every call at one type of keys, but those that make an empty map.
+/// Makes every call, at one type of keys.
 pub fn every<K: Ord + Clone + Hash + Debug, const N: usize>(
     alloc: Global,
     map: &mut RangeMap<K, u8>,
@@ -160,6 +163,7 @@ pub fn every<K: Ord + Clone + Hash + Debug, const N: usize>(
     let write = (root::write_nothing::<K>, root::write_nothing::<u8>);
     let read = (|_: &Value| Err(()), |_: &Value| Err(()));
     let _ = write_and_read(map, alloc, write, alloc, Form::Any, &Value::Null, read);
+    let _: (RangeMap<K, u8>, RangeMap<K, u8>) = empty(alloc, alloc);
     let (made, copy) = from(alloc, listed)?;
     let collected = collect(alloc, made, map, copy)?;
     let _: IntoIter<K, u8> = hand_over(collected);

@@ -10,7 +10,7 @@ use rangemap::{Form, ReadError, WriteError};
 use serde_json::Value;
 use std::alloc::{AllocError, Allocator, Global};
 use std::fmt::Debug;
-use std::hash::{Hash, Hasher};
+use std::hash::{DefaultHasher, Hash, Hasher};
 use std::iter::IntoIterator;
 use std::ops::Range;
 
@@ -43,18 +43,18 @@ pub fn from<T: Ord + Clone, A: Allocator + Clone, const N: usize>(
     alloc: A,
     value: [Range<T>; N],
     other: &RangeSet<T, A>,
-) -> Result<[RangeSet<T, A>; 3], AllocError>
+) -> Result<(RangeSet<T, A>, RangeSet<T, A>, RangeSet<T, A>), AllocError>
     requires non_empty { AreNonEmptyRanges (half_open T.cmp) value }
     requires faithful_keys { KeysCloneFaithfully T.is_clone T.cmp }
 {
     let set = RangeSet::from(alloc, value)?;
     let either = (&set | other)?;
     let both = (&set & other)?;
-    Ok([set.clone()?, either, both])
+    Ok((set.clone()?, either, both))
 }
 
-pub fn empty<T: Ord + Clone, A: Allocator>(alloc: A) -> RangeSet<T, A> {
-    RangeSet::new(alloc)
+pub fn empty<T: Ord + Clone, A: Allocator>(alloc: A, other: A) -> (RangeSet<T, A>, RangeSet<T, A>) {
+    (RangeSet::new(alloc), RangeSet::new_with_step_fns(other))
 }
 
 pub fn collect<T: Ord + Clone, A: Allocator, I: IntoIterator<Item = Range<T>>>(
@@ -127,4 +127,28 @@ pub fn write_and_read<
 {
     let written = set.to_value(alloc, write_key);
     (written, RangeSet::from_value(other, form, value, read_key))
+}
+
+/// Makes every call, at one type of keys.
+pub fn every<T: Ord + Clone + Hash + Debug, const N: usize>(
+    alloc: Global,
+    set: &mut RangeSet<T>,
+    listed: [Range<T>; N],
+    given: Range<T>,
+    taken: Range<T>,
+) -> Result<(), AllocError>
+    requires listed_non_empty { AreNonEmptyRanges (half_open T.cmp) listed }
+    requires given_non_empty { (half_open T.cmp).IsNonEmpty given }
+    requires taken_non_empty { (half_open T.cmp).IsNonEmpty taken }
+    requires faithful_keys { KeysCloneFaithfully T.is_clone T.cmp }
+{
+    ask(set, &given.start, &given, set);
+    let _: (bool, String) = compare_and_print(alloc, set, set, &mut DefaultHasher::new())?;
+    let (write, read) = (root::write_nothing::<T>, |_: &Value| Err(()));
+    let _ = write_and_read(set, alloc, write, alloc, Form::Any, &Value::Null, read);
+    let _: (RangeSet<T>, RangeSet<T>) = empty(alloc, alloc);
+    let (made, either, _both) = from(alloc, listed, set)?;
+    let collected = collect(alloc, made, set, either)?;
+    let _: IntoIter<T> = hand_over(collected);
+    change(set, given, taken)
 }

@@ -10,7 +10,7 @@ use rangemap::{Form, ReadError, WriteError};
 use serde_json::Value;
 use std::alloc::{AllocError, Allocator, Global};
 use std::fmt::Debug;
-use std::hash::{Hash, Hasher};
+use std::hash::{DefaultHasher, Hash, Hasher};
 use std::iter::IntoIterator;
 use std::ops::Range;
 
@@ -47,8 +47,11 @@ pub fn from<K: Ord + Clone, V: Eq + Clone, A: Allocator + Clone, const N: usize>
     Ok((map, copy))
 }
 
-pub fn empty<K: Ord + Clone, V: Eq + Clone, A: Allocator + Clone>(alloc: A) -> RangeMap<K, V, A> {
-    RangeMap::new(alloc)
+pub fn empty<K: Ord + Clone, V: Eq + Clone, A: Allocator + Clone>(
+    alloc: A,
+    other: A,
+) -> (RangeMap<K, V, A>, RangeMap<K, V, A>) {
+    (RangeMap::new(alloc), RangeMap::new_with_step_fns(other))
 }
 
 pub fn collect<
@@ -145,4 +148,29 @@ pub fn write_and_read<
         written,
         RangeMap::from_value(other, form, value, read.0, read.1),
     )
+}
+
+/// Makes every call, at one type of keys.
+pub fn every<K: Ord + Clone + Hash + Debug, const N: usize>(
+    alloc: Global,
+    map: &mut RangeMap<K, u8>,
+    listed: [(Range<K>, u8); N],
+    given: Range<K>,
+    taken: Range<K>,
+) -> Result<(), AllocError>
+    requires listed_non_empty { AreNonEmpty (half_open K.cmp) listed }
+    requires given_non_empty { (half_open K.cmp).IsNonEmpty given }
+    requires taken_non_empty { (half_open K.cmp).IsNonEmpty taken }
+    requires faithful_keys { KeysCloneFaithfully K.is_clone K.cmp }
+{
+    ask(map, &given.start, &given);
+    let _: (bool, String) = compare_and_print(alloc, map, map, &mut DefaultHasher::new())?;
+    let write = (root::write_nothing::<K>, root::write_nothing::<u8>);
+    let read = (|_: &Value| Err(()), |_: &Value| Err(()));
+    let _ = write_and_read(map, alloc, write, alloc, Form::Any, &Value::Null, read);
+    let _: (RangeMap<K, u8>, RangeMap<K, u8>) = empty(alloc, alloc);
+    let (made, copy) = from(alloc, listed)?;
+    let collected = collect(alloc, made, map, copy)?;
+    let _: IntoIter<K, u8> = hand_over(collected);
+    change(map, given, 1, taken)
 }

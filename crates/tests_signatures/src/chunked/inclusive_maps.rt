@@ -1,13 +1,22 @@
-//! The calls of `chunked::RangeInclusiveMap`, by their signatures. `changes` has what changes it,
-//! `named` what makes it and hands it over. All maps are one struct: `clear`, `extend`, `from_iter`,
-//! `new_with_step_fns`, comparisons and text are named over closed ranges by `inclusive_maps` alone.
+//! The calls of `chunked::RangeInclusiveMap`, by their signatures.
+ghost use Rattle.std.specs.Prelude.{◌≡◌, IsTrue, false};
+ghost use Rattle.std.specs.Iterator.{IsFiniteIterable};
+ghost use Rattle.std.specs.Ordering.{is_le};
+ghost use Rattle.std.specs.Range.{range_inclusive_start, range_inclusive_end, range_inclusive_exhausted};
 ghost use Rattle.rangemap.specs.Clones.{KeysCloneFaithfully, ValuesCloneFaithfully};
+ghost use Rattle.rangemap.specs.NonEmptyPairs.{GivesNonEmpty};
 ghost use Rattle.rangemap.specs.Ranges.{AreNonEmpty, closed};
 
-use rangemap::chunked::{InclusiveGaps, InclusiveIter, InclusiveOverlapping, RangeInclusiveMap};
+use crate::root;
+use rangemap::chunked::{
+    InclusiveGaps, InclusiveIntoIter, InclusiveIter, InclusiveOverlapping, RangeInclusiveMap,
+};
 use rangemap::{Form, ReadError, StepFns, StepLite, WriteError};
 use serde_json::Value;
 use std::alloc::{AllocError, Global};
+use std::fmt::Debug;
+use std::hash::{DefaultHasher, Hash, Hasher};
+use std::iter::IntoIterator;
 use std::ops::RangeInclusive;
 
 pub fn ask<'a, K: Ord + Clone, V: Eq + Clone, S: StepFns<K>>(
@@ -41,6 +50,73 @@ pub fn from<K: StepLite + Clone, V: Eq + Clone, const N: usize>(
     let map = RangeInclusiveMap::from(alloc, value)?;
     let copy = map.clone()?;
     Ok((map, copy))
+}
+
+pub fn empty<K: StepLite + Clone, V: Eq + Clone>(alloc: Global) -> RangeInclusiveMap<K, V, K> {
+    RangeInclusiveMap::new(alloc)
+}
+
+pub fn by_step_fns<K: Ord + Clone, V: Eq + Clone, S: StepFns<K>>(
+    alloc: Global,
+) -> RangeInclusiveMap<K, V, S> {
+    RangeInclusiveMap::new_with_step_fns(alloc)
+}
+
+pub fn collect<K: StepLite + Clone, V: Eq + Clone, I: IntoIterator<Item = (RangeInclusive<K>, V)>>(
+    alloc: Global,
+    iter: I,
+    extended: &mut RangeInclusiveMap<K, V, K>,
+    more: I,
+) -> Result<RangeInclusiveMap<K, V, K>, AllocError>
+    requires ends { IsFiniteIterable I.into_iter_gives I.IntoIter.can_next I.IntoIter.remaining iter }
+    requires non_empty { (it : I.IntoIter) → I.into_iter_gives iter it → GivesNonEmpty (closed K.StepLite.is_key K.cmp) I.IntoIter.next_gives it }
+    requires more_ends { IsFiniteIterable I.into_iter_gives I.IntoIter.can_next I.IntoIter.remaining more }
+    requires more_non_empty { (it : I.IntoIter) → I.into_iter_gives more it → GivesNonEmpty (closed K.StepLite.is_key K.cmp) I.IntoIter.next_gives it }
+    requires faithful_keys { KeysCloneFaithfully K.is_clone K.cmp }
+    requires faithful_values { ValuesCloneFaithfully V.is_clone V.eq }
+{
+    let answer = extended.extend(more);
+    let collected = RangeInclusiveMap::from_iter(alloc, iter)?;
+    answer?;
+    Ok(collected)
+}
+
+pub fn change<K: Ord + Clone, V: Eq + Clone, S: StepFns<K>>(
+    map: &mut RangeInclusiveMap<K, V, S>,
+    given: RangeInclusive<K>,
+    value: V,
+    taken: RangeInclusive<K>,
+) -> Result<(), AllocError>
+    requires given_non_empty { IsTrue (is_le (K.cmp (range_inclusive_start given) (range_inclusive_end given))) }
+    requires given_not_exhausted { range_inclusive_exhausted given ≡ false }
+    requires taken_non_empty { IsTrue (is_le (K.cmp (range_inclusive_start taken) (range_inclusive_end taken))) }
+    requires taken_not_exhausted { range_inclusive_exhausted taken ≡ false }
+    requires faithful_keys { KeysCloneFaithfully K.is_clone K.cmp }
+    requires faithful_values { ValuesCloneFaithfully V.is_clone V.eq }
+{
+    map.insert(given, value)?;
+    map.remove(taken)?;
+    map.clear();
+    Ok(())
+}
+
+pub fn hand_over<K: StepLite + Clone, V: Eq + Clone>(
+    map: RangeInclusiveMap<K, V, K>,
+) -> InclusiveIntoIter<K, V> {
+    map.into_iter()
+}
+
+pub fn compare_and_print<
+    K: StepLite + Clone + Hash + Debug,
+    V: Ord + Clone + Hash + Debug,
+    H: Hasher,
+>(
+    alloc: Global,
+    left: &RangeInclusiveMap<K, V, K>,
+    right: &RangeInclusiveMap<K, V, K>,
+    state: &mut H,
+) -> Result<(bool, String), AllocError> {
+    root::compare_and_print(alloc, left, right, state)
 }
 
 pub fn write_and_read<
@@ -77,21 +153,28 @@ pub fn write_and_read<
     )
 }
 
-/// A container, a key, and a range.
-type Asked<'a, K> = (&'a RangeInclusiveMap<K, u8>, &'a K, &'a RangeInclusive<K>);
-
-pub fn ask_all(
-    u32s: Asked<'_, u32>,
-    u64s: Asked<'_, u64>,
-    usizes: Asked<'_, usize>,
-    i64s: Asked<'_, i64>,
-    u128s: Asked<'_, u128>,
-    chars: Asked<'_, char>,
-) {
-    ask(u32s.0, u32s.1, u32s.2);
-    ask(u64s.0, u64s.1, u64s.2);
-    ask(usizes.0, usizes.1, usizes.2);
-    ask(i64s.0, i64s.1, i64s.2);
-    ask(u128s.0, u128s.1, u128s.2);
-    ask(chars.0, chars.1, chars.2);
+/// Makes every call, at one type of keys.
+pub fn every<K: StepLite + Clone + Hash + Debug, const N: usize>(
+    alloc: Global,
+    map: &mut RangeInclusiveMap<K, u8>,
+    listed: [(RangeInclusive<K>, u8); N],
+    given: RangeInclusive<K>,
+    taken: RangeInclusive<K>,
+) -> Result<(), AllocError>
+    requires listed_non_empty { AreNonEmpty (closed K.StepLite.is_key K.cmp) listed }
+    requires given_non_empty { (closed K.StepLite.is_key K.cmp).IsNonEmpty given }
+    requires taken_non_empty { (closed K.StepLite.is_key K.cmp).IsNonEmpty taken }
+    requires faithful_keys { KeysCloneFaithfully K.is_clone K.cmp }
+{
+    ask(map, given.start(), &given);
+    let _: (bool, String) = compare_and_print(alloc, map, map, &mut DefaultHasher::new())?;
+    let write = (root::write_nothing::<K>, root::write_nothing::<u8>);
+    let read = (|_: &Value| Err(()), |_: &Value| Err(()));
+    let _ = write_and_read(map, alloc, write, alloc, Form::Any, &Value::Null, read);
+    let _: RangeInclusiveMap<K, u8> = empty(alloc);
+    let _: RangeInclusiveMap<K, u8> = by_step_fns(alloc);
+    let (made, copy) = from(alloc, listed)?;
+    let collected = collect(alloc, made, map, copy)?;
+    let _: InclusiveIntoIter<K, u8> = hand_over(collected);
+    change(map, given, 1, taken)
 }

@@ -1,17 +1,23 @@
-//! The calls of `chunked::RangeInclusiveSet`, by their signatures. `changes` has what changes it,
-//! `named` what makes it and hands it over. All sets are one struct: `clear`, `extend`, `from_iter`,
-//! `new_with_step_fns`, comparisons and text are named over closed ranges by `inclusive_sets` alone.
+//! The calls of `chunked::RangeInclusiveSet`, by their signatures.
+ghost use Rattle.std.specs.Prelude.{◌≡◌, IsTrue, false};
+ghost use Rattle.std.specs.Iterator.{IsFiniteIterable};
+ghost use Rattle.std.specs.Ordering.{is_le};
+ghost use Rattle.std.specs.Range.{range_inclusive_start, range_inclusive_end, range_inclusive_exhausted};
 ghost use Rattle.rangemap.specs.Clones.{KeysCloneFaithfully};
 ghost use Rattle.rangemap.specs.Ranges.{closed};
-ghost use Rattle.rangemap.specs.Sets.{AreNonEmptyRanges};
+ghost use Rattle.rangemap.specs.Sets.{AreNonEmptyRanges, GivesNonEmptyRanges};
 
+use crate::root;
 use rangemap::chunked::{
-    InclusiveIntersection, InclusiveSetGaps, InclusiveSetIter, InclusiveSetOverlapping,
-    InclusiveUnion, RangeInclusiveSet,
+    InclusiveIntersection, InclusiveSetGaps, InclusiveSetIntoIter, InclusiveSetIter,
+    InclusiveSetOverlapping, InclusiveUnion, RangeInclusiveSet,
 };
 use rangemap::{Form, ReadError, StepFns, StepLite, WriteError};
 use serde_json::Value;
 use std::alloc::{AllocError, Global};
+use std::fmt::Debug;
+use std::hash::{DefaultHasher, Hash, Hasher};
+use std::iter::IntoIterator;
 use std::ops::RangeInclusive;
 
 pub fn ask<'a, T: Ord + Clone, S: StepFns<T>>(
@@ -34,20 +40,85 @@ pub fn ask<'a, T: Ord + Clone, S: StepFns<T>>(
     let _: InclusiveSetGaps<'a, T, S> = set.gaps(range);
     let _: InclusiveUnion<'a, T> = set.union(other);
     let _: InclusiveIntersection<'a, T> = set.intersection(other);
+    let _: InclusiveUnion<'a, T> = InclusiveUnion::new(set.iter(), other.iter());
+    let _: InclusiveIntersection<'a, T> = InclusiveIntersection::new(set.iter(), other.iter());
 }
 
 pub fn from<T: StepLite + Clone, const N: usize>(
     alloc: Global,
     value: [RangeInclusive<T>; N],
     other: &RangeInclusiveSet<T, T>,
-) -> Result<[RangeInclusiveSet<T, T>; 3], AllocError>
+) -> Result<
+    (
+        RangeInclusiveSet<T, T>,
+        RangeInclusiveSet<T, T>,
+        RangeInclusiveSet<T, T>,
+    ),
+    AllocError,
+>
     requires non_empty { AreNonEmptyRanges (closed T.StepLite.is_key T.cmp) value }
     requires faithful_keys { KeysCloneFaithfully T.is_clone T.cmp }
 {
     let set = RangeInclusiveSet::from(alloc, value)?;
     let either = (&set | other)?;
     let both = (&set & other)?;
-    Ok([set.clone()?, either, both])
+    Ok((set.clone()?, either, both))
+}
+
+pub fn empty<T: StepLite + Clone>(alloc: Global) -> RangeInclusiveSet<T, T> {
+    RangeInclusiveSet::new(alloc)
+}
+
+pub fn by_step_fns<T: Ord + Clone, S: StepFns<T>>(alloc: Global) -> RangeInclusiveSet<T, S> {
+    RangeInclusiveSet::new_with_step_fns(alloc)
+}
+
+pub fn collect<T: StepLite + Clone, I: IntoIterator<Item = RangeInclusive<T>>>(
+    alloc: Global,
+    iter: I,
+    extended: &mut RangeInclusiveSet<T, T>,
+    more: I,
+) -> Result<RangeInclusiveSet<T, T>, AllocError>
+    requires ends { IsFiniteIterable I.into_iter_gives I.IntoIter.can_next I.IntoIter.remaining iter }
+    requires non_empty { (it : I.IntoIter) → I.into_iter_gives iter it → GivesNonEmptyRanges (closed T.StepLite.is_key T.cmp) I.IntoIter.next_gives it }
+    requires more_ends { IsFiniteIterable I.into_iter_gives I.IntoIter.can_next I.IntoIter.remaining more }
+    requires more_non_empty { (it : I.IntoIter) → I.into_iter_gives more it → GivesNonEmptyRanges (closed T.StepLite.is_key T.cmp) I.IntoIter.next_gives it }
+    requires faithful_keys { KeysCloneFaithfully T.is_clone T.cmp }
+{
+    let answer = extended.extend(more);
+    let collected = RangeInclusiveSet::from_iter(alloc, iter)?;
+    answer?;
+    Ok(collected)
+}
+
+pub fn change<T: Ord + Clone, S: StepFns<T>>(
+    set: &mut RangeInclusiveSet<T, S>,
+    given: RangeInclusive<T>,
+    taken: RangeInclusive<T>,
+) -> Result<(), AllocError>
+    requires given_non_empty { IsTrue (is_le (T.cmp (range_inclusive_start given) (range_inclusive_end given))) }
+    requires given_not_exhausted { range_inclusive_exhausted given ≡ false }
+    requires taken_non_empty { IsTrue (is_le (T.cmp (range_inclusive_start taken) (range_inclusive_end taken))) }
+    requires taken_not_exhausted { range_inclusive_exhausted taken ≡ false }
+    requires faithful_keys { KeysCloneFaithfully T.is_clone T.cmp }
+{
+    set.insert(given)?;
+    set.remove(taken)?;
+    set.clear();
+    Ok(())
+}
+
+pub fn hand_over<T: StepLite + Clone>(set: RangeInclusiveSet<T, T>) -> InclusiveSetIntoIter<T> {
+    set.into_iter()
+}
+
+pub fn compare_and_print<T: StepLite + Clone + Hash + Debug, H: Hasher>(
+    alloc: Global,
+    left: &RangeInclusiveSet<T, T>,
+    right: &RangeInclusiveSet<T, T>,
+    state: &mut H,
+) -> Result<(bool, String), AllocError> {
+    root::compare_and_print(alloc, left, right, state)
 }
 
 pub fn write_and_read<
@@ -78,15 +149,27 @@ pub fn write_and_read<
     )
 }
 
-/// Two containers, a value, and a range.
-type Asked<'a, T> = (
-    &'a RangeInclusiveSet<T>,
-    &'a T,
-    &'a RangeInclusive<T>,
-    &'a RangeInclusiveSet<T>,
-);
-
-pub fn ask_all(u32s: Asked<'_, u32>, chars: Asked<'_, char>) {
-    ask(u32s.0, u32s.1, u32s.2, u32s.3);
-    ask(chars.0, chars.1, chars.2, chars.3);
+/// Makes every call, at one type of keys.
+pub fn every<T: StepLite + Clone + Hash + Debug, const N: usize>(
+    alloc: Global,
+    set: &mut RangeInclusiveSet<T>,
+    listed: [RangeInclusive<T>; N],
+    given: RangeInclusive<T>,
+    taken: RangeInclusive<T>,
+) -> Result<(), AllocError>
+    requires listed_non_empty { AreNonEmptyRanges (closed T.StepLite.is_key T.cmp) listed }
+    requires given_non_empty { (closed T.StepLite.is_key T.cmp).IsNonEmpty given }
+    requires taken_non_empty { (closed T.StepLite.is_key T.cmp).IsNonEmpty taken }
+    requires faithful_keys { KeysCloneFaithfully T.is_clone T.cmp }
+{
+    ask(set, given.start(), &given, set);
+    let _: (bool, String) = compare_and_print(alloc, set, set, &mut DefaultHasher::new())?;
+    let (write, read) = (root::write_nothing::<T>, |_: &Value| Err(()));
+    let _ = write_and_read(set, alloc, write, alloc, Form::Any, &Value::Null, read);
+    let _: RangeInclusiveSet<T> = empty(alloc);
+    let _: RangeInclusiveSet<T> = by_step_fns(alloc);
+    let (made, either, _both) = from(alloc, listed, set)?;
+    let collected = collect(alloc, made, set, either)?;
+    let _: InclusiveSetIntoIter<T> = hand_over(collected);
+    change(set, given, taken)
 }

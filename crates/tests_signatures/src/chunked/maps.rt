@@ -1,4 +1,4 @@
-//! The calls of `chunked::RangeMap`, by their signatures; `changes` has what changes it.
+//! The calls of `chunked::RangeMap`, by their signatures.
 ghost use Rattle.std.specs.Iterator.{IsFiniteIterable};
 ghost use Rattle.rangemap.specs.Clones.{KeysCloneFaithfully, ValuesCloneFaithfully};
 ghost use Rattle.rangemap.specs.NonEmptyPairs.{GivesNonEmpty};
@@ -10,7 +10,7 @@ use rangemap::{Form, ReadError, WriteError};
 use serde_json::Value;
 use std::alloc::{AllocError, Global};
 use std::fmt::Debug;
-use std::hash::{Hash, Hasher};
+use std::hash::{DefaultHasher, Hash, Hasher};
 use std::iter::IntoIterator;
 use std::ops::Range;
 
@@ -47,11 +47,19 @@ pub fn from<K: Ord + Clone, V: Eq + Clone, const N: usize>(
     Ok((map, copy))
 }
 
+pub fn empty<K: Ord + Clone, V: Eq + Clone>(
+    alloc: Global,
+    other: Global,
+) -> (RangeMap<K, V>, RangeMap<K, V>) {
+    (RangeMap::new(alloc), RangeMap::new_with_step_fns(other))
+}
+
 pub fn collect<K: Ord + Clone, V: Eq + Clone, I: IntoIterator<Item = (Range<K>, V)>>(
     alloc: Global,
     iter: I,
+    extended: &mut RangeMap<K, V>,
     more: I,
-) -> Result<(RangeMap<K, V>, RangeMap<K, V>), AllocError>
+) -> Result<RangeMap<K, V>, AllocError>
     requires ends { IsFiniteIterable I.into_iter_gives I.IntoIter.can_next I.IntoIter.remaining iter }
     requires non_empty { (it : I.IntoIter) → I.into_iter_gives iter it → GivesNonEmpty (half_open K.cmp) I.IntoIter.next_gives it }
     requires more_ends { IsFiniteIterable I.into_iter_gives I.IntoIter.can_next I.IntoIter.remaining more }
@@ -59,11 +67,27 @@ pub fn collect<K: Ord + Clone, V: Eq + Clone, I: IntoIterator<Item = (Range<K>, 
     requires faithful_keys { KeysCloneFaithfully K.is_clone K.cmp }
     requires faithful_values { ValuesCloneFaithfully V.is_clone V.eq }
 {
-    let mut extended: RangeMap<K, V> = RangeMap::new(alloc);
     let answer = extended.extend(more);
     let collected = RangeMap::from_iter(alloc, iter)?;
     answer?;
-    Ok((collected, extended))
+    Ok(collected)
+}
+
+pub fn change<K: Ord + Clone, V: Eq + Clone>(
+    map: &mut RangeMap<K, V>,
+    given: Range<K>,
+    value: V,
+    taken: Range<K>,
+) -> Result<(), AllocError>
+    requires given_non_empty { (half_open K.cmp).IsNonEmpty given }
+    requires taken_non_empty { (half_open K.cmp).IsNonEmpty taken }
+    requires faithful_keys { KeysCloneFaithfully K.is_clone K.cmp }
+    requires faithful_values { ValuesCloneFaithfully V.is_clone V.eq }
+{
+    map.insert(given, value)?;
+    map.remove(taken)?;
+    map.clear();
+    Ok(())
 }
 
 pub fn hand_over<K: Ord + Clone, V: Eq + Clone>(map: RangeMap<K, V>) -> IntoIter<K, V> {
@@ -113,23 +137,27 @@ pub fn write_and_read<
     )
 }
 
-/// A container, a key, and a range.
-type Asked<'a, K> = (&'a RangeMap<K, u8>, &'a K, &'a Range<K>);
-
-pub fn ask_all(
-    u32s: Asked<'_, u32>,
-    u64s: Asked<'_, u64>,
-    usizes: Asked<'_, usize>,
-    i64s: Asked<'_, i64>,
-    u128s: Asked<'_, u128>,
-    chars: Asked<'_, char>,
-    texts: Asked<'_, String>,
-) {
-    ask(u32s.0, u32s.1, u32s.2);
-    ask(u64s.0, u64s.1, u64s.2);
-    ask(usizes.0, usizes.1, usizes.2);
-    ask(i64s.0, i64s.1, i64s.2);
-    ask(u128s.0, u128s.1, u128s.2);
-    ask(chars.0, chars.1, chars.2);
-    ask(texts.0, texts.1, texts.2);
+/// Makes every call, at one type of keys.
+pub fn every<K: Ord + Clone + Hash + Debug, const N: usize>(
+    alloc: Global,
+    map: &mut RangeMap<K, u8>,
+    listed: [(Range<K>, u8); N],
+    given: Range<K>,
+    taken: Range<K>,
+) -> Result<(), AllocError>
+    requires listed_non_empty { AreNonEmpty (half_open K.cmp) listed }
+    requires given_non_empty { (half_open K.cmp).IsNonEmpty given }
+    requires taken_non_empty { (half_open K.cmp).IsNonEmpty taken }
+    requires faithful_keys { KeysCloneFaithfully K.is_clone K.cmp }
+{
+    ask(map, &given.start, &given);
+    let _: (bool, String) = compare_and_print(alloc, map, map, &mut DefaultHasher::new())?;
+    let write = (root::write_nothing::<K>, root::write_nothing::<u8>);
+    let read = (|_: &Value| Err(()), |_: &Value| Err(()));
+    let _ = write_and_read(map, alloc, write, alloc, Form::Any, &Value::Null, read);
+    let _: (RangeMap<K, u8>, RangeMap<K, u8>) = empty(alloc, alloc);
+    let (made, copy) = from(alloc, listed)?;
+    let collected = collect(alloc, made, map, copy)?;
+    let _: IntoIter<K, u8> = hand_over(collected);
+    change(map, given, 1, taken)
 }

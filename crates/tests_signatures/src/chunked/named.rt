@@ -1,12 +1,11 @@
 //! Each alias with its defaults, and with all parameters.
 
-use crate::chunked::maps;
+use crate::chunked::{inclusive_maps, inclusive_sets, maps, sets};
 use rangemap::chunked::{
     InclusiveIntoIter, InclusiveSetIntoIter, IntoIter, RangeInclusiveMap, RangeInclusiveSet,
     RangeMap, RangeSet, SetIntoIter,
 };
 use std::alloc::{AllocError, Global};
-use std::iter::IntoIterator;
 use std::ops::Range;
 
 // the calls of replays, and the replays
@@ -52,15 +51,15 @@ pub fn hand_over_maps(
     map: RangeMap<u64, char>,
     closed: RangeInclusiveMap<i64, char>,
 ) -> (IntoIter<u64, char>, InclusiveIntoIter<i64, char>) {
-    (maps::hand_over(map), closed.into_iter())
+    (maps::hand_over(map), inclusive_maps::hand_over(closed))
 }
 
 pub fn hand_over_set(set: RangeSet<u64>) -> SetIntoIter<u64> {
-    set.into_iter()
+    sets::hand_over(set)
 }
 
 pub fn hand_over_closed_set(set: RangeInclusiveSet<i64>) -> InclusiveSetIntoIter<i64> {
-    set.into_iter()
+    inclusive_sets::hand_over(set)
 }
 
 pub fn of_lists(alloc: Global) -> Result<(RangeMap<u32, char>, RangeSet<u32>), AllocError> {

@@ -1,14 +1,19 @@
-//! The calls of `chunked::RangeSet`, by their signatures. `changes` has what changes it, `named` what
-//! makes it and hands it over. All sets are one struct: `clear`, `extend`, `from_iter`, comparisons
-//! and text are named over half-open ranges by `sets` and `tree_sets` alone.
+//! The calls of `chunked::RangeSet`, by their signatures.
+ghost use Rattle.std.specs.Iterator.{IsFiniteIterable};
 ghost use Rattle.rangemap.specs.Clones.{KeysCloneFaithfully};
 ghost use Rattle.rangemap.specs.Ranges.{half_open};
-ghost use Rattle.rangemap.specs.Sets.{AreNonEmptyRanges};
+ghost use Rattle.rangemap.specs.Sets.{AreNonEmptyRanges, GivesNonEmptyRanges};
 
-use rangemap::chunked::{Intersection, RangeSet, SetGaps, SetIter, SetOverlapping, Union};
+use crate::root;
+use rangemap::chunked::{
+    Intersection, RangeSet, SetGaps, SetIntoIter, SetIter, SetOverlapping, Union,
+};
 use rangemap::{Form, ReadError, WriteError};
 use serde_json::Value;
 use std::alloc::{AllocError, Global};
+use std::fmt::Debug;
+use std::hash::{DefaultHasher, Hash, Hasher};
+use std::iter::IntoIterator;
 use std::ops::Range;
 
 pub fn ask<'a, T: Ord + Clone>(
@@ -31,20 +36,72 @@ pub fn ask<'a, T: Ord + Clone>(
     let _: SetGaps<'a, T> = set.gaps(range);
     let _: Union<'a, T> = set.union(other);
     let _: Intersection<'a, T> = set.intersection(other);
+    let _: Union<'a, T> = Union::new(set.iter(), other.iter());
+    let _: Intersection<'a, T> = Intersection::new(set.iter(), other.iter());
 }
 
 pub fn from<T: Ord + Clone, const N: usize>(
     alloc: Global,
     value: [Range<T>; N],
     other: &RangeSet<T>,
-) -> Result<[RangeSet<T>; 3], AllocError>
+) -> Result<(RangeSet<T>, RangeSet<T>, RangeSet<T>), AllocError>
     requires non_empty { AreNonEmptyRanges (half_open T.cmp) value }
     requires faithful_keys { KeysCloneFaithfully T.is_clone T.cmp }
 {
     let set = RangeSet::from(alloc, value)?;
     let either = (&set | other)?;
     let both = (&set & other)?;
-    Ok([set.clone()?, either, both])
+    Ok((set.clone()?, either, both))
+}
+
+pub fn empty<T: Ord + Clone>(alloc: Global, other: Global) -> (RangeSet<T>, RangeSet<T>) {
+    (RangeSet::new(alloc), RangeSet::new_with_step_fns(other))
+}
+
+pub fn collect<T: Ord + Clone, I: IntoIterator<Item = Range<T>>>(
+    alloc: Global,
+    iter: I,
+    extended: &mut RangeSet<T>,
+    more: I,
+) -> Result<RangeSet<T>, AllocError>
+    requires ends { IsFiniteIterable I.into_iter_gives I.IntoIter.can_next I.IntoIter.remaining iter }
+    requires non_empty { (it : I.IntoIter) → I.into_iter_gives iter it → GivesNonEmptyRanges (half_open T.cmp) I.IntoIter.next_gives it }
+    requires more_ends { IsFiniteIterable I.into_iter_gives I.IntoIter.can_next I.IntoIter.remaining more }
+    requires more_non_empty { (it : I.IntoIter) → I.into_iter_gives more it → GivesNonEmptyRanges (half_open T.cmp) I.IntoIter.next_gives it }
+    requires faithful_keys { KeysCloneFaithfully T.is_clone T.cmp }
+{
+    let answer = extended.extend(more);
+    let collected = RangeSet::from_iter(alloc, iter)?;
+    answer?;
+    Ok(collected)
+}
+
+pub fn change<T: Ord + Clone>(
+    set: &mut RangeSet<T>,
+    given: Range<T>,
+    taken: Range<T>,
+) -> Result<(), AllocError>
+    requires given_non_empty { (half_open T.cmp).IsNonEmpty given }
+    requires taken_non_empty { (half_open T.cmp).IsNonEmpty taken }
+    requires faithful_keys { KeysCloneFaithfully T.is_clone T.cmp }
+{
+    set.insert(given)?;
+    set.remove(taken)?;
+    set.clear();
+    Ok(())
+}
+
+pub fn hand_over<T: Ord + Clone>(set: RangeSet<T>) -> SetIntoIter<T> {
+    set.into_iter()
+}
+
+pub fn compare_and_print<T: Ord + Clone + Hash + Debug, H: Hasher>(
+    alloc: Global,
+    left: &RangeSet<T>,
+    right: &RangeSet<T>,
+    state: &mut H,
+) -> Result<(bool, String), AllocError> {
+    root::compare_and_print(alloc, left, right, state)
 }
 
 pub fn write_and_read<
@@ -72,11 +129,26 @@ pub fn write_and_read<
     (written, RangeSet::from_value(other, form, value, read_key))
 }
 
-/// Two containers, a value, and a range.
-type Asked<'a, T> = (&'a RangeSet<T>, &'a T, &'a Range<T>, &'a RangeSet<T>);
-
-pub fn ask_all(u32s: Asked<'_, u32>, chars: Asked<'_, char>, texts: Asked<'_, String>) {
-    ask(u32s.0, u32s.1, u32s.2, u32s.3);
-    ask(chars.0, chars.1, chars.2, chars.3);
-    ask(texts.0, texts.1, texts.2, texts.3);
+/// Makes every call, at one type of keys.
+pub fn every<T: Ord + Clone + Hash + Debug, const N: usize>(
+    alloc: Global,
+    set: &mut RangeSet<T>,
+    listed: [Range<T>; N],
+    given: Range<T>,
+    taken: Range<T>,
+) -> Result<(), AllocError>
+    requires listed_non_empty { AreNonEmptyRanges (half_open T.cmp) listed }
+    requires given_non_empty { (half_open T.cmp).IsNonEmpty given }
+    requires taken_non_empty { (half_open T.cmp).IsNonEmpty taken }
+    requires faithful_keys { KeysCloneFaithfully T.is_clone T.cmp }
+{
+    ask(set, &given.start, &given, set);
+    let _: (bool, String) = compare_and_print(alloc, set, set, &mut DefaultHasher::new())?;
+    let (write, read) = (root::write_nothing::<T>, |_: &Value| Err(()));
+    let _ = write_and_read(set, alloc, write, alloc, Form::Any, &Value::Null, read);
+    let _: (RangeSet<T>, RangeSet<T>) = empty(alloc, alloc);
+    let (made, either, _both) = from(alloc, listed, set)?;
+    let collected = collect(alloc, made, set, either)?;
+    let _: SetIntoIter<T> = hand_over(collected);
+    change(set, given, taken)
 }
