@@ -1,9 +1,8 @@
 //! Maps and sets whose keys are stored as ranges, with every function proved.
 //!
 //! A map keeps whole ranges of keys with one value each, a set whole ranges of keys. Ranges that
-//! touch and have equal values are one, so that a container holds the one canonical list of the
-//! function that its calls gave: two containers are equal exactly where they answer alike. It is the
-//! Rust crate `rangemap` 1.8.0 in Rattle.
+//! touch and have equal values are one, so two containers are equal exactly where they answer alike,
+//! however they came about. It is the Rust crate `rangemap` 1.8.0 in Rattle.
 //!
 //! # Examples
 //!

@@ -18,8 +18,8 @@ use std::iter::IntoIterator;
 ///
 /// The stretches are those of the pairs that overlap the query, cut to it, and its gaps. Together
 /// they have exactly its keys, so each touches the next. Nothing is asked of the query: one whose
-/// start lies behind its end has no stretch, nor has a half-open one whose start is its end; whether
-/// a closed one was iterated is not asked.
+/// start lies behind its end has no stretch, nor has a half-open one whose start is its end. A closed
+/// one that was iterated counts by its two ends.
 ///
 /// It takes *O*(log *n* + *k* log *k*), with *k* stored ranges that the query overlaps. Memory of
 /// `alloc` is for clones of these pairs, and for the answer.

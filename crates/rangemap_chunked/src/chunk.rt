@@ -1,7 +1,8 @@
 //! A chunk: pairs in one vector.
 //!
-//! It does not say that its pairs are canonical, as `SortedVec` does: what lends chunks would have
-//! to name the kind of their ranges then, and a function could take few of such iterators.
+//! That its pairs are canonical is said by the store, and not here, as `SortedVec` says it of its own:
+//! an iterator over chunks would have to name the kind of their ranges then, and the check takes few
+//! such iterators in one function.
 ghost use Rattle.std.specs.Prelude.{◌≡◌, ◌≤◌, ◌<◌, ◌+◌, ◌-◌, true, [], ◌++◌, length, slice_get, take, drop, IfOk, IsOk, OnErr, OnOk, None as NoneWord};
 ghost use Rattle.std.specs.Option.{option_map};
 ghost use Rattle.std.specs.Vec.Iter.{into_iter_items};
@@ -117,9 +118,9 @@ impl<R, V, A: Allocator> Chunk<R, V, A> {
         self.pairs.append(&mut other.pairs)
     }
 
-    /// Shrinks the room where at most half of it, and one pair, is used, as after a growth, which doubles
-    /// it, or after removals. What stays is room for a third more pairs than there are, within `LEAST` and
-    /// `most`, and for those that there are. Room for no more than `LEAST` stays, and a refusal leaves all.
+    /// Gives room back where at most half of it, and one pair, is used, as after a growth, which doubles
+    /// it, or after removals. What stays is room for a third more pairs than there are, for no more than
+    /// `most`, no fewer than `LEAST`, and never fewer than there are. A refusal changes nothing.
     pub fn give_room_back(&mut self, most: usize)
         ensures { self.new ≡ self.old }
     {

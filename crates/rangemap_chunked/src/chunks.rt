@@ -77,6 +77,7 @@ impl<Q: Kind<R>, R: KeyRange, V: Eq + Clone, A: Allocator + Clone, const N: usiz
     ghost pairs = { λ s. s };
 
     fn known(&self) {
+        // The check knows the invariant of what is read.
         let _len = self.len;
     }
 

@@ -101,8 +101,8 @@ pub fn start_of<Q: Kind<R>, R: KeyRange, V: Eq, A: Allocator>(
     count.saturating_sub(1)
 }
 
-/// Returns the place of the first item behind `at` that fails the test, of a list whose first part
-/// passes it: the next one where that fails it, for which one look suffices.
+/// Returns the first place behind `at` whose item fails the test, of a list in which all that pass it
+/// come first. It looks at the next item, and searches only where that one passes.
 pub fn first_failing<T, P: Fn(&T) -> bool>(items: &[T], at: usize, passes: P) -> usize
     requires in_bounds { at < length items.now }
     requires callable { P.IsAlwaysCallable passes }

@@ -76,7 +76,7 @@ pub trait Container: PartialEq + Drop {
     ///
     /// # Requires
     ///
-    /// What `insert` does.
+    /// As for `insert`.
     ///
     /// # Errors
     ///

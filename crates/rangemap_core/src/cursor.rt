@@ -7,8 +7,8 @@ use crate::key_range::KeyRange;
 
 /// What takes the pairs of a store one after another, from both ends.
 ///
-/// The public iterators are made of one, so that a store writes no impl of std's `Iterator`. It names
-/// no lifetime, so that a struct may hold any.
+/// The public iterators wrap one, so that no store writes an impl of std's `Iterator`. The trait has no
+/// lifetime, so that a struct can hold a cursor of any.
 pub trait Cursor: Drop {
     /// A stored range.
     type Range;

@@ -44,7 +44,8 @@ impl<'a, Q: Kind<R>, R: KeyRange, C: Cursor<Range = R>> Model for Gaps<'a, Q, R,
 }
 
 impl<'a, Q: Kind<R>, R: KeyRange + 'a, C: LentCursor<'a, R, GivenValue: Drop>> Gaps<'a, Q, R, C> {
-    /// Returns the gaps that pairs leave in the range, where they are those that overlap it.
+    /// Returns the gaps that pairs leave in the range, where they are those of a canonical list that
+    /// overlap it, and its ends are keys.
     pub fn over(pairs: C, outer_range: &'a R) -> Self
         ensures items { result ≡ gaps_from Q.kind Q.end_place Q.part_of (AtStart outer_range.now) outer_range.now (C.left pairs) }
         ensures gaps { (eq : C.Value → C.Value → Bool) → (list : List (R × C.Value)) → IsCanonical Q.kind eq list → IsAsked Q.kind outer_range.now → C.left pairs ≡ overlapped Q.kind list outer_range.now → AreGaps Q.kind (map (λ pair. pair.0) list) outer_range.now result }

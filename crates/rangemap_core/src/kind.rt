@@ -52,7 +52,8 @@ pub trait Kind<R: KeyRange> {
     fn known(key: &R::Key)
         ensures { kind.is_key key.now };
 
-    /// Returns how the first range lies relative to the second: the touch test of `std_ext` for the kind.
+    /// Returns how the first range lies relative to the second: whether it lies wholly before it, and
+    /// then whether they touch.
     fn touch_test(first: &R, second: &R) -> Touch
         ensures { IsTouch kind first.now second.now result };
 

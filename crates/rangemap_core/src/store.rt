@@ -106,8 +106,8 @@ pub trait Store {
 
 /// A store that is made and changed.
 ///
-/// It is a trait of its own, since a call on a map whose store is known is checked with each method of
-/// the call's bound: who only asks pays for no change.
+/// It is a trait of its own, since the check of a call takes time for each method of the traits in the
+/// call's bound: code that only asks does not pay for the changes.
 pub trait StoreMut: Store {
     /// Returns the empty store, whose memory comes from `alloc`. It takes none yet.
     fn empty(alloc: Self::Alloc) -> Self
@@ -136,7 +136,7 @@ pub trait StoreMut: Store {
     ///
     /// # Requires
     ///
-    /// What `insert` does.
+    /// As for `insert`.
     ///
     /// # Errors
     ///

@@ -1,8 +1,7 @@
 //! The debug text of what a store holds.
 //!
-//! It is written by hand where no form is asked for, since std's `Debug` of ranges, and its
-//! builders, have no contract. Under `{:#?}` std's `debug_set` lays the pairs out, and nothing is
-//! promised.
+//! The plain text is written by hand, since std's `Debug` of ranges, and its builders, have no contract.
+//! Under `{:#?}` std's `debug_set` lays the pairs out, and nothing is promised of that text.
 ghost use Rattle.std.specs.Prelude.{◌≡◌, ℕ, List, Option, Some, codes, map};
 ghost use Rattle.std.specs.Fmt.{DisplaysOnOk, WritesOnOk, ◌++?◌};
 ghost use Rattle.rangemap_formats.specs.Texts.{braced_text, items_text, map_text, others_text, pair_text, range_text, set_text};

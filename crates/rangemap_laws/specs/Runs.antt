@@ -8,7 +8,7 @@ use Rattle.rangemap_laws.specs.declared.commands.command.Command.{Command}
 use Rattle.rangemap_laws.specs.declared.commands.command.Command.TheVariants.{Insert, Remove, Clear, Len, Get, GetKeyValue, All, Overlapping}
 use Rattle.rangemap_core.specs.Ranges.{RangeKind, AreStorable, IsCanonOf, IsStorable, covering, erase, overlapped, override, same_pair, same_pairs, value_at}
 
--- The range that a command changes is not empty. Of one that only asks, nothing is asked.
+-- The range of an insert or a removal is not empty. Of other commands nothing is asked.
 abbrev pub IsAllowed : {K X V : Type 0} → RangeKind K X → Command K X V → Type 0
 IsAllowed k (Insert range value) = k.IsNonEmpty range
 IsAllowed k (Remove range) = k.IsNonEmpty range
@@ -27,7 +27,7 @@ module _ {K X V : Type 0} (k : RangeKind K X) (eq : V → V → Bool) where
   IsAccepted {A} old All given new = (pairs : Vec (X × V) A) × (given ≡ answer.Pairs pairs) × (same_pairs k eq old pairs.items ≡ true) × AreStorable k pairs.items × (new ≡ old)
   IsAccepted {A} old (Overlapping query) given new = (pairs : Vec (X × V) A) × (given ≡ answer.Pairs pairs) × (same_pairs k eq (overlapped k old query) pairs.items ≡ true) × AreStorable k pairs.items × (new ≡ old)
 
--- A command was refused, and nothing changed. What takes no memory is never refused, nor is what asks of a key that no range has.
+-- A command was refused, and nothing changed. Clearing and counting are never refused, nor is a removal that meets nothing, nor what asks of a key that no range has.
 abbrev pub IsRefused : {K X V : Type 0} → RangeKind K X → List (X × V) → Command K X V → List (X × V) → Type 0
 IsRefused k old (Insert range value) new = new ≡ old
 IsRefused k old (Remove range) new = (new ≡ old) × (overlapped k old range ≢ [])

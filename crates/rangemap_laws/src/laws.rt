@@ -77,7 +77,7 @@ pub fn insert_changes_its_range_alone<M: Container>(
 }
 
 /// After a remove no key of the range is covered, and any other key is covered exactly as before,
-/// with an equal value.
+/// with an equal value. Where no stored range overlaps it, the remove succeeds and changes nothing.
 pub fn remove_changes_its_range_alone<M: Container>(
     map: &mut M,
     range: M::Range,

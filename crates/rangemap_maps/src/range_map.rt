@@ -202,8 +202,8 @@ where
     /// Returns the parts of `outer_range` that no stored range covers, in order.
     ///
     /// Between two stored ranges that touch there is none. Nothing is asked of `outer_range`: one
-    /// whose start lies behind its end has no gaps, nor has a half-open one whose start is its end;
-    /// whether a closed one was iterated is not asked. A gap is made of clones when it is asked for,
+    /// whose start lies behind its end has no gaps, nor has a half-open one whose start is its end.
+    /// A closed one that was iterated counts by its two ends. A gap is made of clones when it is asked for,
     /// which may be refused.
     ///
     /// # Examples

@@ -1,9 +1,9 @@
 //! The pairs that overlap a range: for queries an iterator over them, for changes their places.
 //!
-//! Where they begin is searched for among the starts, as a lookup does. Where they end the next few
-//! pairs are looked at one by one, and where more are met it is searched for: of a change among the
-//! starts, of a query over whole pairs, by std's `partition_point`, since the iterator knows how its
-//! ranges are read, and no kind of range that the search among starts asks for.
+//! Where they begin is searched for among the starts, as a lookup does. For where they end the next few
+//! pairs are looked at one by one, and only if more are met is there a search. A change searches among
+//! the starts. A query's iterator searches over whole pairs, by std's `partition_point`: it does not know
+//! the kind of its ranges, which the search among starts needs.
 ghost use Rattle.std.specs.Prelude.{◌≡◌, ◌<◌, ◌≤◌, true, false, length, take_while};
 ghost use Rattle.std.specs.List.Sorted.{IsPartitionedBy};
 ghost use Rattle.rangemap_core.specs.engine.Intervals.{is_begun};
@@ -204,7 +204,7 @@ fn overlap_start<Q: Kind<R>, R: KeyRange, V: Eq>(pairs: &[(R, V)], query: &R) ->
     near - usize::from(reaches)
 }
 
-// How far on from a place the pairs start before the query ends.
+// The place of the first pair from `start` on that does not start before the query ends.
 fn overlap_end<Q: Kind<R>, R: KeyRange, V: Eq>(pairs: &[(R, V)], query: &R, start: usize) -> usize
     requires canonical { IsCanonical Q.kind V.eq pairs.now }
     requires in_bounds { start ≤ length pairs.now }

@@ -25,9 +25,10 @@ pub fn starts_up_to<'a, Q: Kind<R>, R: KeyRange + 'a, V: Eq + 'a>(
 
 /// Returns how many starts are not after the key. The probe is fresh, and counts what is asked.
 ///
-/// The count is made of powers of two, from the greatest that is no more than the number of starts
-/// down to 1: each is added where the start before the sum is not after the key. That takes one ask
-/// for each power.
+/// The first ask is for the start `whole` places before the end, where `whole` is the greatest power of
+/// two that is no more than the number of starts. Where it is not after the key, all starts up to it
+/// count, and either way fewer than `whole` are left to decide: the smaller powers are tried in turn,
+/// and each is added where the start before the sum is not after the key. That is one ask for each power.
 pub fn count_up_to<'a, Q: Kind<R>, R: KeyRange + 'a, V>(
     probe: &mut Probe<'a, Q, R, V>,
     key: &R::Key,
@@ -55,7 +56,7 @@ pub fn count_up_to<'a, Q: Kind<R>, R: KeyRange + 'a, V>(
     'halves: while 1 < half {
         half /= 2;
         // This never turns. In a loop that has no other within, LLVM makes a branch of the
-        // conditional move below.
+        // conditional move below, which docs/SPEED.md tells of.
         'fits: while len < base + half {
             half >>= 1;
         }

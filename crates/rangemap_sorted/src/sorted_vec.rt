@@ -56,6 +56,7 @@ impl<Q: Kind<R>, R: KeyRange, V: Eq + Clone, A: Allocator> Store for SortedVec<Q
     ghost pairs = { λ s. s };
 
     fn known(&self) {
+        // The check knows the invariant of what is read.
         let _pairs = &self.pairs;
     }
 

@@ -107,7 +107,7 @@ fn put<T: Drop, A: Allocator>(
     }
 }
 
-// Moves the last values before those from `from` on.
+// Moves the last `count` values in front of those from `from` on.
 fn rotate_tail<T, A: Allocator>(list: &mut Vec<T, A>, from: usize, count: usize)
     requires { from + count ≤ vec_len list.old }
     ensures { list.new.items ≡ take from list.old.items ++ (drop (vec_len list.old - count) list.old.items ++ take (vec_len list.old - count - from) (drop from list.old.items)) }

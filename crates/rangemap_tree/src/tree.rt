@@ -63,6 +63,7 @@ impl<K: Ord + Clone, V: Eq + Clone, A: Allocator + Clone> Store for Tree<K, V, A
     ghost pairs = { λ s. s };
 
     fn known(&self) {
+        // The check knows the invariant of what is read.
         let _pairs = &self.pairs;
     }
 

@@ -20,9 +20,9 @@ use std::marker::Model;
 
 /// The intersection of two lists of ranges: the parts that both have, in order.
 ///
-/// Of closed ranges `Intersection::new` says *common* with every value of the key type as a key,
-/// since it knows no steps. `laws::sets::closed_operations` tells the same items by the steps' keys,
-/// and so does a set's own `intersection`.
+/// For closed ranges the contract of `Intersection::new` counts every value of the key type as a key, since
+/// it knows no steps. `laws::sets::closed_operations` tells the same items by the steps' keys, and so
+/// does a set's own `intersection`.
 #[derive(Drop)]
 pub struct Intersection<C: Cursor<Range: KeyRange>> {
     sides: Sides<C>,

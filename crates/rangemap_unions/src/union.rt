@@ -23,8 +23,8 @@ use std::marker::Model;
 /// The union of two lists of ranges: those of both, joined where they overlap, in order. Ranges
 /// that only touch stay apart.
 ///
-/// Of closed ranges `Union::new` says *hulls* with every value of the key type as a key, since it
-/// knows no steps. `laws::sets::closed_operations` tells the same items by the steps' keys, and so
+/// For closed ranges the contract of `Union::new` counts every value of the key type as a key, since
+/// it knows no steps. `laws::sets::closed_operations` tells the same items by the steps' keys, and so
 /// does a set's own `union`.
 #[derive(Drop)]
 pub struct Union<C: Cursor<Range: KeyRange>> {

@@ -72,6 +72,10 @@ fn each_request_may_be_refused(rt: HostRuntime) -> Result<(), Fail> {
         0..2 a, 5..10 a | append 1..6 20..30 b | 20..30 b, 0..2 a, 5..10 a | 4
         0..2 a, 5..10 a | append 1..3 20..30 b | 20..30 b, 0..2 a | 2
         0..2 a, 5..10 a | append all 20..30 b | 20..30 b, 0..2 a, 5..10 a | 4
+        0..2 a, 5..10 a | append 3..4 20..21 b + 23..24 b + 26..27 b + 29..30 b \
+            | 20..21 b, 23..24 b, 26..27 b, 29..30 b | 0
+        | append all 20..30 b | 20..30 b | 0
+        1..3 a | append gaps 1..3 20..30 | 20..30 | 0
         1..3 a | append gaps 0..5 20..30 | 20..30, 0..1, 3..5 | 4",
     )
 }

@@ -9,8 +9,8 @@ use tests_support::{Heap, InRows, check_that, made_of, range_of};
 /// What rows are tried on.
 ///
 /// Each function here is proved once for all keys and values, so that a test's proof has to tell of
-/// these alone, and not of all that a container does. It is given the heap that refuses requests
-/// twice, the second time as what a container takes its memory from.
+/// these alone, and not of all that a container does. It is given the heap that refuses requests, and
+/// the same heap again, as what a container takes its memory from.
 pub trait Tried: Sized {
     /// What its memory comes from.
     type Alloc: Allocator + Copy;

@@ -1,4 +1,4 @@
-//! The containers in chunks: each alias, the calls over any keys, and all four at each type of keys.
+//! The containers in chunks: each alias, the calls over any keys, and all four at types of keys.
 
 mod inclusive_maps;
 mod inclusive_sets;

@@ -1,4 +1,4 @@
-//! Every call of each container at each type of keys, by one function over any keys that makes them
+//! Every call of each container at seven types of keys, by one function over any keys that makes them
 //! all. Texts have no steps, so no closed container has them as keys.
 
 use crate::{inclusive_maps, inclusive_sets, maps, sets, tree_sets, trees};

@@ -4,7 +4,7 @@
 //! which wants the crate `rangemap_maps` listed too.
 //!
 //! The modules of one container name its calls over any keys, each once, and end in `every`, which
-//! makes them all; `keys` calls that at each type of keys. `literals` has what users write there
+//! makes them all; `keys` calls that at seven types of keys. `literals` has what users write there
 //! without a function over any keys, `chunked` the containers in chunks, `defaults` each alias with
 //! its defaults. The crate `tests_iterators` names the iterators. Laws, replays and what code over
 //! any container names are re-exports (`generic`), which cost nothing to prove.

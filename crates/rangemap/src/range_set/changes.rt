@@ -45,7 +45,7 @@ impl<S: StoreMut<Value = ()>> Set<S> {
     ///
     /// # Requires
     ///
-    /// What `insert` does.
+    /// As for `insert`.
     ///
     /// # Errors
     ///

@@ -21,6 +21,8 @@ where
 {
     /// Returns an equal set, made of clones, in memory of a clone of this one's allocator.
     ///
+    /// For each stored range it clones two keys, in a tree three.
+    ///
     /// # Requires
     ///
     /// A clone of a key compares equal to its original.
@@ -45,7 +47,10 @@ impl<S: StoreMut<Value = ()>> Set<S>
 where
     S::Kind: Kind<S::Range, Steps = <S::Range as KeyRange>::Key>,
 {
-    /// Inserts the items of `iter` in the order in which they come.
+    /// Inserts the items of `iter`, in the order in which they come, each as `insert` does.
+    ///
+    /// Items that come in order, behind all that is stored, move nothing. Where many come in
+    /// another order, sort them first.
     ///
     /// # Requires
     ///
@@ -93,7 +98,7 @@ where
     ///
     /// # Requires
     ///
-    /// What `extend` does.
+    /// As for `extend`.
     ///
     /// # Errors
     ///
@@ -116,7 +121,7 @@ where
     ///
     /// # Requires
     ///
-    /// What `insert` does, for each range.
+    /// As for `insert`, of each range.
     ///
     /// # Errors
     ///
@@ -147,7 +152,8 @@ where
 
     ghost into_iter_gives = { λ set it. (it ≡ set) × IsCanonicalSet S.Kind.kind set };
 
-    /// Returns a double-ended iterator over the stored ranges, in order.
+    /// Returns a double-ended iterator over the stored ranges, in order. Those that are not taken are
+    /// dropped with it.
     fn into_iter(self) -> Ranges<S::IntoIter> {
         let len = self.stored.len();
         Ranges::over(self.stored.into_pairs(), len)

@@ -56,7 +56,7 @@ impl<S: StoreMut> Map<S> {
     ///
     /// # Requires
     ///
-    /// What `insert` does.
+    /// As for `insert`.
     ///
     /// # Errors
     ///

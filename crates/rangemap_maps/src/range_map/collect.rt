@@ -105,7 +105,7 @@ where
     ///
     /// # Requires
     ///
-    /// What `extend` does; the check may ask for the same answer.
+    /// As for `extend`; the check may ask for the same answer.
     ///
     /// # Errors
     ///
@@ -129,7 +129,7 @@ where
     ///
     /// # Requires
     ///
-    /// What `insert` does, for each pair.
+    /// As for `insert`, of each pair.
     ///
     /// # Errors
     ///

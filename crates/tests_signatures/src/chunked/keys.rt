@@ -1,5 +1,5 @@
-//! Every call of each container in chunks at each type of keys, as the root's `keys` makes those of
-//! the others.
+//! Every call of each container in chunks at seven types of keys, of closed ones at six, as the root's
+//! `keys` makes those of the others.
 
 use crate::chunked::{inclusive_maps, inclusive_sets, maps, sets};
 use rangemap::chunked::{RangeInclusiveMap, RangeInclusiveSet, RangeMap, RangeSet};
