@@ -6,8 +6,7 @@
 //! chunk owns a handle of the allocator, so `A` has to be one that can be cloned, as in std's B-tree.
 
 use crate::range_set::{Set, calls as set_calls};
-use rangemap_chunked::chunks::{Chunks, SIZE};
-use rangemap_chunked::{into_iter, iter};
+use rangemap_chunked::{Chunks, SIZE, into_iter, iter};
 use rangemap_containers::calls;
 pub use rangemap_containers::replay::{replay, replay as replay_with_step_fns};
 use rangemap_core::closed::Closed;

@@ -177,6 +177,15 @@ module _ {K X V : Type 0} {k : RangeKind K X} {end_place : X → Option K} {chun
   pub spaced_whole : IsSpaced (S p eq) (whole chunks)
   spaced_whole = to_spaced p eq (whole chunks) h.canonical
 
+  -- a key before which no chunk starts has no range
+  pub no_chunk : (x : K) → k.is_key x → (n : ℕ) → n ≡ 0 → PassesUpTo (chunk_by (S p eq) (Some x)) chunks n → covering k (whole chunks) x ≡ None
+  no_chunk x key n none point =
+      let above : Every (λ (b : X × V). place_cmp k.cmp (Some x) (Some (k.start b.0)) ≡ Less) (whole chunks) =
+      subst (λ m. Every (λ (b : X × V). place_cmp k.cmp (Some x) (Some (k.start b.0)) ≡ Less) (whole (drop m chunks))) none
+      (clear_behind (S p eq) (places p eq) e chunks spaced_whole h.filled n (omega arith) (Some x) point.1) in
+      covering_is p eq (whole chunks) x (all_storable k eq (whole chunks) h.canonical) key
+      ∙ covering_below (S p eq) (places p eq) (whole chunks) (Some x) above
+
   module _ (x : K) (key : k.is_key x) (n : ℕ) (bound : n ≤ length chunks) (point : PassesUpTo (chunk_by (S p eq) (Some x)) chunks n) (at : ℕ) (is : at ≡ n - 1) where
     pub found_chunk : (xs : List (X × V)) → at < length chunks → xs ≡ get_or chunks at xs → covering k (whole chunks) x ≡ covering k xs x
     found_chunk xs l found =
@@ -185,13 +194,6 @@ module _ {K X V : Type 0} {k : RangeKind K X} {end_place : X → Option K} {chun
         ∙ covering_part (S p eq) (places p eq) e chunks spaced_whole h.filled n bound (Some x) point at is l xs
         ∙ ap (λ ys. place_covering (S p eq) ys (Some x)) (sym found)
         ∙ sym (covering_is p eq xs x (subst (Every (λ a. IsStorable k a.0)) (sym found) (Every-chunk (λ a. IsStorable k a.0) chunks stored at xs l)) key)
-
-    pub no_chunk : length chunks ≤ at → covering k (whole chunks) x ≡ None
-    no_chunk l = none chunks (let zero_parts : length chunks ≡ 0 = omega arith in zero_parts)
-      where
-        none : (ps : List (List (X × V))) → length ps ≡ 0 → covering k (whole ps) x ≡ None
-        none [] z = refl
-        none (y ∷ ps) z = absurd (omega arith)
 
   -- where a range lies
   module _ (r : X) (n : ℕ) (bound : n ≤ length chunks) where

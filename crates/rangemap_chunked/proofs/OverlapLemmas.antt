@@ -1,6 +1,6 @@
 -- Which pairs of a list in chunks a query meets: some of the chunk where it starts, all of those behind it, and some of the last.
 use Rattle.std.proofs.Common.{arith, ◌≡◌, ℕ, suc, ◌+◌, ◌-◌, ◌<◌, ◌≤◌, Bool, true, false, ◌&&◌, cond, List, [], ◌∷◌, ◌++◌, length, take, drop, get_or, Option, Some, refl, sym, ap, ◌∙◌, subst, append-nil, length-drop, add-one, Less, is_lt, is_gt}
-use Rattle.std.proofs.lemmas.List.{drop-drop, get_or-drop}
+use Rattle.std.proofs.lemmas.List.{drop-drop, get_or-drop, get_or-take, get_or_default, length-take-le}
 use Rattle.std.proofs.lemmas.List.Elements.{filter-append}
 use Rattle.std.specs.List.{AllWithin, filter}
 use Rattle.std.specs.Cmp.{IsTotalOrder, IsEquivalence}
@@ -8,7 +8,7 @@ use Rattle.rangemap_core.specs.Ranges.{RangeKind, IsStorable, overlapped}
 use Rattle.rangemap_core.specs.engine.Endpoints.{IsAsked, IsPlaced, EndpointOf}
 use Rattle.rangemap_core.specs.engine.Places.{place_cmp}
 use Rattle.rangemap_core.specs.engine.Shape.{IsSpaced}
-use Rattle.rangemap_core.specs.engine.Stretch.{Every}
+use Rattle.rangemap_core.specs.engine.Stretch.{Every, starts_within}
 use Rattle.rangemap_core.proofs.ListLemmas.{Every-right, IsSpaced-right}
 use Rattle.rangemap_core.proofs.PlaceLemmas.{S, places}
 use Rattle.rangemap_core.proofs.PlaceOrderLemmas.{le_lt_trans, less_from, lt_le_trans}
@@ -16,7 +16,7 @@ use Rattle.rangemap_core.proofs.SearchLemmas.{Every-at}
 use Rattle.rangemap_core.proofs.StoredLemmas.{all_storable}
 use Rattle.rangemap_chunked.specs.Chunks.{IsClearBefore, AreChunks, IsPastBehind, IsPastStart, chunk_below, starts_below, whole}
 use Rattle.rangemap_chunked.proofs.BorderLemmas.{Every-left, Every-zip}
-use Rattle.rangemap_chunked.proofs.ChunkLemmas.{Every-further, before_first, filled_is, passed_first, spaced_whole, whole_around}
+use Rattle.rangemap_chunked.proofs.ChunkLemmas.{Every-chunk, Every-further, before_first, filled_is, passed_first, spaced_whole, whole_around}
 
 and_false : (b : Bool) → (b && false) ≡ false
 and_false true = refl
@@ -25,6 +25,10 @@ and_false false = refl
 filter_all : {Y : Type 0} (f : Y → Bool) (ys : List Y) → Every (λ y. f y ≡ true) ys → filter f ys ≡ ys
 filter_all f [] h = refl
 filter_all f (y ∷ ys) h = ap (λ b. cond b (y ∷ filter f ys) (filter f ys)) h.0 ∙ ap (λ zs. y ∷ zs) (filter_all f ys h.1)
+
+-- the pairs of a chunk, as they are lent
+pub pairs_at : {X : Type 0} (chunks : List (List X)) (at : ℕ) → at < length chunks → (chunk pairs : List X) → pairs ≡ chunk → chunk ≡ get_or chunks at chunk → pairs ≡ get_or chunks at []
+pairs_at chunks at l chunk pairs lent is = lent ∙ is ∙ get_or_default chunks at chunk [] l
 
 module _ {K X : Type 0} (k : RangeKind K X) {V : Type 0} (q : X) where
   overlapped_append : (xs ys : List (X × V)) → overlapped k (xs ++ ys) q ≡ overlapped k xs q ++ overlapped k ys q
@@ -109,12 +113,35 @@ module _ {K X : Type 0} {k : RangeKind K X} {end_place : X → Option K} {chunk 
     first_of_last : (a : X × V) × (rest : List (X × V)) × (get_or chunks last [] ≡ a ∷ rest)
     first_of_last = filled_is (get_or chunks last []) (Every-at (λ (xs : List (X × V)). 0 < length xs) chunks h.filled last [] (omega arith))
 
+    -- the last chunk starts before the query ends
+    last_below : place_cmp k.cmp (Some (k.start first_of_last.0.0)) (end_place q) ≡ Less
+    last_below = let b = first_of_last in less_from _ (passed_first (starts_below (S p eq) (end_place q)) (get_or chunks last []) b.0 b.1 true b.2 (begun last [] (omega arith) (omega arith)))
+
+    -- and so do all pairs of the first one
+    pub first_begun : Every (λ (a : X × V). starts_within (S p eq) q a ≡ true) (get_or chunks at [])
+    first_begun =
+        let b = first_of_last in
+        let taken : length (take last chunks) ≡ last = length-take-le last chunks (omega arith) in
+        let ended : Every (λ (a : X × V). is_gt (place_cmp k.cmp (end_place a.0) (Some (k.start b.0.0))) ≡ false) (get_or (take last chunks) at []) =
+        Every-chunk (λ (a : X × V). is_gt (place_cmp k.cmp (end_place a.0) (Some (k.start b.0.0))) ≡ false) (take last chunks)
+        (before_first (S p eq) o e chunks (spaced_whole p e chunks h) last [] (omega arith) b.0 b.1 b.2) at [] (omega (arith, taken)) in
+        Every-zip (λ (a : X × V). is_gt (place_cmp k.cmp (end_place a.0) (Some (k.start b.0.0))) ≡ false) (λ (a : X × V). IsStorable k a.0) (λ (a : X × V). starts_within (S p eq) q a ≡ true) (get_or chunks at [])
+        (λ a apart st. ap is_lt (o.trans (Some (k.start a.0)) (Some (k.start b.0.0)) (end_place q) (lt_le_trans o (Some (k.start a.0)) (end_place a.0) (Some (k.start b.0.0)) (p.non_empty a.0 st) apart) last_below))
+        (subst (Every (λ (a : X × V). is_gt (place_cmp k.cmp (end_place a.0) (Some (k.start b.0.0))) ≡ false)) (get_or-take last chunks at [] (omega arith)) ended)
+        (Every-chunk (λ (a : X × V). IsStorable k a.0) chunks stored at [] here)
+
+    -- no pair of the last one starts before the query
+    pub last_past : Every (λ (b : X × V). is_gt (place_cmp k.cmp (Some (k.start q)) (Some (k.start b.0))) ≡ false) (get_or chunks last [])
+    last_past =
+        Every-left (λ (b : X × V). is_gt (place_cmp k.cmp (Some (k.start q)) (Some (k.start b.0))) ≡ false) (get_or chunks last []) (whole (drop end chunks))
+        (Every-right (λ (b : X × V). is_gt (place_cmp k.cmp (Some (k.start q)) (Some (k.start b.0))) ≡ false) (whole (take (last - (at + 1)) (drop (suc at) chunks))) (get_or chunks last [] ++ whole (drop end chunks))
+        (subst (Every (λ (b : X × V). is_gt (place_cmp k.cmp (Some (k.start q)) (Some (k.start b.0))) ≡ false)) whole_tail (subst (λ n. IsPastStart (S p eq) chunks q n) (add-one at) past)))
+
     starts_before : Every (λ (a : X × V). place_cmp k.cmp (Some (k.start a.0)) (end_place q) ≡ Less) (whole (take (last - (at + 1)) (drop (suc at) chunks)))
     starts_before =
         let b = first_of_last in
-        let below : place_cmp k.cmp (Some (k.start b.0.0)) (end_place q) ≡ Less = less_from _ (passed_first (starts_below (S p eq) (end_place q)) (get_or chunks last []) b.0 b.1 true b.2 (begun last [] (omega arith) (omega arith))) in
         Every-zip (λ (a : X × V). is_gt (place_cmp k.cmp (end_place a.0) (Some (k.start b.0.0))) ≡ false) (λ (a : X × V). IsStorable k a.0) (λ (a : X × V). place_cmp k.cmp (Some (k.start a.0)) (end_place q) ≡ Less) (whole (take (last - (at + 1)) (drop (suc at) chunks)))
-        (λ a apart st. o.trans (Some (k.start a.0)) (Some (k.start b.0.0)) (end_place q) (lt_le_trans o (Some (k.start a.0)) (end_place a.0) (Some (k.start b.0.0)) (p.non_empty a.0 st) apart) below)
+        (λ a apart st. o.trans (Some (k.start a.0)) (Some (k.start b.0.0)) (end_place q) (lt_le_trans o (Some (k.start a.0)) (end_place a.0) (Some (k.start b.0.0)) (p.non_empty a.0 st) apart) last_below)
         (before_first (S p eq) o e (drop (suc at) chunks) spaced_tail (last - (at + 1)) [] in_tail b.0 b.1 (at_last ∙ b.2))
         (Every-left (λ (a : X × V). IsStorable k a.0) (whole (take (last - (at + 1)) (drop (suc at) chunks))) (get_or chunks last [] ++ whole (drop end chunks)) stored_parts)
 

@@ -120,13 +120,14 @@ impl<R, V, A: Allocator> Chunk<R, V, A> {
 
     /// Gives room back where at most half of it, and one pair, is used, as after a growth, which doubles
     /// it, or after removals. What stays is room for a third more pairs than there are, for no more than
-    /// `most`, no fewer than `LEAST`, and never fewer than there are. A refusal changes nothing.
+    /// `most`, no fewer than `LEAST`, and never fewer than there are. An empty chunk keeps its room, since
+    /// it is dropped next. A refusal changes nothing.
     pub fn give_room_back(&mut self, most: usize)
         ensures { self.new ≡ self.old }
     {
         let room = self.pairs.capacity();
         let len = self.pairs.len();
-        if LEAST < room && len <= room / 2 + 1 {
+        if 0 < len && LEAST < room && len <= room / 2 + 1 {
             self.pairs.shrink_to((len + len / 3).min(most).max(LEAST));
         }
     }

@@ -1,5 +1,5 @@
 //! The pairs of chunks, handed over one after another.
-ghost use Rattle.std.specs.Prelude.{◌≡◌, [], option_map, unwrap_or};
+ghost use Rattle.std.specs.Prelude.{◌≡◌, [], MatchOption, option_map, unwrap_or};
 ghost use Rattle.std.specs.Map.Iter.{TakesFirst, TakesLast};
 ghost use Rattle.std.specs.Vec.Iter.{into_iter_items};
 ghost use Rattle.rangemap_chunked.specs.Chunks.{AreFilled, whole};
@@ -15,11 +15,11 @@ use std::vec;
 /// those that are not taken. Once an end has answered none, both ends do from then on.
 #[derive(Drop)]
 pub struct IntoIter<R, V, A: Allocator> {
-    // What is left of the chunk that was begun from the front.
+    // What is left of a chunk that was begun, before all others.
     front: Option<vec::IntoIter<(R, V), A>>,
     // The chunks that were not begun.
     chunks: vec::IntoIter<Chunk<R, V, A>, A>,
-    // What is left of the chunk that was begun from the back.
+    // What is left of a chunk that was begun, behind all others.
     back: Option<vec::IntoIter<(R, V), A>>,
 }
 
@@ -68,28 +68,35 @@ impl<R: Drop, V: Drop, A: Allocator> Cursor for IntoIter<R, V, A> {
         if let Some(pair) = first_of(&mut self.front) {
             return Some(pair);
         }
-        if let Some(chunk) = self.chunks.next() {
-            self.front = Some(chunk.into_pairs());
-            let pair = first_of(&mut self.front)?;
-            return Some(pair);
-        }
-        first_of(&mut self.back)
+        self.front = next_pairs(self.chunks.next(), &mut self.back);
+        first_of(&mut self.front)
     }
 
     fn take_last(&mut self) -> Option<(R, V)> {
         if let Some(pair) = last_of(&mut self.back) {
             return Some(pair);
         }
-        if let Some(chunk) = self.chunks.next_back() {
-            self.back = Some(chunk.into_pairs());
-            let pair = last_of(&mut self.back)?;
-            return Some(pair);
-        }
-        last_of(&mut self.front)
+        self.back = next_pairs(self.chunks.next_back(), &mut self.front);
+        last_of(&mut self.back)
     }
 
     fn parts<'b>(pair: &'b (R, V)) -> (&'b R, &'b V) {
         (&pair.0, &pair.1)
+    }
+}
+
+// The pairs of the next chunk, or, where there is none, what is left at the other end.
+fn next_pairs<R, V, A: Allocator>(
+    chunk: Option<Chunk<R, V, A>>,
+    other_end: &mut Option<vec::IntoIter<(R, V), A>>,
+) -> Option<vec::IntoIter<(R, V), A>>
+    ensures { MatchOption chunk
+        ((unwrap_or (option_map into_iter_items result) [] ≡ unwrap_or (option_map into_iter_items other_end.old) []) × (unwrap_or (option_map into_iter_items other_end.new) [] ≡ []))
+        (λ pairs. (unwrap_or (option_map into_iter_items result) [] ≡ pairs) × (unwrap_or (option_map into_iter_items other_end.new) [] ≡ unwrap_or (option_map into_iter_items other_end.old) [])) }
+{
+    match chunk {
+        Some(chunk) => Some(chunk.into_pairs()),
+        None => other_end.take(),
     }
 }
 

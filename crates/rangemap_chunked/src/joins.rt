@@ -105,7 +105,7 @@ fn split_place<const N: usize>(len: usize, is_last: bool) -> usize
     if is_last && 0 < N { N } else { len / 2 }
 }
 
-/// Takes a chunk out that is empty. One that has another size than before is cut where it is long,
+/// Takes a chunk out that is empty. One that may have another size than before is cut where it is long,
 /// joined with its neighbours where it is small, and gives room back that is unused; it stays as it is
 /// where memory is refused.
 pub fn settle<R: Drop, V: Drop, A: Allocator + Clone, const N: usize>(
@@ -152,7 +152,7 @@ fn join_small<R: Drop, V: Drop, A: Allocator, const N: usize>(
     ensures apart { result ≡ false → chunks.new.items ≡ chunks.old.items }
 {
     let count = chunks.len();
-    if count <= 1 || count - 1 <= at {
+    if count.saturating_sub(1) <= at {
         return false;
     }
     let here = chunks[at].len();

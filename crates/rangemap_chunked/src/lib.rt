@@ -4,7 +4,7 @@
 
 mod changes;
 mod chunk;
-pub mod chunks;
+mod chunks;
 pub mod into_iter;
 pub mod iter;
 mod joins;
@@ -13,4 +13,4 @@ mod overlapping;
 mod search;
 mod wide;
 
-pub use chunks::Chunks;
+pub use chunks::{Chunks, SIZE};

@@ -1,5 +1,5 @@
 //! The pairs of chunks that overlap a range.
-ghost use Rattle.std.specs.Prelude.{◌≡◌, ◌<◌, [], length, slice_index_or};
+ghost use Rattle.std.specs.Prelude.{◌≡◌};
 ghost use Rattle.rangemap_core.specs.Ranges.{overlapped};
 ghost use Rattle.rangemap_chunked.specs.Chunks.{AreChunks, whole};
 
@@ -8,7 +8,7 @@ use crate::iter::Iter;
 use crate::search::{end_from, start_of};
 use rangemap_core::key_range::KeyRange;
 use rangemap_core::kind::{Kind, known_ends};
-use rangemap_sorted::overlapping::overlapping_pairs;
+use rangemap_sorted::overlapping::{overlapping_pairs, overlapping_tail, take_begun};
 use std::alloc::Allocator;
 
 /// Returns the pairs of the chunks that overlap the query, which may be empty or reversed, in order.
@@ -28,27 +28,16 @@ pub(crate) fn overlapping<'a, Q: Kind<R>, R: KeyRange, V: Eq, A: Allocator>(
     let at = start_of::<Q, R, V, A>(chunks, query);
     let end = end_from::<Q, R, V, A>(chunks, query, at);
     known_ends::<Q, R>(query);
+    let first = chunks[at].as_slice();
     if end <= at + 1 {
-        return Iter::between(met::<Q, R, V, A>(chunks, at, query), &[], &[]);
+        return Iter::between(overlapping_pairs::<Q, R, V>(first, query), &[], &[]);
     }
+    // All pairs of the first chunk start before the query ends, and none of the last before it starts:
+    // so in each of them only one end is searched for.
     let last = end - 1;
     Iter::between(
-        met::<Q, R, V, A>(chunks, at, query),
+        overlapping_tail::<Q, R, V>(first, query),
         &chunks[at + 1..last],
-        met::<Q, R, V, A>(chunks, last, query),
+        take_begun::<R, V>(chunks[last].as_slice(), query),
     )
-}
-
-// The pairs of a chunk that overlap the query.
-fn met<'a, Q: Kind<R>, R: KeyRange, V: Eq, A: Allocator>(
-    chunks: &'a [Chunk<R, V, A>],
-    at: usize,
-    query: &R,
-) -> &'a [(R, V)]
-    requires chunked { AreChunks Q.kind V.eq chunks.now }
-    requires in_bounds { at < length chunks.now }
-    ensures { result.now ≡ overlapped Q.kind (slice_index_or chunks.now at []) query.now }
-{
-    let chunk = &chunks[at];
-    overlapping_pairs::<Q, R, V>(chunk.as_slice(), query)
 }

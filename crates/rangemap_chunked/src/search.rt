@@ -63,7 +63,7 @@ pub fn chunk_starts_by_end<Q: Kind<R>, R: KeyRange, V: Eq, A: Allocator>(
     }
 }
 
-/// Returns the one chunk that may have the key.
+/// Returns the one chunk that may have the key, unless all start after it.
 pub fn chunk_with<'a, Q: Kind<R>, R: KeyRange, V: Eq, A: Allocator>(
     chunks: &'a [Chunk<R, V, A>],
     key: &R::Key,
@@ -75,12 +75,8 @@ pub fn chunk_with<'a, Q: Kind<R>, R: KeyRange, V: Eq, A: Allocator>(
     Q::known(key);
     let sought = Sought { key };
     let count = chunks.partition_point(|chunk| chunk_starts_by::<Q, R, V, A>(chunk, &sought));
-    let at = count.saturating_sub(1);
-    if at < chunks.len() {
-        Some(&chunks[at])
-    } else {
-        None
-    }
+    let at = count.checked_sub(1)?;
+    Some(&chunks[at])
 }
 
 /// Returns the place of the chunk from which on pairs may overlap the range or touch it.

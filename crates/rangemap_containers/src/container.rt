@@ -166,7 +166,7 @@ pub trait Container: PartialEq + Drop {
         requires faithful_values { ValuesCloneFaithfully Self.Value.is_clone Self.Value.eq }
         ensures ok { OnOk result (Appends Self.Kind.kind Self.Value.eq (pairs self.now) out.old.items out.new.items) }
         ensures err { OnErr result (out.new.items ≡ out.old.items) }
-        ensures nothing { pairs self.now ≡ [] → IsOk result × (out.new.items ≡ out.old.items) };
+        ensures of_nothing { pairs self.now ≡ [] → IsOk result × (out.new.items ≡ out.old.items) };
 
     /// Appends clones of the pairs that overlap `range`, in order. Nothing is asked of `range`. It
     /// takes *O*(log *n* + *k*), with *k* pairs appended.
@@ -187,7 +187,7 @@ pub trait Container: PartialEq + Drop {
         requires faithful_values { ValuesCloneFaithfully Self.Value.is_clone Self.Value.eq }
         ensures ok { OnOk result (Appends Self.Kind.kind Self.Value.eq (overlapped Self.Kind.kind (pairs self.now) range.now) out.old.items out.new.items) }
         ensures err { OnErr result (out.new.items ≡ out.old.items) }
-        ensures nothing { overlapped Self.Kind.kind (pairs self.now) range.now ≡ [] → IsOk result × (out.new.items ≡ out.old.items) };
+        ensures of_nothing { overlapped Self.Kind.kind (pairs self.now) range.now ≡ [] → IsOk result × (out.new.items ≡ out.old.items) };
 
     /// Appends the parts of `outer_range` that no stored range covers, in order. Nothing is asked
     /// of `outer_range`. It takes *O*(log *n* + *k*), with *k* stored ranges that it overlaps.
@@ -207,7 +207,7 @@ pub trait Container: PartialEq + Drop {
         requires faithful_keys { KeysCloneFaithfully Self.Range.Key.is_clone Self.Range.Key.cmp }
         ensures ok { OnOk result (AppendsGaps Self.Kind.kind (map (λ pair. pair.0) (pairs self.now)) outer_range.now out.old.items out.new.items) }
         ensures err { OnErr result (out.new.items ≡ out.old.items) }
-        ensures nothing { AreGaps Self.Kind.kind (map (λ pair. pair.0) (pairs self.now)) outer_range.now [] → IsOk result × (out.new.items ≡ out.old.items) };
+        ensures of_nothing { AreGaps Self.Kind.kind (map (λ pair. pair.0) (pairs self.now)) outer_range.now [] → IsOk result × (out.new.items ≡ out.old.items) };
 
     /// Containers are equal where their pairs are.
     ghost equal: { (left right : Self) → Self.eq left right ≡ same_pairs Self.Kind.kind Self.Value.eq (pairs left) (pairs right) };
@@ -232,7 +232,7 @@ pub fn collect_gaps<M: Container, B: Allocator>(
 ) -> Result<Vec<M::Range, B>, AllocError>
     requires { KeysCloneFaithfully M.Range.Key.is_clone M.Range.Key.cmp }
     ensures ok { IfOk result (λ gaps. AreGaps M.Kind.kind (map (λ pair. pair.0) (M.pairs stored.now)) outer_range.now gaps.items) }
-    ensures nothing { AreGaps M.Kind.kind (map (λ pair. pair.0) (M.pairs stored.now)) outer_range.now [] → IsOk result }
+    ensures of_nothing { AreGaps M.Kind.kind (map (λ pair. pair.0) (M.pairs stored.now)) outer_range.now [] → IsOk result }
 {
     let mut gaps = Vec::new(alloc);
     stored.append_gaps(outer_range, &mut gaps)?;

@@ -166,7 +166,7 @@ pub fn append_gaps<
     requires { KeysCloneFaithfully R.Key.is_clone R.Key.cmp }
     ensures ok { OnOk result ((gaps : List _) × Drains (GivesRange Q.kind) (gaps_from Q.kind Q.end_place Q.part_of (AtStart outer_range.now) outer_range.now (C.left pairs)) (map OkWord gaps) × (out.new.items ≡ out.old.items ++ gaps)) }
     ensures err { OnErr result (out.new.items ≡ out.old.items) }
-    ensures nothing { gaps_from Q.kind Q.end_place Q.part_of (AtStart outer_range.now) outer_range.now (C.left pairs) ≡ [] → IsOk result × (out.new.items ≡ out.old.items) }
+    ensures of_nothing { gaps_from Q.kind Q.end_place Q.part_of (AtStart outer_range.now) outer_range.now (C.left pairs) ≡ [] → IsOk result × (out.new.items ≡ out.old.items) }
 {
     append_items(Gaps::<Q, R, C>::over(pairs, outer_range), out)
 }
@@ -181,7 +181,7 @@ fn append_items<R: Drop, I: Iterator<Item = Result<R, AllocError>> + Drop, B: Al
     requires ends { IsFinite (I.remaining gaps) }
     ensures ok { OnOk result ((items : List _) × Drains I.next_gives gaps (map OkWord items) × (out.new.items ≡ out.old.items ++ items)) }
     ensures err { OnErr result (out.new.items ≡ out.old.items) }
-    ensures nothing { GivesNothing I.next_gives gaps → IsOk result × (out.new.items ≡ out.old.items) }
+    ensures of_nothing { GivesNothing I.next_gives gaps → IsOk result × (out.new.items ≡ out.old.items) }
 {
     let start = out.len();
     for gap in gaps {

@@ -12,7 +12,7 @@ use Rattle.rangemap_formats.specs.declared.json.ReadError.TheVariants.{NotAList,
 use Rattle.rangemap_core.specs.Ranges.{RangeKind, IsStorable, IsCanonical, IsCanonOf, nothing, override, override_all, same_pairs, value_at}
 use Rattle.rangemap_core.specs.engine.Endpoints.{EndpointOf, IsPlaced}
 use Rattle.rangemap_core.specs.engine.Intervals.{IsInterval, goes_past, reaches}
-use Rattle.rangemap_formats.specs.Json.{Accepts, Breaks, EndsWith, Follows, IsEmptyEntry, IsEntryFault, IsFirstFault, IsInserted, IsRead, IsToBeInserted, Reader, RefusesToRead, list_of}
+use Rattle.rangemap_formats.specs.Json.{Accepts, Breaks, EndsWith, Follows, IsEntryFault, IsFirstFault, IsInserted, IsRead, IsToBeInserted, Reader, RefusesToRead, list_of}
 use Rattle.rangemap_formats.proofs.LastPairLemmas.{before_as_twin, before_as_twin_back, canonical_more, equal_as_twin, follows_as_twin, last_storable, same_last, touches_as_twin_back}
 use Rattle.rangemap_core.proofs.CanonLemmas.{Overrides-last}
 use Rattle.rangemap_core.proofs.EqualListLemmas.{IsSamePair}
@@ -93,20 +93,16 @@ module _ {K X V E : Type 0} (k : RangeKind K X) {end_place : X → Option K} {pa
       fails = fails;
     })
 
-    -- a part of the entry is at fault
+    -- the entry alone is at fault
     pub refused_entry : (error : ReadError E) → IsEntryFault k r at entry error → RefusesToRead k r eq form v error
     refused_entry NotAList h = absurd h
     refused_entry (BadEntry place) h = first_fault place h.0 _ h.1
     refused_entry (BadKey place part fault) h = first_fault place h.0 _ h.1
     refused_entry (BadValue place fault) h = first_fault place h.0 _ h.1
-    refused_entry (EmptyRange place) h = absurd h
+    refused_entry (EmptyRange place) h = first_fault place h.0 _ h.1
     refused_entry OutOfMemory h = absurd h
     refused_entry (OutOfOrder place) h = absurd h
     refused_entry (Uncoalesced place) h = absurd h
-
-    -- or its range is empty
-    pub refused_range : IsEmptyEntry k r entry → RefusesToRead k r eq form v (EmptyRange at)
-    refused_range h = first_fault at refl (λ before v. IsEmptyEntry k r v) h
 
     -- or its insert was refused
     pub refused_insert : (pair : X × V) → IsRead k r pair entry → IsStorable k pair.0 → (form ≡ Canonical → (last : X × V) → EndsWith list last → Follows k eq last pair) → RefusesToRead k r eq form v OutOfMemory

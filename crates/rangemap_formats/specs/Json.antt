@@ -211,13 +211,13 @@ module _ {K X V E : Type 0} (k : RangeKind K X) (r : Reader K V E) where
     abbrev pub IsRefusedForMemoryAlone : Form → Value → ReadError E → Type 0
     IsRefusedForMemoryAlone form v error = IsFunctional r.key → IsFunctional r.value → (pairs : List (X × V)) → IsReadOf pairs v → Accepts form pairs → error ≡ OutOfMemory
 
-  -- a fault of a part of the entry at the place
+  -- a fault of the entry at the place, whatever comes before it
   abbrev pub IsEntryFault : ℕ → Value → ReadError E → Type 0
   IsEntryFault at v NotAList = ⊥
   IsEntryFault at v (BadEntry place) = (place ≡ at) × IsMisshaped v
   IsEntryFault at v (BadKey place part fault) = (place ≡ at) × IsBadKey part fault v
   IsEntryFault at v (BadValue place fault) = (place ≡ at) × IsBadValue fault v
-  IsEntryFault at v (EmptyRange place) = ⊥
+  IsEntryFault at v (EmptyRange place) = (place ≡ at) × IsEmptyEntry v
   IsEntryFault at v OutOfMemory = ⊥
   IsEntryFault at v (OutOfOrder place) = ⊥
   IsEntryFault at v (Uncoalesced place) = ⊥

@@ -17,7 +17,7 @@ use rangemap_core::kind::Kind;
 
 pub mod changes;
 pub mod clones;
-pub mod stretch;
+mod stretch;
 
 /// Returns the pair whose range has the key, if there is one, and how many starts were asked
 /// for to find it. Every lookup is one call of this.

@@ -9,7 +9,7 @@ ghost use Rattle.std.specs.List.Sorted.{IsPartitionedBy};
 ghost use Rattle.rangemap_core.specs.engine.Intervals.{is_begun};
 ghost use Rattle.rangemap_core.specs.Ranges.{IsCanonical, overlapped};
 ghost use Rattle.rangemap_core.specs.engine.Shape.{PassesUpTo, shape_of};
-ghost use Rattle.rangemap_core.specs.engine.Stretch.{IsOverlap, ends_by};
+ghost use Rattle.rangemap_core.specs.engine.Stretch.{Every, IsOverlap, ends_by, starts_within};
 ghost use Rattle.rangemap_sorted.specs.Overlaps.{IsOverlapEnd};
 
 use crate::search::starts_up_to;
@@ -120,15 +120,16 @@ impl<'a, R: KeyRange, V> LentCursor<'a, R> for Overlapping<'a, R, V> {
     ghost lent = { λ range. refl };
 }
 
-// The pairs of a canonical list from the first that overlaps the query on. Of these the ones that
-// overlap it come first: those that start before it ends.
-fn overlapping_tail<'a, Q: Kind<R>, R: KeyRange, V: Eq>(
+/// Returns the pairs of a canonical list from the first on that ends after the query starts. Of these
+/// the ones that overlap it come first: those that start before it ends, which may be all.
+pub fn overlapping_tail<'a, Q: Kind<R>, R: KeyRange, V: Eq>(
     pairs: &'a [(R, V)],
     query: &R,
 ) -> &'a [(R, V)]
     requires { IsCanonical Q.kind V.eq pairs.now }
     ensures overlapped { take_while (is_begun R.read R.has_end query.now) result.now ≡ overlapped Q.kind pairs.now query.now }
     ensures begun_first { IsPartitionedBy (is_begun R.read R.has_end query.now) result.now }
+    ensures all { Every (λ pair. starts_within (shape_of Q.kind Q.end_place V.eq) query.now pair ≡ true) pairs.now → result.now ≡ overlapped Q.kind pairs.now query.now }
 {
     known_ends::<Q, R>(query);
     &pairs[overlap_start::<Q, R, V>(pairs, query)..]
@@ -145,8 +146,8 @@ pub fn overlapping_pairs<'a, Q: Kind<R>, R: KeyRange, V: Eq>(
     take_begun::<R, V>(overlapping_tail::<Q, R, V>(pairs, query), query)
 }
 
-// The pairs that start before the query ends, where these come first.
-fn take_begun<'a, R: KeyRange, V>(pairs: &'a [(R, V)], query: &R) -> &'a [(R, V)]
+/// Returns the pairs that start before the query ends, where these come first.
+pub fn take_begun<'a, R: KeyRange, V>(pairs: &'a [(R, V)], query: &R) -> &'a [(R, V)]
     requires { IsPartitionedBy (is_begun R.read R.has_end query.now) pairs.now }
     ensures { result.now ≡ take_while (is_begun R.read R.has_end query.now) pairs.now }
 {
@@ -178,7 +179,7 @@ fn count_begun<R: KeyRange, V>(pairs: &[(R, V)], query: &R) -> usize
 // Inlined, so that the ends of a range that was handed over in memory are read one by one there, as
 // they were written.
 #[inline(always)]
-pub fn overlap<Q: Kind<R>, R: KeyRange, V: Eq>(pairs: &[(R, V)], range: &R) -> Range<usize>
+pub(crate) fn overlap<Q: Kind<R>, R: KeyRange, V: Eq>(pairs: &[(R, V)], range: &R) -> Range<usize>
     requires { IsCanonical Q.kind V.eq pairs.now }
     ensures { IsOverlap (shape_of Q.kind Q.end_place V.eq) pairs.now range.now result.start result.end }
 {

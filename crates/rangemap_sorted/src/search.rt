@@ -8,7 +8,6 @@ ghost use Rattle.rangemap_core.specs.engine.Shape.{PassesUpTo, is_up_to, starts_
 use crate::probe::Probe;
 use rangemap_core::key_range::KeyRange;
 use rangemap_core::kind::Kind;
-use std::cmp::Ordering;
 
 /// Returns how many of the pairs of a canonical list start no later than the key.
 pub fn starts_up_to<'a, Q: Kind<R>, R: KeyRange + 'a, V: Eq + 'a>(
@@ -73,8 +72,5 @@ pub fn count_up_to<'a, Q: Kind<R>, R: KeyRange + 'a, V>(
 fn is_up_to<Q: Kind<R>, R: KeyRange>(start: &R::Key, key: &R::Key) -> bool
     ensures { result ≡ is_up_to Q.kind.cmp key.now start.now }
 {
-    match key.cmp(start) {
-        Ordering::Less => false,
-        _ => true,
-    }
+    !key.cmp(start).is_lt()
 }

@@ -119,7 +119,7 @@ impl<Q: Kind<R>, R: KeyRange, V: Eq + Clone, A: Allocator> StoreMut for SortedVe
     }
 
     fn remove(&mut self, range: R) -> Result<(), AllocError> {
-        changes::remove::<Q, R, V, A>(&mut self.pairs, range)
+        changes::remove::<Q, R, V, A>(&mut self.pairs, &range)
     }
 
     fn clear(&mut self) {

@@ -71,10 +71,7 @@ fn count<T>(option: &Option<T>) -> usize
     ensures value { result ≡ length (option_to_list option.now) }
     ensures bound { result ≤ 1 }
 {
-    match option {
-        Some(_) => 1,
-        None => 0,
-    }
+    usize::from(option.is_some())
 }
 
 // Puts the value over the one at `at`, or where the stretch ends there, behind all others. Answers

@@ -119,7 +119,11 @@ impl<C: Peek> Iterator for Intersection<C> {
 
 // What two ranges have in common, if anything: from the later start up to the earlier end, where it
 // comes before that.
-fn common<R: KeyRange>(left: &R, right: &R, left_ends_first: bool) -> Result<Option<R>, AllocError>
+fn common_part<R: KeyRange>(
+    left: &R,
+    right: &R,
+    left_ends_first: bool,
+) -> Result<Option<R>, AllocError>
     requires ends { left_ends_first ≡ is_lt (R.places.order (R.places.end_place left.now) (R.places.end_place right.now)) }
     requires in_order { (reaches R.places left.now right.now && reaches R.places right.now left.now) ≡ true → R.places.order (R.places.start_place (later_start R.places left.now right.now)) (R.places.end_place (earlier_end R.places left.now right.now)) ≡ Less }
     requires faithful_keys { KeysCloneFaithfully R.Key.is_clone R.Key.cmp }
@@ -150,8 +154,7 @@ fn up_to_end<R: KeyRange>(first: &R, last: &R) -> Result<Option<R>, AllocError>
     ensures refused { OnErr result (reaches R.places last.now first.now ≡ true) }
     ensures succeeds { KeysCloneInfallibly R.Key.is_infallible → IsOk result }
 {
-    let overlap = is_reached(last, first);
-    if overlap {
+    if is_reached(last, first) {
         between(first, last)
     } else {
         Ok(None)
@@ -176,10 +179,13 @@ impl<C: Peek> Sides<C> {
         ensures refused { OnErr result (intersection_items C.Range.places (ranges (C.left self.old.left)) (ranges (C.left self.old.right)) ≢ []) }
         ensures succeeds { KeysCloneInfallibly C.Range.Key.is_infallible → IsOk result }
     {
-        'both: while let (Some(p), Some(q)) = (self.left.peek(), self.right.peek()) {
-            let (left, right) = (C::parts(&p).0, C::parts(&q).0);
+        'both: while let (Some(left_pair), Some(right_pair)) = (
+            self.left.peek(),
+            self.right.peek(),
+        ) {
+            let (left, right) = (C::parts(&left_pair).0, C::parts(&right_pair).0);
             let ends_first = compare_ends(left, right).is_lt();
-            let part = common(left, right, ends_first)?;
+            let part = common_part(left, right, ends_first)?;
             if ends_first {
                 let _ = take(&mut self.left);
             } else {

@@ -1,3 +1,4 @@
 -- Definitions of the program.
 pub mod Commands
+pub mod Faults
 pub mod Words

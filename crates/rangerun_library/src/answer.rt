@@ -9,14 +9,14 @@ use crate::listing::{write_gaps, write_item_or_none, write_json, write_overlappi
 use std::alloc::{AllocError, Allocator, Global};
 
 /// Carries out a command, and appends the line that it prints, if any, to `text`. A JSON form is
-/// made in memory of `json`. A command that only asks leaves the container as it is.
+/// made in memory of `json_alloc`. A command that only asks leaves the container as it is.
 ///
 /// # Errors
 ///
 /// Memory ran out: then the container is as it was.
 pub fn answer<A: Allocator, C: Container<Alloc = A>>(
     alloc: A,
-    json: Global,
+    json_alloc: Global,
     container: &mut C,
     command: Command<'_, C::Range>,
     text: &mut String<A>,
@@ -39,6 +39,6 @@ pub fn answer<A: Allocator, C: Container<Alloc = A>>(
         Command::Overlapping(range) => write_overlapping(alloc, text, container, &range),
         Command::Overlaps(range) => writeln!(text, "{}", container.overlaps(&range)),
         Command::Gaps(range) => write_gaps(alloc, text, container, &range),
-        Command::Json => write_json(json, text, container),
+        Command::Json => write_json(json_alloc, text, container),
     }
 }

@@ -24,12 +24,12 @@ pub trait Container: LibraryContainer<Range: NumberRange, Value: Stored> + Debug
     /// Memory for the value was refused.
     fn value(alloc: Self::Alloc, word: Option<&str>) -> Result<Self::Value, AllocError>;
 
-    /// Makes its JSON form, in memory of `json`.
+    /// Makes its JSON form, in memory of `json_alloc`.
     ///
     /// # Errors
     ///
     /// Memory for the form was refused.
-    fn to_value(&self, json: Global) -> Result<Value, WriteError<AllocError>>;
+    fn to_value(&self, json_alloc: Global) -> Result<Value, WriteError<AllocError>>;
 }
 
 /// The map over half-open ranges.
@@ -55,8 +55,12 @@ where
         text_of(alloc, word)
     }
 
-    fn to_value(&self, json: Global) -> Result<Value, WriteError<AllocError>> {
-        self.to_value(json, write_key, move |text| write_text(json, text))
+    fn to_value(&self, json_alloc: Global) -> Result<Value, WriteError<AllocError>> {
+        self.to_value(
+            json_alloc,
+            write_key,
+            move |text| write_text(json_alloc, text),
+        )
     }
 }
 
@@ -69,7 +73,7 @@ where
         Ok(())
     }
 
-    fn to_value(&self, json: Global) -> Result<Value, WriteError<AllocError>> {
-        self.to_value(json, write_key)
+    fn to_value(&self, json_alloc: Global) -> Result<Value, WriteError<AllocError>> {
+        self.to_value(json_alloc, write_key)
     }
 }

@@ -1,6 +1,7 @@
 //! Why the program stops before the end of its input.
 ghost use Rattle.std.specs.Prelude.{◌≡◌};
 ghost use Rattle.rangerun_library.specs.declared.fault.Cause.TheVariants.{Memory};
+ghost use Rattle.rangerun_library.specs.Faults.{fault_number};
 
 use std::alloc::AllocError;
 use std::fmt;
@@ -25,18 +26,23 @@ pub enum Cause {
 }
 
 impl Cause {
-    /// The number that the program prints for this cause.
-    pub fn number(self) -> u8 {
+    /// Returns the number that the program prints for this cause.
+    pub fn number(self) -> u8
+        ensures { result ≡ fault_number self }
+    {
         self as u8
     }
 
-    /// The fault of this cause at a line. Lines count from 1, and 0 stands for the time before the
-    /// first.
+    /// Returns the fault of this cause at a line. Lines count from 1, and 0 stands for the time before
+    /// the first.
     pub fn at(self, line: u64) -> Fault
-        ensures cause { result.cause ≡ self }
+        ensures number { result.number ≡ fault_number self }
         ensures line { result.line ≡ line }
     {
-        Fault { cause: self, line }
+        Fault {
+            number: self.number(),
+            line,
+        }
     }
 }
 
@@ -51,27 +57,26 @@ impl From<AllocError> for Cause {
 /// The first thing that went wrong, and where.
 #[derive(Clone, Copy, Debug, PartialEq, Eq)]
 pub struct Fault {
-    /// What it was.
-    pub cause: Cause,
+    /// The number of its cause.
+    pub number: u8,
     /// The line that was being read or answered, counted from 1; 0 before the first was asked for.
     pub line: u64,
 }
 
 impl Fault {
-    /// The exit status that tells of this fault: 3 for a stream, 4 for memory, and 2 for what was
-    /// given to the program.
+    /// Returns the exit status that tells of this fault: 3 for a stream, 4 for memory, and 2 for what
+    /// was given to the program.
     pub fn status(self) -> u8 {
-        match self.cause {
-            Cause::Arguments | Cause::Command | Cause::Number | Cause::EmptyRange | Cause::Value =>
-                2,
-            Cause::Stream => 3,
-            Cause::Memory => 4,
+        match self.number {
+            6 => 3,
+            7 => 4,
+            _ => 2,
         }
     }
 }
 
 impl fmt::Display for Fault {
     fn fmt<W: fmt::Write>(&self, f: &mut fmt::Formatter<W>) -> fmt::Result {
-        write!(f, "fault {} at line {}", self.cause.number(), self.line)
+        write!(f, "fault {} at line {}", self.number, self.line)
     }
 }

@@ -107,23 +107,23 @@ pub fn write_gaps<A: Allocator, C: Container<Alloc = A>>(
     write_items(text, gaps.into_iter().map(|gap| Ok(gap)))
 }
 
-/// Writes the line of the JSON form, which is made in memory of `json`.
+/// Writes the line of the JSON form, which is made in memory of `json_alloc`.
 ///
 /// # Errors
 ///
 /// Memory was refused. It is not passed over: where this answers `Ok`, something was written.
 pub fn write_json<A: Allocator, C: Container>(
-    json: Global,
+    json_alloc: Global,
     text: &mut String<A>,
     container: &C,
 ) -> Result<(), AllocError>
     ensures { OnOk result (string_len text.old < string_len text.new) }
 {
-    let value = match container.to_value(json) {
+    let value = match container.to_value(json_alloc) {
         Ok(value) => value,
         Err(WriteError::Caller(error)) => return Err(error),
         Err(WriteError::OutOfMemory) => return Err(AllocError),
     };
-    text.push_str(value.to_string(json)?.as_str())?;
+    text.push_str(value.to_string(json_alloc)?.as_str())?;
     text.push('\n')
 }

@@ -24,14 +24,14 @@ pub fn run<R: Read + Drop, W: Write + Drop>(
 }
 
 /// Does what `run` does in memory of `alloc`, but for that of JSON values: only a `Global` gives it,
-/// and it comes from `json`.
+/// and it comes from `json_alloc`.
 ///
 /// # Errors
 ///
 /// As of `run`.
 pub fn run_in<A: Allocator + Copy, R: Read + Drop, W: Write + Drop>(
     alloc: A,
-    json: Global,
+    json_alloc: Global,
     args: &[String],
     input: R,
     output: W,
@@ -40,11 +40,19 @@ pub fn run_in<A: Allocator + Copy, R: Read + Drop, W: Write + Drop>(
         return Err(Cause::Arguments.at(0));
     };
     match kind.as_str() {
-        "map" => run_over::<A, ContainerTarget<HalfOpenMap<A>>, R, W>(alloc, json, input, output),
-        "imap" => run_over::<A, ContainerTarget<ClosedMap<A>>, R, W>(alloc, json, input, output),
-        "set" => run_over::<A, ContainerTarget<HalfOpenSet<A>>, R, W>(alloc, json, input, output),
-        "iset" => run_over::<A, ContainerTarget<ClosedSet<A>>, R, W>(alloc, json, input, output),
-        "cal" => run_over::<A, Calendar<A>, R, W>(alloc, json, input, output),
+        "map" => run_over::<A, ContainerTarget<HalfOpenMap<A>>, R, W>(
+            alloc, json_alloc, input, output,
+        ),
+        "imap" => run_over::<A, ContainerTarget<ClosedMap<A>>, R, W>(
+            alloc, json_alloc, input, output,
+        ),
+        "set" => run_over::<A, ContainerTarget<HalfOpenSet<A>>, R, W>(
+            alloc, json_alloc, input, output,
+        ),
+        "iset" => run_over::<A, ContainerTarget<ClosedSet<A>>, R, W>(
+            alloc, json_alloc, input, output,
+        ),
+        "cal" => run_over::<A, Calendar<A>, R, W>(alloc, json_alloc, input, output),
         _ => Err(Cause::Arguments.at(0)),
     }
 }
@@ -52,14 +60,14 @@ pub fn run_in<A: Allocator + Copy, R: Read + Drop, W: Write + Drop>(
 // Carries out the commands of `input` over an empty container, as `run` does.
 fn run_over<A: Allocator + Copy, T: Target<A>, R: Read + Drop, W: Write + Drop>(
     alloc: A,
-    json: Global,
+    json_alloc: Global,
     input: R,
     mut output: W,
 ) -> Result<(), Fault> {
     let Ok(mut input) = BufReader::new(alloc, Source(input)) else {
         return Err(Cause::Memory.at(0));
     };
-    let mut session: Session<A, T> = Session::new(alloc, json);
+    let mut session: Session<A, T> = Session::new(alloc, json_alloc);
     for number in 1..=u64::MAX {
         match session.step(&mut input, &mut output) {
             Ok(true) => {}
@@ -75,7 +83,7 @@ fn run_over<A: Allocator + Copy, T: Target<A>, R: Read + Drop, W: Write + Drop>(
 #[derive(Drop)]
 struct Session<A: Allocator, T> {
     alloc: A,
-    json: Global,
+    json_alloc: Global,
     target: T,
     line: Vec<u8, A>,
     text: String<A>,
@@ -83,10 +91,10 @@ struct Session<A: Allocator, T> {
 
 impl<A: Allocator + Copy, T: Target<A>> Session<A, T> {
     // Returns a session over an empty target, with no line yet.
-    fn new(alloc: A, json: Global) -> Session<A, T> {
+    fn new(alloc: A, json_alloc: Global) -> Session<A, T> {
         Session {
             alloc,
-            json,
+            json_alloc,
             target: T::new(alloc),
             line: Vec::new(alloc),
             text: String::new(alloc),
@@ -101,7 +109,7 @@ impl<A: Allocator + Copy, T: Target<A>> Session<A, T> {
         }
         self.text.clear();
         self.target
-            .carry_out(self.alloc, self.json, &self.line, &mut self.text)?;
+            .carry_out(self.alloc, self.json_alloc, &self.line, &mut self.text)?;
         if write_out(output, self.text.as_bytes()).is_err() {
             return Err(Cause::Stream);
         }

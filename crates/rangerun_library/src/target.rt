@@ -16,7 +16,7 @@ pub trait Target<A: Allocator>: Drop {
     fn new(alloc: A) -> Self;
 
     /// Carries out a line, given without its newline, and appends what it prints, if anything, to
-    /// `text`. A JSON form is made in memory of `json`.
+    /// `text`. A JSON form is made in memory of `json_alloc`.
     ///
     /// # Errors
     ///
@@ -24,7 +24,7 @@ pub trait Target<A: Allocator>: Drop {
     fn carry_out(
         &mut self,
         alloc: A,
-        json: Global,
+        json_alloc: Global,
         line: &[u8],
         text: &mut String<A>,
     ) -> Result<(), Cause>;
@@ -46,12 +46,12 @@ impl<A: Allocator, C: Container<Alloc = A>> Target<A> for ContainerTarget<C> {
     fn carry_out(
         &mut self,
         alloc: A,
-        json: Global,
+        json_alloc: Global,
         line: &[u8],
         text: &mut String<A>,
     ) -> Result<(), Cause> {
         let command = Command::parse(line, C::Value::HAS_WORD)?;
-        answer(alloc, json, &mut self.container, command, text)?;
+        answer(alloc, json_alloc, &mut self.container, command, text)?;
         Ok(())
     }
 }
@@ -64,7 +64,7 @@ impl<A: Allocator> Target<A> for Calendar<A> {
     fn carry_out(
         &mut self,
         _alloc: A,
-        _json: Global,
+        _json_alloc: Global,
         line: &[u8],
         text: &mut String<A>,
     ) -> Result<(), Cause> {

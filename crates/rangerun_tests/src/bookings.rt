@@ -51,6 +51,17 @@ fn days_come_as_a_range(rt: HostRuntime) -> Result<(), Fail> {
 }
 
 #[test]
+fn calls_are_made_one_by_one(rt: HostRuntime) -> Result<(), Fail> {
+    let mut calendar = Calendar::new(rt.alloc());
+    check_same(calendar.make(book(10, 14, 1)), Ok(()))?;
+    check_same(calendar.make(book(14, 15, 2)), Err(BookError::Taken))?;
+    check_same(calendar.make(book(15, 14, 2)), Err(BookError::Empty))?;
+    check_same(calendar.make(cancel(12, 20)), Ok(()))?;
+    check_same(calendar.make(book(12, 15, 2)), Ok(()))?;
+    check_held(&rt, &calendar, &[(10, 11, 1), (12, 15, 2)])
+}
+
+#[test]
 fn calls_are_replayed(rt: HostRuntime) -> Result<(), Fail> {
     let mut calendar = Calendar::new(rt.alloc());
     let calls = [

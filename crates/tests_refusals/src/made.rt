@@ -41,6 +41,7 @@ fn what_makes_containers_may_be_refused(rt: HostRuntime) -> Result<(), Fail> {
         new, insert -128..=127 true, clear | replay maps by steps | | 4
         new, insert -128..=127, clone | replay sets by steps | -128..=127; -128..=127 | 5
         0..10 a + 3..6 b | map to texts from | 0..3 a, 3..6 b, 6..10 a | 4
+        0..10 a + 3..6 b | map from | 0..3 a, 3..6 b, 6..10 a | 6
         0..=9 a + 3..=5 b | inclusive map from | 0..=2 a, 3..=5 b, 6..=9 a | 4
         0..10 a + 2..5 b | tree from | 0..2 a, 2..5 b, 5..10 a | 9
         0..5 + 7..10 | set from | 0..5, 7..10 | 2

@@ -70,6 +70,7 @@ impl Tried for Natives {
             "replay chunked maps by steps" => steps::try_chunked_maps(heap, row, left),
             "replay chunked sets by steps" => steps::try_chunked_sets(heap, row, left),
             "map to texts from" => arrays::try_texts(heap, row, left),
+            "map from" => arrays::try_half_open_map(heap, row, left),
             "inclusive map from" => arrays::try_map(heap, row, left),
             "tree from" => arrays::try_tree(heap, row, left),
             "set from" => arrays::try_set(heap, row, left),

@@ -17,7 +17,7 @@ use tests_support::{Costly, Heap, MANY, Refusing, Text, check_that};
 // in two chunks they become one, for which the first has room too. A clone takes the list of chunks,
 // one for each, and what the pairs take.
 //
-// An `extend` and a run of commands take what their calls take.
+// An `extend` and a run of commands take what their calls take; an `extend` by nothing takes nothing.
 #[test]
 fn each_request_of_a_map_may_be_refused(rt: HostRuntime) -> Result<(), Fail> {
     let heap = Refusing::new(rt.alloc(), MANY);
@@ -40,6 +40,7 @@ fn each_request_of_a_map_may_be_refused(rt: HostRuntime) -> Result<(), Fail> {
         0..2 a, 4..6 b, 8..10 c, 12..14 d, 16..18 e | remove 14..16 | 0..2 a, 4..6 b, 8..10 c, 12..14 d, 16..18 e | 0
         | remove 0..5 | | 0
         | clone | | 0
+        | extend | | 0
         0..2 a, 4..6 b, 8..10 c, 12..14 d, 16..18 e | clone | 0..2 a, 4..6 b, 8..10 c, 12..14 d, 16..18 e | 8
         0..10 a + 3..6 b + 20..25 c | extend \
             | ; ; 0..10 a; 0..10 a; 0..3 a, 3..6 b, 6..10 a, 20..25 c | 4",
@@ -52,7 +53,8 @@ fn each_request_of_a_map_may_be_refused(rt: HostRuntime) -> Result<(), Fail> {
 // Beside that the first pair takes a list and the list of chunks, and so does a clone. Of a half-open
 // gap both ends are cloned, of a closed one an end of the outer range, and one beside a stored range
 // comes of a step. An append takes both ends of each pair that it tells of, or what the gaps take;
-// there is room for four.
+// there is room for four. Collected gaps take a list too, and `segments` what it takes of a sorted
+// vector.
 #[test]
 fn each_clone_of_a_key_may_be_refused(rt: HostRuntime) -> Result<(), Fail> {
     let heap = Refusing::new(rt.alloc(), MANY);
@@ -74,7 +76,9 @@ fn each_clone_of_a_key_may_be_refused(rt: HostRuntime) -> Result<(), Fail> {
             | 20..21 b, 23..24 b, 26..27 b, 29..30 b | 0
         | append all 20..30 b | 20..30 b | 0
         1..3 a | append gaps 1..3 20..30 | 20..30 | 0
-        0..2 a, 4..6 b, 8..10 c, 12..14 d, 16..18 e | append gaps 5..11 20..30 | 20..30, 6..8, 10..11 | 4",
+        0..2 a, 4..6 b, 8..10 c, 12..14 d, 16..18 e | append gaps 5..11 20..30 | 20..30, 6..8, 10..11 | 4
+        0..2 a, 4..6 b, 8..10 c, 12..14 d, 16..18 e | collect_gaps 5..11 | 6..8, 10..11 | 5
+        0..2 a, 4..6 b, 8..10 c, 12..14 d, 16..18 e | segments 5..11 | 5..6 b, 6..8 none, 8..10 c, 10..11 none | 18",
     )?;
     chunked_inclusive_map::<Costly<'_>, char, 4>(
         &heap,
@@ -89,6 +93,7 @@ fn each_clone_of_a_key_may_be_refused(rt: HostRuntime) -> Result<(), Fail> {
         0..=9 a | remove 10..=255 | 0..=9 a | 0
         | remove 0..=5 | | 0
         | clone | | 0
+        | extend | | 0
         0..=9 a + 3..=5 b | extend | ; ; 0..=9 a; 0..=9 a; 0..=2 a, 3..=5 b, 6..=9 a | 4
         0..=2 a, 5..=10 a | append 1..=6 0..=2 a + 5..=10 a \
             | 0..=2 a, 5..=10 a, 0..=2 a, 5..=10 a | 4
@@ -100,7 +105,10 @@ fn each_clone_of_a_key_may_be_refused(rt: HostRuntime) -> Result<(), Fail> {
         | append all 20..=30 b | 20..=30 b | 0
         1..=3 a | append gaps 1..=3 20..=30 | 20..=30 | 0
         0..=1 a, 4..=5 b, 8..=9 c, 12..=13 d, 16..=17 e | append gaps 6..=13 20..=30 | 20..=30, 6..=7, 10..=11 | 1
-        0..=3 a, 4..=7 b, 8..=11 c, 12..=13 d, 16..=17 e | append gaps 0..=19 20..=30 | 20..=30, 14..=15, 18..=19 | 1",
+        0..=3 a, 4..=7 b, 8..=11 c, 12..=13 d, 16..=17 e | append gaps 0..=19 20..=30 | 20..=30, 14..=15, 18..=19 | 1
+        0..=1 a, 4..=5 b, 8..=9 c, 12..=13 d, 16..=17 e | collect_gaps 6..=13 | 6..=7, 10..=11 | 2
+        0..=1 a, 4..=5 b, 8..=9 c, 12..=13 d, 16..=17 e | segments 6..=13 \
+            | 6..=7 none, 8..=9 c, 10..=11 none, 12..=13 d | 15",
     )
 }
 

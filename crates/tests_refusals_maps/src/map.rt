@@ -12,7 +12,7 @@ use tests_support::{Costly, MANY, Refusing, Text};
 // first.
 //
 // There is room for twelve pairs. A removal that meets nothing asks for no more of it, nor does one
-// of a map without any; a clone of such a map takes nothing either.
+// of a map without any; a clone of such a map takes nothing either, nor does an `extend` by nothing.
 #[test]
 fn each_request_may_be_refused(rt: HostRuntime) -> Result<(), Fail> {
     let heap = Refusing::new(rt.alloc(), MANY);
@@ -33,6 +33,7 @@ fn each_request_may_be_refused(rt: HostRuntime) -> Result<(), Fail> {
             12..13 a, 14..15 a, 16..17 a, 18..19 a, 20..21 a, 22..23 a | 0
         | remove 0..5 | | 0
         | clone | | 0
+        | extend | | 0
         0..4 a, 4..8 b, 8..12 a | clone | 0..4 a, 4..8 b, 8..12 a | 4
         0..10 a + 3..6 b + 20..25 c | extend \
             | ; 0..10 a; 0..10 a; 0..3 a, 3..6 b, 6..10 a, 20..25 c | 3",
@@ -43,7 +44,12 @@ fn each_request_may_be_refused(rt: HostRuntime) -> Result<(), Fail> {
 // both ends are cloned, on whichever side what it joins lies; one that joins nothing is moved. A clone
 // of a map takes its list, and four keys. Of an `extend` the first pair takes the first growth, and the
 // second, inside it, both ends of two pieces. An append takes both ends of each pair or gap that it
-// tells of; a list has room for four, and one that has four has to grow first.
+// tells of; a list has room for four, and one that has four has to grow first, as an empty one has where
+// gaps are collected.
+//
+// `segments` takes a list of the pairs that the query overlaps and both ends of each, the first growth of
+// its answer and both ends of the query in that, and then for each pair both ends of what the query
+// has of it, and what its insert takes.
 #[test]
 #[tactic(auto, using(rangemap::proofs::TextKeys::clones_tie))]
 fn each_clone_of_a_key_may_be_refused(rt: HostRuntime) -> Result<(), Fail> {
@@ -75,7 +81,11 @@ fn each_clone_of_a_key_may_be_refused(rt: HostRuntime) -> Result<(), Fail> {
             | 20..21 b, 22..23 b, 24..25 b, 26..27 b, 0..2 a, 5..10 a | 5
         1..3 a | append gaps 0..5 20..30 | 20..30, 0..1, 3..5 | 4
         1..3 a | append gaps 0..5 20..21 + 22..23 + 24..25 + 26..27 \
-            | 20..21, 22..23, 24..25, 26..27, 0..1, 3..5 | 5",
+            | 20..21, 22..23, 24..25, 26..27, 0..1, 3..5 | 5
+        1..3 a | collect_gaps 1..3 | | 0
+        1..3 a | collect_gaps 0..5 | 0..1, 3..5 | 5
+        | segments 0..5 | 0..5 none | 3
+        1..3 a | segments 0..5 | 0..1 none, 1..3 a, 3..5 none | 12",
     )
 }
 

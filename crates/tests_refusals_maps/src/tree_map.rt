@@ -37,8 +37,10 @@ fn a_refused_insert_leaves_the_map(rt: HostRuntime) -> Result<(), Fail> {
 // nothing, also where the node is full. A clone of a map takes the tree, and three keys for each pair,
 // and nothing where there is none. Both ends of a gap are cloned.
 //
-// Of an `extend` the first pair takes the tree and a key, the second what an insert inside it takes.
+// Of an `extend` the first pair takes the tree and a key, the second what an insert inside it takes;
+// one by nothing takes nothing.
 // An append takes a clone of either end of each pair or gap that it tells of; there is room for four.
+// Collected gaps take a list too, and `segments` what it takes of a sorted vector.
 #[test]
 fn each_request_may_be_refused(rt: HostRuntime) -> Result<(), Fail> {
     let heap = Refusing::new(rt.alloc(), MANY);
@@ -64,6 +66,7 @@ fn each_request_may_be_refused(rt: HostRuntime) -> Result<(), Fail> {
             22..23 a, 24..25 a, 26..27 a, 28..29 a | 0
         | remove 0..5 | | 0
         | clone | | 0
+        | extend | | 0
         0..2 a, 5..10 a | clone | 0..2 a, 5..10 a | 7
         1..3 a | gaps 0..5 | 0..1, 3..5 | 2 + 2
         0..10 a + 2..5 b | extend | ; ; 0..10 a; 0..10 a; 0..10 a; 0..10 a; 0..10 a; 0..10 a; \
@@ -76,7 +79,9 @@ fn each_request_may_be_refused(rt: HostRuntime) -> Result<(), Fail> {
             | 20..21 b, 23..24 b, 26..27 b, 29..30 b | 0
         | append all 20..30 b | 20..30 b | 0
         1..3 a | append gaps 1..3 20..30 | 20..30 | 0
-        1..3 a | append gaps 0..5 20..30 | 20..30, 0..1, 3..5 | 4",
+        1..3 a | append gaps 0..5 20..30 | 20..30, 0..1, 3..5 | 4
+        1..3 a | collect_gaps 0..5 | 0..1, 3..5 | 5
+        1..3 a | segments 0..5 | 0..1 none, 1..3 a, 3..5 none | 12",
     )
 }
 

@@ -11,7 +11,8 @@ use rangemap_tree::Tree;
 use std::marker::PhantomData;
 use std::test::Fail;
 use tests_requests::{
-    Answer, Row, Tried, try_appends, try_both, try_call, try_makers, try_run, with_range,
+    Answer, Row, Tried, try_appends, try_both, try_call, try_collect_gaps, try_makers, try_run,
+    try_segments, with_range,
 };
 use tests_support::{FromEnds, Heap, InRows, OwnCalls, Word, first_word};
 
@@ -103,6 +104,8 @@ fn try_or_make<M: InRows + OwnCalls>(
     let is_accepted = match name {
         "extend" => try_makers::<M>(heap, alloc, row, left),
         "append" => try_appends::<M>(heap, alloc, row, left),
+        "collect_gaps" => try_collect_gaps::<M>(heap, alloc, row, left),
+        "segments" => try_segments::<M>(heap, alloc, row, left),
         "run" => try_run::<M>(heap, alloc, row, left),
         _ => try_call::<M>(heap, alloc, row, left),
     };

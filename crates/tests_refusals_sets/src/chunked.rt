@@ -25,6 +25,7 @@ fn each_request_of_a_set_may_be_refused(rt: HostRuntime) -> Result<(), Fail> {
         0..10 | remove 12..15 | 0..10 | 0
         | remove 0..5 | | 0
         | clone | | 0
+        | extend | | 0
         0..2, 4..6, 8..10, 12..14 | insert 16..18 | 0..2, 4..6, 8..10, 12..14, 16..18 | 0 + 1
         0..2, 4..6, 8..10, 12..14, 16..18 | insert 14..16 | 0..2, 4..6, 8..10, 12..18 | 2
         0..2, 4..6, 8..10, 12..14, 16..18 | remove 5..17 | 0..2, 4..5, 17..18 | 4
@@ -44,7 +45,9 @@ fn each_request_of_a_set_may_be_refused(rt: HostRuntime) -> Result<(), Fail> {
             | 20..21, 23..24, 26..27, 29..30 | 0
         | append all 20..30 | 20..30 | 0
         1..3 | append gaps 1..3 20..30 | 20..30 | 0
-        0..2, 4..6, 8..10, 12..14, 16..18 | append gaps 5..11 20..30 | 20..30, 6..8, 10..11 | 4",
+        0..2, 4..6, 8..10, 12..14, 16..18 | append gaps 5..11 20..30 | 20..30, 6..8, 10..11 | 4
+        0..2, 4..6, 8..10, 12..14, 16..18 | collect_gaps 5..11 | 6..8, 10..11 | 5
+        0..2, 4..6, 8..10, 12..14, 16..18 | segments 5..11 | 5..6, 6..8 none, 8..10, 10..11 none | 18",
     )?;
     chunked_set::<u32, 512>(
         &heap,
@@ -92,7 +95,8 @@ fn each_request_of_a_set_may_be_refused(rt: HostRuntime) -> Result<(), Fail> {
 // beside it the first range takes the list of chunks, a clone that list and two lists, and a set that
 // is made of two others a list more than a sorted vector does. Of a gap an end of the outer range
 // is cloned, and one beside a stored range comes of a step. An append takes both ends of each range that
-// it tells of, or what the gaps take; there is room for four.
+// it tells of, or what the gaps take; there is room for four. Collected gaps take a list too, and
+// `segments` what it takes of a map.
 #[test]
 fn each_request_of_a_closed_set_may_be_refused(rt: HostRuntime) -> Result<(), Fail> {
     let heap = Refusing::new(rt.alloc(), MANY);
@@ -110,6 +114,7 @@ fn each_request_of_a_closed_set_may_be_refused(rt: HostRuntime) -> Result<(), Fa
         0..=9 | remove 10..=255 | 0..=9 | 0
         | remove 0..=5 | | 0
         | clone | | 0
+        | extend | | 0
         0..=1, 4..=5, 8..=9, 12..=13, 16..=17 | remove 5..=16 | 0..=1, 4..=4, 17..=17 | 2
         0..=1, 4..=5, 8..=9, 12..=13, 16..=17 | clone | 0..=1, 4..=5, 8..=9, 12..=13, 16..=17 | 13
         0..=1, 4..=5, 8..=9, 12..=13, 16..=17 | gaps 6..=13 | 6..=7, 10..=11 | 1
@@ -127,7 +132,10 @@ fn each_request_of_a_closed_set_may_be_refused(rt: HostRuntime) -> Result<(), Fa
         | append all 20..=30 | 20..=30 | 0
         1..=3 | append gaps 1..=3 20..=30 | 20..=30 | 0
         0..=1, 4..=5, 8..=9, 12..=13, 16..=17 | append gaps 6..=13 20..=30 | 20..=30, 6..=7, 10..=11 | 1
-        10..=249 | append gaps 0..=255 20..=30 | 20..=30, 0..=9, 250..=255 | 2",
+        10..=249 | append gaps 0..=255 20..=30 | 20..=30, 0..=9, 250..=255 | 2
+        0..=1, 4..=5, 8..=9, 12..=13, 16..=17 | collect_gaps 6..=13 | 6..=7, 10..=11 | 2
+        0..=1, 4..=5, 8..=9, 12..=13, 16..=17 | segments 6..=13 \
+            | 6..=7 none, 8..=9, 10..=11 none, 12..=13 | 15",
     )
 }
 

@@ -7,13 +7,14 @@ use tests_support::{Costly, MANY, Refusing};
 
 // The first growth takes a request, a clone of the stored end of each piece that stays another, and
 // so do both ends of a range that is joined, on whichever side what it joins lies; one that joins
-// nothing is moved. A removal that meets nothing takes nothing, nor does a clone of an empty set;
-// one of another set takes its list, and four keys. Of a gap an end of the outer range is cloned, and
+// nothing is moved. A removal that meets nothing takes nothing, nor does a clone of an empty set or
+// an `extend` by nothing; a clone of another set takes its list, and four keys. Of a gap an end of the outer range is cloned, and
 // one beside a stored range comes of a step.
 //
 // Of an item of two sets both ends are cloned; a set asks for the list too, and for two items. Of
 // an `extend` the first range takes a list, and each other is joined with what is stored. An append
 // takes both ends of each range that it tells of, or what the gaps take; there is room for four.
+// Collected gaps take a list too, and `segments` what it takes of a map.
 #[test]
 fn each_request_may_be_refused(rt: HostRuntime) -> Result<(), Fail> {
     let heap = Refusing::new(rt.alloc(), MANY);
@@ -29,6 +30,7 @@ fn each_request_may_be_refused(rt: HostRuntime) -> Result<(), Fail> {
         0..=9 | remove 10..=255 | 0..=9 | 0
         | remove 0..=5 | | 0
         | clone | | 0
+        | extend | | 0
         0..=4, 9..=255 | clone | 0..=4, 9..=255 | 5
         10..=249 | gaps 0..=255 | 0..=9, 250..=255 | 1 + 1
         0..=4, 9..=12 | union 4..=7, 11..=255 | 0..=7, 9..=255 | 2 + 2
@@ -43,7 +45,9 @@ fn each_request_may_be_refused(rt: HostRuntime) -> Result<(), Fail> {
             | 20..=21, 23..=24, 26..=27, 29..=30 | 0
         | append all 20..=30 | 20..=30 | 0
         1..=3 | append gaps 1..=3 20..=30 | 20..=30 | 0
-        10..=249 | append gaps 0..=255 20..=30 | 20..=30, 0..=9, 250..=255 | 2",
+        10..=249 | append gaps 0..=255 20..=30 | 20..=30, 0..=9, 250..=255 | 2
+        10..=249 | collect_gaps 0..=255 | 0..=9, 250..=255 | 3
+        10..=249 | segments 0..=255 | 0..=9 none, 10..=249, 250..=255 none | 10",
     )
 }
 

@@ -7,12 +7,13 @@ use tests_support::{Costly, MANY, Refusing, Text};
 
 // The first growth takes a request, and a clone of either end of each piece that stays and of a
 // joined range another, on whichever side what it joins lies; a range that joins nothing is moved. A
-// removal that meets nothing takes nothing, nor does a clone of an empty set; one of another set
-// takes its list, and four keys.
+// removal that meets nothing takes nothing, nor does a clone of an empty set or an `extend` by
+// nothing; a clone of another set takes its list, and four keys.
 //
 // Of an item of two sets both ends are cloned; a set asks for the list too, and for two items. Of an
 // `extend` the first range takes a list, and each other is joined with what is stored, which clones
 // both ends. An append takes both ends of each range or gap that it tells of; there is room for four.
+// Collected gaps take a list too, and `segments` what it takes of a map.
 #[test]
 fn each_request_may_be_refused(rt: HostRuntime) -> Result<(), Fail> {
     let heap = Refusing::new(rt.alloc(), MANY);
@@ -28,6 +29,7 @@ fn each_request_may_be_refused(rt: HostRuntime) -> Result<(), Fail> {
         0..10 | remove 12..15 | 0..10 | 0
         | remove 0..5 | | 0
         | clone | | 0
+        | extend | | 0
         0..2, 5..10 | clone | 0..2, 5..10 | 5
         0..3, 7..10 | union 2..5, 9..13 | 0..5, 7..13 | 2 + 2
         0..3, 7..10 | intersection 2..5, 9..13 | 2..3, 9..10 | 2 + 2
@@ -41,7 +43,10 @@ fn each_request_may_be_refused(rt: HostRuntime) -> Result<(), Fail> {
             | 20..21, 23..24, 26..27, 29..30 | 0
         | append all 20..30 | 20..30 | 0
         1..3 | append gaps 1..3 20..30 | 20..30 | 0
-        1..3 | append gaps 0..5 20..30 | 20..30, 0..1, 3..5 | 4",
+        1..3 | append gaps 0..5 20..30 | 20..30, 0..1, 3..5 | 4
+        1..3 | collect_gaps 1..3 | | 0
+        1..3 | collect_gaps 0..5 | 0..1, 3..5 | 5
+        1..3 | segments 0..5 | 0..1 none, 1..3, 3..5 none | 12",
     )
 }
 

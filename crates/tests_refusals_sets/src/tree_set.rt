@@ -5,11 +5,13 @@ use crate::containers::tree_set;
 use std::test::Fail;
 use tests_support::{Costly, MANY, Refusing, Text};
 
-// An insert, a removal, a clone and a gap take what they take of a map in a tree with equal values.
+// An insert, a removal, a clone, a gap, collected gaps and `segments` take what they take of a map in a
+// tree with equal values.
 //
 // Of an item of two sets both ends are cloned. A set of such items takes the tree and the key that
 // the first stands at beside them, and the key of the second. Of an `extend` the first range takes
-// the tree and a key, and each other, which joins what lies to the left, clones its start and a key.
+// the tree and a key, and each other, which joins what lies to the left, clones its start and a key;
+// one by nothing takes nothing.
 // An append takes both ends of each range or gap that it tells of; there is room for four.
 #[test]
 fn each_request_may_be_refused(rt: HostRuntime) -> Result<(), Fail> {
@@ -26,6 +28,7 @@ fn each_request_may_be_refused(rt: HostRuntime) -> Result<(), Fail> {
         0..10 | remove 12..15 | 0..10 | 0
         | remove 0..5 | | 0
         | clone | | 0
+        | extend | | 0
         0..2, 5..10 | clone | 0..2, 5..10 | 7
         1..3 | gaps 0..5 | 0..1, 3..5 | 2 + 2
         0..3, 7..10 | union 2..5, 9..13 | 0..5, 7..13 | 2 + 2
@@ -40,7 +43,9 @@ fn each_request_may_be_refused(rt: HostRuntime) -> Result<(), Fail> {
             | 20..21, 23..24, 26..27, 29..30 | 0
         | append all 20..30 | 20..30 | 0
         1..3 | append gaps 1..3 20..30 | 20..30 | 0
-        1..3 | append gaps 0..5 20..30 | 20..30, 0..1, 3..5 | 4",
+        1..3 | append gaps 0..5 20..30 | 20..30, 0..1, 3..5 | 4
+        1..3 | collect_gaps 0..5 | 0..1, 3..5 | 5
+        1..3 | segments 0..5 | 0..1 none, 1..3, 3..5 none | 12",
     )
 }
 

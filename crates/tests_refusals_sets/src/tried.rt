@@ -12,7 +12,8 @@ use rangemap_tree::Tree;
 use std::marker::PhantomData;
 use std::test::Fail;
 use tests_requests::{
-    Answer, Row, Tried, is_made, try_appends, try_both, try_call, try_growths, try_makers,
+    Answer, Row, Tried, is_made, try_appends, try_both, try_call, try_collect_gaps, try_growths,
+    try_makers, try_segments,
 };
 use tests_support::{FromEnds, Heap, InRows, OwnCalls, Word, first_word, made_of};
 
@@ -98,6 +99,8 @@ fn try_or_make<S: InRows<Value = ()> + OwnCalls>(
         }
         ("extend", _) => Ok(Step::Tried(try_makers::<S>(heap, alloc, row, left)?)),
         ("append", _) => Ok(Step::Tried(try_appends::<S>(heap, alloc, row, left)?)),
+        ("collect_gaps", _) => Ok(Step::Tried(try_collect_gaps::<S>(heap, alloc, row, left)?)),
+        ("segments", _) => Ok(Step::Tried(try_segments::<S>(heap, alloc, row, left)?)),
         ("grow", _) => Ok(Step::Tried(try_growths::<S>(heap, alloc, row, left)?)),
         _ => Ok(Step::Tried(try_call::<S>(heap, alloc, row, left)?)),
     }

@@ -5,7 +5,8 @@ ghost use Rattle.rangemap.specs.Clones.{KeysCloneFaithfully, ValuesCloneFaithful
 use crate::row::{Answer, Row};
 use crate::tried::with_range;
 use tests_support::{
-    Heap, InRows, Word, check_that, first_word, is_range, made_of, pairs_of, range_of, ranges_of,
+    Heap, InRows, Word, are_ranges, check_that, first_word, is_range, made_of, pairs_of, range_of,
+    ranges_of,
 };
 
 /// Tries to append the pairs that a query overlaps, or `all`, or the `gaps` in a range. The call names
@@ -44,11 +45,7 @@ fn try_pairs<M: InRows>(
         map.append_overlapping(&query, &mut pairs).is_ok()
     };
     row.end_refusal(heap, left)?;
-    let (expected, separator) = if is_appended {
-        (row.outcome, ", ")
-    } else {
-        (list, " + ")
-    };
+    let (expected, separator) = expected(row, list, is_appended);
     check_that(
         are_pairs::<M>(pairs.as_slice(), expected, separator),
         "a list differs",
@@ -74,29 +71,22 @@ fn try_gaps<M: InRows>(
     heap.refuse_after(left);
     let is_appended = map.append_gaps(&outer_range, &mut ranges).is_ok();
     row.end_refusal(heap, left)?;
-    let (expected, separator) = if is_appended {
-        (row.outcome, ", ")
-    } else {
-        (list, " + ")
-    };
+    let (expected, separator) = expected(row, list, is_appended);
     check_that(
-        are_ranges::<M>(ranges.as_slice(), expected, separator),
+        are_ranges::<M::Range, M::Alloc>(ranges.as_slice(), expected, separator),
         "a list of gaps differs",
     )?;
     Ok(is_appended)
 }
 
-/// Whether ranges are those of a text, in which a separator stands between them.
-fn are_ranges<M: InRows>(ranges: &[M::Range], list: &str, separator: &str) -> bool {
-    let mut rest = list;
-    for range in ranges {
-        let (text, others) = rest.split_once(separator).unwrap_or((rest, ""));
-        if !is_range::<M::Range, M::Alloc>(range, text) {
-            return false;
-        }
-        rest = others;
+/// The items of a list, and what stands between them: those of the row's outcome where they were
+/// appended, else those that the call names.
+fn expected<'t>(row: &Row<'t>, list: &'t str, is_appended: bool) -> (&'t str, &'t str) {
+    if is_appended {
+        (row.outcome, ", ")
+    } else {
+        (list, " + ")
     }
-    rest.is_empty()
 }
 
 /// Whether pairs are those of a text, in which a separator stands between them.

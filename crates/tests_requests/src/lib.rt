@@ -7,6 +7,7 @@
 
 mod appends;
 mod calls;
+mod collected;
 mod items;
 mod makers;
 mod owners;
@@ -17,6 +18,7 @@ mod tried;
 
 pub use appends::try_appends;
 pub use calls::{is_made, try_call};
+pub use collected::{try_collect_gaps, try_segments};
 pub use items::try_both;
 pub use makers::{try_growths, try_makers, two_pairs};
 pub use owners::{Allocs, Heaps, check_added};

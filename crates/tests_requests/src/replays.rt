@@ -1,6 +1,5 @@
 //! What a replay leaves where it is refused the room for its lists, or a call of it.
 ghost use Rattle.std.specs.List.{AllByRecursion};
-ghost use Rattle.std.specs.Prelude.{IfOk};
 ghost use Rattle.rangemap.specs.Clones.{KeysCloneFaithfully, ValuesCloneFaithfully};
 
 use crate::row::{Answer, Row};
@@ -18,7 +17,7 @@ pub fn try_changes<M: InRows>(heap: &Heap, alloc: M::Alloc, row: &Row<'_>, left:
     requires faithful_keys { KeysCloneFaithfully M.Range.Key.is_clone M.Range.Key.cmp }
     requires faithful_values { ValuesCloneFaithfully M.Value.is_clone M.Value.eq }
 {
-    let calls = changes_of::<M::Kind, M::Range, M::Value, M::Alloc>(alloc, row.given);
+    let calls = changes_of::<M::Kind, M::Range, M::Value, M::Alloc>(alloc, row.given)?;
     try_replay::<M, _>(heap, alloc, calls, row, left)
 }
 
@@ -31,15 +30,14 @@ pub fn try_changes<M: InRows>(heap: &Heap, alloc: M::Alloc, row: &Row<'_>, left:
 pub fn try_replay<M: InRows, C: CallOn<M>>(
     heap: &Heap,
     alloc: M::Alloc,
-    calls: Result<Vec<C, M::Alloc>, Fail>,
+    calls: Vec<C, M::Alloc>,
     row: &Row<'_>,
     left: u64,
 ) -> Answer
-    requires non_empty { IfOk calls (λ calls. AllByRecursion C.has_non_empty calls.items) }
+    requires non_empty { AllByRecursion C.has_non_empty calls.items }
     requires faithful_keys { KeysCloneFaithfully M.Range.Key.is_clone M.Range.Key.cmp }
     requires faithful_values { ValuesCloneFaithfully M.Value.is_clone M.Value.eq }
 {
-    let calls = calls?;
     let mut all: Vec<M, M::Alloc> = Vec::new(alloc);
     heap.refuse_after(left);
     match replay(alloc, &mut all, calls) {

@@ -6,7 +6,7 @@ use rangemap_core::key_range::KeyRange;
 use rangemap_laws::laws;
 use rangemap_laws::laws::overlaps::overlaps_exactly_where_covered;
 use std::test::Fail;
-use tests_support::{InRows, first_word, holds, is_range, pair_of, query_of, range_of, take_item};
+use tests_support::{InRows, are_ranges, first_word, holds, pair_of, query_of, range_of};
 
 /// Runs a law on two containers that are equal, or on the first alone, and compares what it leaves.
 pub(crate) fn keeps_law<M: InRows>(
@@ -26,7 +26,7 @@ pub(crate) fn keeps_law<M: InRows>(
         "parted" => is_parted(alloc, &one, operand, outcome),
         "covered" => is_covered(alloc, &one, operand, outcome),
         "commute" => commute(alloc, one, other, operand, outcome),
-        "alike" | "twice" | "back" => are_alike(alloc, one, other, law, outcome),
+        "alike" | "twice" | "back" => are_alike(alloc, one, other, (name, operand), outcome),
         _ => Err(Fail::new(format_args!("no law is called {name}"))),
     }
 }
@@ -75,7 +75,10 @@ fn is_parted<M: InRows>(
 {
     let outer_range = query_of(alloc, outer_range)?;
     let found = laws::gaps_and_covered_keys_make_up_a_range(alloc, map, &outer_range)?;
-    Ok(are_ranges::<M>(found.as_slice(), gaps) && has_gaps(map, &outer_range, gaps)?)
+    Ok(
+        are_ranges::<M::Range, M::Alloc>(found.as_slice(), gaps, ", ")
+            && has_gaps(map, &outer_range, gaps)?,
+    )
 }
 
 /// Whether some key of a range is covered is what `overlaps` answers.
@@ -87,18 +90,6 @@ fn is_covered<M: InRows>(
 ) -> Result<bool, Fail> {
     let range = range_of::<M::Kind, M::Range, M::Alloc>(alloc, range)?;
     Ok(answer.parse() == Ok(overlaps_exactly_where_covered(map, &range)))
-}
-
-/// Whether ranges are those of a list.
-fn are_ranges<M: InRows>(ranges: &[M::Range], list: &str) -> bool {
-    let mut rest = list;
-    for range in ranges {
-        match take_item(&mut rest) {
-            Some(item) if is_range::<M::Range, M::Alloc>(range, item) => {}
-            _ => return false,
-        }
-    }
-    rest.is_empty()
 }
 
 /// Two inserts leave the pairs, in either order. The range of the first ends before that of the
@@ -139,7 +130,7 @@ fn are_alike<M: InRows>(
     alloc: M::Alloc,
     mut one: M,
     mut other: M,
-    law: &str,
+    law: (&str, &str),
     pairs: &str,
 ) -> Result<bool, Fail>
     requires faithful_keys { KeysCloneFaithfully M.Range.Key.is_clone M.Range.Key.cmp }
@@ -148,7 +139,7 @@ fn are_alike<M: InRows>(
     if laws::equal_exactly_when_alike(&one, &other) != (true, false) {
         return Ok(false);
     }
-    let (name, pair) = first_word(law);
+    let (name, pair) = law;
     let (range, value) = pair_of::<M::Kind, M::Range, M::Value, M::Alloc>(alloc, pair)?;
     match name {
         "twice" => laws::insert_twice_equals_once(&mut one, &mut other, &range, &value)?,

@@ -1,7 +1,6 @@
 //! What maps hand over, and what the text of rows asks of them.
 ghost use Rattle.rangemap.specs.Clones.{KeysCloneFaithfully, ValuesCloneFaithfully};
 
-use rangemap::container::{Container, segments};
 use rangemap::map::Map;
 use rangemap_core::key_range::KeyRange;
 use rangemap_core::kind::Kind;
@@ -11,11 +10,11 @@ use std::fmt::Debug;
 use std::iter::ExactSizeIterator;
 use std::test::Fail;
 use tests_row_checks::{
-    ReplayName, check_both_ends, check_counted_back, check_replay, check_rows, check_three,
+    ReplayName, Stretches, check_both_ends, check_counted_back, check_replay, check_rows,
+    check_stretches, check_three,
 };
 use tests_support::{
-    FromEnds, InRows, Word, changes_of, check_same, check_text, lists, map_of, parts, query_of,
-    three_lists,
+    FromEnds, InRows, Word, changes_of, check_same, check_text, map_of, parts, three_lists,
 };
 
 /// What text asks of maps over any steps.
@@ -49,12 +48,8 @@ pub enum Asked<'t> {
     HandedOver(&'t str, &'t str),
     /// The one pair of a list is handed over, whose text this is, and none behind it at either end.
     OneHandedOver(&'t str, &'t str),
-    /// The text of the stretches of a map, for each query.
-    Stretches {
-        pairs: &'t str,
-        queries: &'t str,
-        text: &'t str,
-    },
+    /// The stretches of the map that has these pairs, and its gaps.
+    Stretches(&'t str, Stretches<'t>),
 }
 
 /// Compares what maps over a store answer.
@@ -75,13 +70,9 @@ where
             let copy = map.clone()?;
             check_both_ends(alloc, map.into_iter(), copy.into_iter(), *text)
         }
-        Asked::Stretches {
-            pairs,
-            queries,
-            text,
-        } => {
+        Asked::Stretches(pairs, stretches) => {
             let map = map_of::<S>(alloc, *pairs)?;
-            check_stretches(alloc, &map, *queries, *text)
+            check_stretches(alloc, &map, stretches)
         }
     }
 }
@@ -136,24 +127,4 @@ fn check_three_handed<I: DoubleEndedIterator<Item: Debug + Drop>>(
     let (first, middle, last) = three_lists(texts)?;
     check_three(alloc, pairs, [first, middle, last], true)?;
     check_counted_back(alloc, again, [first, middle, last])
-}
-
-/// Compares the stretches of a container, for each query.
-fn check_stretches<M: Container<Range: FromEnds + Debug, Value: Debug>>(
-    alloc: Global,
-    stored: &M,
-    queries: &str,
-    text: &str,
-) -> Result<(), Fail>
-where
-    <M::Range as KeyRange>::Key: Word<Global> + Debug,
-    M::Kind: Kind<M::Range, Steps = <M::Range as KeyRange>::Key>,
-    requires faithful_keys { KeysCloneFaithfully M.Range.Key.is_clone M.Range.Key.cmp }
-    requires faithful_values { ValuesCloneFaithfully M.Value.is_clone M.Value.eq }
-{
-    let mut found = Vec::new(alloc);
-    for query in lists(alloc, queries)? {
-        found.push(segments(alloc, stored, &query_of(alloc, query)?)?)?;
-    }
-    check_text(alloc, &found, text)
 }

@@ -11,7 +11,8 @@ use std::fmt::Debug;
 use std::iter::ExactSizeIterator;
 use std::test::Fail;
 use tests_row_checks::{
-    ReplayName, check_both_ends, check_counted_back, check_replay, check_rows, check_three,
+    ReplayName, Stretches, check_both_ends, check_counted_back, check_replay, check_rows,
+    check_stretches, check_three,
 };
 use tests_support::{
     FromEnds, InRows, Word, changes_of, check_row, check_same, parts, set_of, three_lists,
@@ -37,6 +38,8 @@ pub enum Asked<'t> {
     },
     /// The operators keep their laws.
     Laws(Laws<'t>),
+    /// The stretches of the set that has these ranges, and its gaps.
+    Stretches(&'t str, Stretches<'t>),
 }
 
 /// Compares what sets over a store answer.
@@ -51,7 +54,7 @@ where
 {
     match asked {
         Asked::Rows(table) => check_rows::<Set<S>>(alloc, *table),
-        Asked::Changes(name, row) => check_changes::<S>(*name, alloc, *row),
+        Asked::Changes(name, row) => check_changes::<Set<S>>(*name, alloc, *row),
         Asked::HandedOver(ranges, texts) => check_handed_over::<S>(alloc, *ranges, *texts),
         Asked::OneHandedOver(range) => {
             let set = set_of::<S>(alloc, *range)?;
@@ -64,23 +67,24 @@ where
             common,
         } => check_joined::<S>(alloc, *sets, *either, *common),
         Asked::Laws(laws) => check_laws::<S>(alloc, laws),
+        Asked::Stretches(ranges, stretches) => {
+            let set = set_of::<S>(alloc, *ranges)?;
+            check_stretches(alloc, &set, stretches)
+        }
     }
 }
 
-/// Compares a replay of changes.
-fn check_changes<S: HandsOver<Range: FromEnds, Value = (), Alloc = Global> + StoreMut + Drop>(
+/// Compares a replay of changes, by any steps.
+pub fn check_changes<M: InRows<Value = (), Alloc = Global>>(
     name: ReplayName,
     alloc: Global,
     row: &str,
 ) -> Result<(), Fail>
-where
-    <S::Range as KeyRange>::Key: Word<Global>,
-    Set<S>: InRows<Range = S::Range, Value = (), Alloc = Global, Kind = S::Kind>,
-    requires { KeysCloneFaithfully S.Range.Key.is_clone S.Range.Key.cmp }
+    requires { KeysCloneFaithfully M.Range.Key.is_clone M.Range.Key.cmp }
 {
     let (calls, accepted, lists) = parts(row)?;
-    let changes = changes_of::<S::Kind, S::Range, (), Global>(alloc, calls)?;
-    check_replay::<Set<S>, _>(name, alloc, changes, accepted, lists)
+    let changes = changes_of::<M::Kind, M::Range, (), Global>(alloc, calls)?;
+    check_replay::<M, _>(name, alloc, changes, accepted, lists)
 }
 
 /// Compares the three ranges that a set hands over, and its clone.

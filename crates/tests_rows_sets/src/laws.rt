@@ -14,7 +14,7 @@ use std::alloc::Global;
 use std::fmt::Debug;
 use std::ops::{Range, RangeInclusive};
 use std::test::Fail;
-use tests_support::{Word, check_made, set_of, three_lists};
+use tests_support::{Word, check_made, check_text, set_of, three_lists};
 
 /// Three sets, and the texts of what laws of theirs make. Semicolons stand between three texts.
 #[derive(Drop)]
@@ -54,6 +54,8 @@ where
     let (first, second, third) = (sets.first, sets.second, sets.third);
     let (commuted, associated, made) = three_lists(texts)?;
     check_made(alloc, commutes(operator, first, second), commuted)?;
+    let applied = operator.apply(first, second)?;
+    check_text(alloc, &(applied, operator.apply(second, first)?), commuted)?;
     check_made(
         alloc,
         associates(operator, first, second, third),

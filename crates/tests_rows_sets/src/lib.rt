@@ -16,6 +16,8 @@ mod lent;
 #[cfg(test)]
 mod operations;
 #[cfg(test)]
+mod segments;
+#[cfg(test)]
 mod set;
 #[cfg(test)]
 mod sets;

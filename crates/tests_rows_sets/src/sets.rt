@@ -4,7 +4,7 @@
 //! here, and tests give these functions what they ask.
 ghost use Rattle.rangemap.specs.Clones.{KeysCloneFaithfully};
 
-use crate::asked::{Asked, check_asked};
+use crate::asked::{Asked, check_asked, check_changes};
 use crate::lent::{Lent, check_all, check_in_range};
 use rangemap::{RangeInclusiveSet, RangeSet, StepLite, tree_set};
 use rangemap_chunked::Chunks;
@@ -19,7 +19,7 @@ use std::fmt::Debug;
 use std::ops::{Range, RangeInclusive};
 use std::test::Fail;
 use tests_row_checks::{ReplayName, check_replay};
-use tests_support::{ChunkedSet, FromEnds, Word, parts, set_calls_of, set_of};
+use tests_support::{ChunkedSet, FromEnds, SignedSteps, Word, parts, set_calls_of, set_of};
 
 /// Asks two sets in a sorted vector, made of two lists, what they lend.
 pub fn lent_by_vector<Q: Kind<R>, R: KeyRange<Key: Word<Global>> + Debug>(
@@ -110,7 +110,7 @@ pub fn ask_chunks<Q: Kind<R, Steps = R::Key>, R: FromEnds<Key: Word<Global> + De
 }
 
 /// Asks sets of half-open ranges, in a sorted vector, in a tree and in chunks.
-fn ask_half_open(alloc: Global, asked: &Asked<'_>) -> Result<(), Fail> {
+pub fn ask_half_open(alloc: Global, asked: &Asked<'_>) -> Result<(), Fail> {
     ask_vector::<HalfOpen, Range<u32>>(alloc, asked)?;
     ask_tree(alloc, asked)?;
     ask_chunks::<HalfOpen, Range<u32>>(alloc, asked)
@@ -192,4 +192,18 @@ pub fn check_bytes_changes(alloc: Global, row: &str) -> Result<(), Fail> {
     let in_vector = Asked::Changes(ReplayName::InclusiveSetWithStepFns, row);
     let in_chunks = Asked::Changes(ReplayName::ChunkedWithStepFns, row);
     ask_closed::<u8>(alloc, &in_vector, &in_chunks)
+}
+
+/// Compares a replay of changes by the steps that another type has for signed bytes.
+pub fn check_stepped_changes(alloc: Global, row: &str) -> Result<(), Fail> {
+    check_changes::<RangeInclusiveSet<i8, SignedSteps>>(
+        ReplayName::InclusiveSetWithStepFns,
+        alloc,
+        row,
+    )?;
+    check_changes::<ChunkedSet<Closed<SignedSteps>, RangeInclusive<i8>, Global, 2>>(
+        ReplayName::ChunkedWithStepFns,
+        alloc,
+        row,
+    )
 }

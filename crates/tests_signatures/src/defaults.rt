@@ -78,8 +78,15 @@ pub fn hand_over_tree_set(set: tree_set::RangeSet<u128>) -> tree_set::IntoIter<u
     tree_sets::hand_over(set)
 }
 
-pub fn of_lists(alloc: Global) -> Result<(RangeMap<u32, char>, RangeSet<u32>), AllocError> {
-    let map: RangeMap<u32, char> = RangeMap::from(alloc, [(0..5, 'a'), (3..9, 'b')])?;
+pub fn of_lists(
+    alloc: Global,
+) -> (
+    Result<RangeMap<u32, char>, AllocError>,
+    Result<RangeSet<u32>, AllocError>,
+) {
     let ranges: [Range<u32>; 2] = [0..5, 3..9];
-    Ok((map, RangeSet::from(alloc, ranges)?))
+    (
+        RangeMap::from(alloc, [(0..5, 'a'), (3..9, 'b')]),
+        RangeSet::from(alloc, ranges),
+    )
 }

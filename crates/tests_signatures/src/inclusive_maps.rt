@@ -38,16 +38,18 @@ pub fn ask<'a, K: Ord + Clone, V: Eq + Clone, S: StepFns<K>, A: Allocator>(
 }
 
 pub fn from<K: StepLite + Clone, V: Eq + Clone, A: Allocator + Clone, const N: usize>(
+    map: &RangeInclusiveMap<K, V, K, A>,
     alloc: A,
     value: [(RangeInclusive<K>, V); N],
-) -> Result<(RangeInclusiveMap<K, V, K, A>, RangeInclusiveMap<K, V, K, A>), AllocError>
+)
     requires non_empty { AreNonEmpty (closed K.StepLite.is_key K.cmp) value }
     requires faithful_keys { KeysCloneFaithfully K.is_clone K.cmp }
     requires faithful_values { ValuesCloneFaithfully V.is_clone V.eq }
 {
-    let map = RangeInclusiveMap::from(alloc, value)?;
-    let copy = map.clone()?;
-    Ok((map, copy))
+    let _: Result<RangeInclusiveMap<K, V, K, A>, AllocError> = RangeInclusiveMap::from(
+        alloc, value,
+    );
+    let _: Result<RangeInclusiveMap<K, V, K, A>, AllocError> = map.clone();
 }
 
 pub fn empty<K: StepLite + Clone, V: Eq + Clone, A: Allocator>(
@@ -67,7 +69,7 @@ pub fn change<K: Ord + Clone, V: Eq + Clone, S: StepFns<K>, A: Allocator>(
     given: RangeInclusive<K>,
     value: V,
     taken: RangeInclusive<K>,
-) -> Result<(), AllocError>
+)
     requires given_non_empty { IsTrue (is_le (K.cmp (range_inclusive_start given) (range_inclusive_end given))) }
     requires given_not_exhausted { range_inclusive_exhausted given ≡ false }
     requires taken_non_empty { IsTrue (is_le (K.cmp (range_inclusive_start taken) (range_inclusive_end taken))) }
@@ -75,10 +77,9 @@ pub fn change<K: Ord + Clone, V: Eq + Clone, S: StepFns<K>, A: Allocator>(
     requires faithful_keys { KeysCloneFaithfully K.is_clone K.cmp }
     requires faithful_values { ValuesCloneFaithfully V.is_clone V.eq }
 {
-    map.insert(given, value)?;
-    map.remove(taken)?;
+    let _: Result<(), AllocError> = map.insert(given, value);
+    let _: Result<(), AllocError> = map.remove(taken);
     map.clear();
-    Ok(())
 }
 
 pub fn collect<
@@ -86,12 +87,7 @@ pub fn collect<
     V: Eq + Clone,
     A: Allocator,
     I: IntoIterator<Item = (RangeInclusive<K>, V)>,
->(
-    alloc: A,
-    iter: I,
-    extended: &mut RangeInclusiveMap<K, V, K, A>,
-    more: I,
-) -> Result<RangeInclusiveMap<K, V, K, A>, AllocError>
+>(alloc: A, iter: I, extended: &mut RangeInclusiveMap<K, V, K, A>, more: I)
     requires ends { IsFiniteIterable I.into_iter_gives I.IntoIter.can_next I.IntoIter.remaining iter }
     requires non_empty { (it : I.IntoIter) → I.into_iter_gives iter it → GivesNonEmpty (closed K.StepLite.is_key K.cmp) I.IntoIter.next_gives it }
     requires more_ends { IsFiniteIterable I.into_iter_gives I.IntoIter.can_next I.IntoIter.remaining more }
@@ -99,10 +95,10 @@ pub fn collect<
     requires faithful_keys { KeysCloneFaithfully K.is_clone K.cmp }
     requires faithful_values { ValuesCloneFaithfully V.is_clone V.eq }
 {
-    let answer = extended.extend(more);
-    let collected = RangeInclusiveMap::from_iter(alloc, iter)?;
-    answer?;
-    Ok(collected)
+    let _: Result<(), AllocError> = extended.extend(more);
+    let _: Result<RangeInclusiveMap<K, V, K, A>, AllocError> = RangeInclusiveMap::from_iter(
+        alloc, iter,
+    );
 }
 
 pub fn hand_over<K: StepLite + Clone, V: Eq + Clone, A: Allocator>(
@@ -167,21 +163,26 @@ pub fn every<K: StepLite + Clone + Hash + Debug, const N: usize>(
     listed: [(RangeInclusive<K>, u8); N],
     given: RangeInclusive<K>,
     taken: RangeInclusive<K>,
-) -> Result<(), AllocError>
+)
     requires listed_non_empty { AreNonEmpty (closed K.StepLite.is_key K.cmp) listed }
     requires given_non_empty { (closed K.StepLite.is_key K.cmp).IsNonEmpty given }
     requires taken_non_empty { (closed K.StepLite.is_key K.cmp).IsNonEmpty taken }
     requires faithful_keys { KeysCloneFaithfully K.is_clone K.cmp }
 {
     ask(map, given.start(), &given);
-    let _: (bool, String) = compare_and_print(alloc, map, map, &mut DefaultHasher::new())?;
+    let _: Result<(bool, String), AllocError> = compare_and_print(
+        alloc,
+        map,
+        map,
+        &mut DefaultHasher::new(),
+    );
     let write = (root::write_nothing::<K>, root::write_nothing::<u8>);
     let read = (|_: &Value| Err(()), |_: &Value| Err(()));
     let _ = write_and_read(map, alloc, write, alloc, Form::Any, &Value::Null, read);
-    let _: RangeInclusiveMap<K, u8> = empty(alloc);
-    let _: RangeInclusiveMap<K, u8> = by_step_fns(alloc);
-    let (made, copy) = from(alloc, listed)?;
-    let collected = collect(alloc, made, map, copy)?;
-    let _: IntoIter<K, u8> = hand_over(collected);
-    change(map, given, 1, taken)
+    from(map, alloc, listed);
+    let first = empty(alloc);
+    let second = by_step_fns(alloc);
+    collect(alloc, first, map, second);
+    let _: IntoIter<K, u8> = hand_over(empty(alloc));
+    change(map, given, 1, taken);
 }

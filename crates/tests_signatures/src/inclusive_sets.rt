@@ -44,24 +44,18 @@ pub fn ask<'a, T: Ord + Clone, S: StepFns<T>, A: Allocator>(
 }
 
 pub fn from<T: StepLite + Clone, A: Allocator + Clone, const N: usize>(
+    set: &RangeInclusiveSet<T, T, A>,
+    other: &RangeInclusiveSet<T, T, A>,
     alloc: A,
     value: [RangeInclusive<T>; N],
-    other: &RangeInclusiveSet<T, T, A>,
-) -> Result<
-    (
-        RangeInclusiveSet<T, T, A>,
-        RangeInclusiveSet<T, T, A>,
-        RangeInclusiveSet<T, T, A>,
-    ),
-    AllocError,
->
+)
     requires non_empty { AreNonEmptyRanges (closed T.StepLite.is_key T.cmp) value }
     requires faithful_keys { KeysCloneFaithfully T.is_clone T.cmp }
 {
-    let set = RangeInclusiveSet::from(alloc, value)?;
-    let either = (&set | other)?;
-    let both = (&set & other)?;
-    Ok((set.clone()?, either, both))
+    let _: Result<RangeInclusiveSet<T, T, A>, AllocError> = RangeInclusiveSet::from(alloc, value);
+    let _: Result<RangeInclusiveSet<T, T, A>, AllocError> = set.clone();
+    let _: Result<RangeInclusiveSet<T, T, A>, AllocError> = set | other;
+    let _: Result<RangeInclusiveSet<T, T, A>, AllocError> = set & other;
 }
 
 pub fn empty<T: StepLite + Clone, A: Allocator>(alloc: A) -> RangeInclusiveSet<T, T, A> {
@@ -78,17 +72,16 @@ pub fn change<T: Ord + Clone, S: StepFns<T>, A: Allocator>(
     set: &mut RangeInclusiveSet<T, S, A>,
     given: RangeInclusive<T>,
     taken: RangeInclusive<T>,
-) -> Result<(), AllocError>
+)
     requires given_non_empty { IsTrue (is_le (T.cmp (range_inclusive_start given) (range_inclusive_end given))) }
     requires given_not_exhausted { range_inclusive_exhausted given ≡ false }
     requires taken_non_empty { IsTrue (is_le (T.cmp (range_inclusive_start taken) (range_inclusive_end taken))) }
     requires taken_not_exhausted { range_inclusive_exhausted taken ≡ false }
     requires faithful_keys { KeysCloneFaithfully T.is_clone T.cmp }
 {
-    set.insert(given)?;
-    set.remove(taken)?;
+    let _: Result<(), AllocError> = set.insert(given);
+    let _: Result<(), AllocError> = set.remove(taken);
     set.clear();
-    Ok(())
 }
 
 pub fn collect<T: StepLite + Clone, A: Allocator, I: IntoIterator<Item = RangeInclusive<T>>>(
@@ -96,17 +89,17 @@ pub fn collect<T: StepLite + Clone, A: Allocator, I: IntoIterator<Item = RangeIn
     iter: I,
     extended: &mut RangeInclusiveSet<T, T, A>,
     more: I,
-) -> Result<RangeInclusiveSet<T, T, A>, AllocError>
+)
     requires ends { IsFiniteIterable I.into_iter_gives I.IntoIter.can_next I.IntoIter.remaining iter }
     requires non_empty { (it : I.IntoIter) → I.into_iter_gives iter it → GivesNonEmptyRanges (closed T.StepLite.is_key T.cmp) I.IntoIter.next_gives it }
     requires more_ends { IsFiniteIterable I.into_iter_gives I.IntoIter.can_next I.IntoIter.remaining more }
     requires more_non_empty { (it : I.IntoIter) → I.into_iter_gives more it → GivesNonEmptyRanges (closed T.StepLite.is_key T.cmp) I.IntoIter.next_gives it }
     requires faithful_keys { KeysCloneFaithfully T.is_clone T.cmp }
 {
-    let answer = extended.extend(more);
-    let collected = RangeInclusiveSet::from_iter(alloc, iter)?;
-    answer?;
-    Ok(collected)
+    let _: Result<(), AllocError> = extended.extend(more);
+    let _: Result<RangeInclusiveSet<T, T, A>, AllocError> = RangeInclusiveSet::from_iter(
+        alloc, iter,
+    );
 }
 
 pub fn hand_over<T: StepLite + Clone, A: Allocator>(
@@ -160,20 +153,25 @@ pub fn every<T: StepLite + Clone + Hash + Debug, const N: usize>(
     listed: [RangeInclusive<T>; N],
     given: RangeInclusive<T>,
     taken: RangeInclusive<T>,
-) -> Result<(), AllocError>
+)
     requires listed_non_empty { AreNonEmptyRanges (closed T.StepLite.is_key T.cmp) listed }
     requires given_non_empty { (closed T.StepLite.is_key T.cmp).IsNonEmpty given }
     requires taken_non_empty { (closed T.StepLite.is_key T.cmp).IsNonEmpty taken }
     requires faithful_keys { KeysCloneFaithfully T.is_clone T.cmp }
 {
     ask(set, given.start(), &given, set);
-    let _: (bool, String) = compare_and_print(alloc, set, set, &mut DefaultHasher::new())?;
+    let _: Result<(bool, String), AllocError> = compare_and_print(
+        alloc,
+        set,
+        set,
+        &mut DefaultHasher::new(),
+    );
     let (write, read) = (root::write_nothing::<T>, |_: &Value| Err(()));
     let _ = write_and_read(set, alloc, write, alloc, Form::Any, &Value::Null, read);
-    let _: RangeInclusiveSet<T> = empty(alloc);
-    let _: RangeInclusiveSet<T> = by_step_fns(alloc);
-    let (made, either, _both) = from(alloc, listed, set)?;
-    let collected = collect(alloc, made, set, either)?;
-    let _: IntoIter<T> = hand_over(collected);
-    change(set, given, taken)
+    from(set, set, alloc, listed);
+    let first = empty(alloc);
+    let second = by_step_fns(alloc);
+    collect(alloc, first, set, second);
+    let _: IntoIter<T> = hand_over(empty(alloc));
+    change(set, given, taken);
 }

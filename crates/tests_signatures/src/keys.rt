@@ -3,7 +3,7 @@
 
 use crate::{inclusive_maps, inclusive_sets, maps, sets, tree_sets, trees};
 use rangemap::{RangeInclusiveMap, RangeInclusiveSet, RangeMap, RangeSet, tree_map, tree_set};
-use std::alloc::{AllocError, Global};
+use std::alloc::Global;
 use std::ops::Range;
 
 pub fn call_maps(
@@ -14,13 +14,13 @@ pub fn call_maps(
     i64s: &mut RangeMap<i64, u8>,
     u128s: &mut RangeMap<u128, u8>,
     chars: &mut RangeMap<char, u8>,
-) -> Result<(), AllocError> {
-    maps::every(alloc, u32s, [(0..5, 1)], 1..4, 2..3)?;
-    maps::every(alloc, u64s, [(0..5, 1)], 1..4, 2..3)?;
-    maps::every(alloc, usizes, [(0..5, 1)], 1..4, 2..3)?;
-    maps::every(alloc, i64s, [(-5..5, 1)], -4..4, -2..2)?;
-    maps::every(alloc, u128s, [(0..5, 1)], 1..4, 2..3)?;
-    maps::every(alloc, chars, [('a'..'f', 1)], 'b'..'e', 'c'..'d')
+) {
+    maps::every(alloc, u32s, [(0..5, 1)], 1..4, 2..3);
+    maps::every(alloc, u64s, [(0..5, 1)], 1..4, 2..3);
+    maps::every(alloc, usizes, [(0..5, 1)], 1..4, 2..3);
+    maps::every(alloc, i64s, [(-5..5, 1)], -4..4, -2..2);
+    maps::every(alloc, u128s, [(0..5, 1)], 1..4, 2..3);
+    maps::every(alloc, chars, [('a'..'f', 1)], 'b'..'e', 'c'..'d');
 }
 
 pub fn call_map_of_texts(
@@ -29,11 +29,11 @@ pub fn call_map_of_texts(
     listed: Range<String>,
     given: Range<String>,
     taken: Range<String>,
-) -> Result<(), AllocError> {
+) {
     if listed.is_empty() || given.is_empty() || taken.is_empty() {
-        return Ok(());
+        return;
     }
-    maps::every(alloc, map, [(listed, 1)], given, taken)
+    maps::every(alloc, map, [(listed, 1)], given, taken);
 }
 
 pub fn call_closed_maps(
@@ -44,13 +44,13 @@ pub fn call_closed_maps(
     i64s: &mut RangeInclusiveMap<i64, u8>,
     u128s: &mut RangeInclusiveMap<u128, u8>,
     chars: &mut RangeInclusiveMap<char, u8>,
-) -> Result<(), AllocError> {
-    inclusive_maps::every(alloc, u32s, [(0..=5, 1)], 1..=4, 2..=3)?;
-    inclusive_maps::every(alloc, u64s, [(0..=5, 1)], 1..=4, 2..=3)?;
-    inclusive_maps::every(alloc, usizes, [(0..=5, 1)], 1..=4, 2..=3)?;
-    inclusive_maps::every(alloc, i64s, [(-5..=5, 1)], -4..=4, -2..=2)?;
-    inclusive_maps::every(alloc, u128s, [(0..=5, 1)], 1..=4, 2..=3)?;
-    inclusive_maps::every(alloc, chars, [('a'..='f', 1)], 'b'..='e', 'c'..='d')
+) {
+    inclusive_maps::every(alloc, u32s, [(0..=5, 1)], 1..=4, 2..=3);
+    inclusive_maps::every(alloc, u64s, [(0..=5, 1)], 1..=4, 2..=3);
+    inclusive_maps::every(alloc, usizes, [(0..=5, 1)], 1..=4, 2..=3);
+    inclusive_maps::every(alloc, i64s, [(-5..=5, 1)], -4..=4, -2..=2);
+    inclusive_maps::every(alloc, u128s, [(0..=5, 1)], 1..=4, 2..=3);
+    inclusive_maps::every(alloc, chars, [('a'..='f', 1)], 'b'..='e', 'c'..='d');
 }
 
 pub fn call_trees(
@@ -61,13 +61,13 @@ pub fn call_trees(
     i64s: &mut tree_map::RangeMap<i64, u8>,
     u128s: &mut tree_map::RangeMap<u128, u8>,
     chars: &mut tree_map::RangeMap<char, u8>,
-) -> Result<(), AllocError> {
-    trees::every(alloc, u32s, [(0..5, 1)], 1..4, 2..3)?;
-    trees::every(alloc, u64s, [(0..5, 1)], 1..4, 2..3)?;
-    trees::every(alloc, usizes, [(0..5, 1)], 1..4, 2..3)?;
-    trees::every(alloc, i64s, [(-5..5, 1)], -4..4, -2..2)?;
-    trees::every(alloc, u128s, [(0..5, 1)], 1..4, 2..3)?;
-    trees::every(alloc, chars, [('a'..'f', 1)], 'b'..'e', 'c'..'d')
+) {
+    trees::every(alloc, u32s, [(0..5, 1)], 1..4, 2..3);
+    trees::every(alloc, u64s, [(0..5, 1)], 1..4, 2..3);
+    trees::every(alloc, usizes, [(0..5, 1)], 1..4, 2..3);
+    trees::every(alloc, i64s, [(-5..5, 1)], -4..4, -2..2);
+    trees::every(alloc, u128s, [(0..5, 1)], 1..4, 2..3);
+    trees::every(alloc, chars, [('a'..'f', 1)], 'b'..'e', 'c'..'d');
 }
 
 pub fn call_tree_of_texts(
@@ -76,11 +76,11 @@ pub fn call_tree_of_texts(
     listed: Range<String>,
     given: Range<String>,
     taken: Range<String>,
-) -> Result<(), AllocError> {
+) {
     if listed.is_empty() || given.is_empty() || taken.is_empty() {
-        return Ok(());
+        return;
     }
-    trees::every(alloc, tree, [(listed, 1)], given, taken)
+    trees::every(alloc, tree, [(listed, 1)], given, taken);
 }
 
 pub fn call_sets(
@@ -91,13 +91,13 @@ pub fn call_sets(
     i64s: &mut RangeSet<i64>,
     u128s: &mut RangeSet<u128>,
     chars: &mut RangeSet<char>,
-) -> Result<(), AllocError> {
-    sets::every(alloc, u32s, [0..5], 1..4, 2..3)?;
-    sets::every(alloc, u64s, [0..5], 1..4, 2..3)?;
-    sets::every(alloc, usizes, [0..5], 1..4, 2..3)?;
-    sets::every(alloc, i64s, [-5..5], -4..4, -2..2)?;
-    sets::every(alloc, u128s, [0..5], 1..4, 2..3)?;
-    sets::every(alloc, chars, ['a'..'f'], 'b'..'e', 'c'..'d')
+) {
+    sets::every(alloc, u32s, [0..5], 1..4, 2..3);
+    sets::every(alloc, u64s, [0..5], 1..4, 2..3);
+    sets::every(alloc, usizes, [0..5], 1..4, 2..3);
+    sets::every(alloc, i64s, [-5..5], -4..4, -2..2);
+    sets::every(alloc, u128s, [0..5], 1..4, 2..3);
+    sets::every(alloc, chars, ['a'..'f'], 'b'..'e', 'c'..'d');
 }
 
 pub fn call_set_of_texts(
@@ -106,11 +106,11 @@ pub fn call_set_of_texts(
     listed: Range<String>,
     given: Range<String>,
     taken: Range<String>,
-) -> Result<(), AllocError> {
+) {
     if listed.is_empty() || given.is_empty() || taken.is_empty() {
-        return Ok(());
+        return;
     }
-    sets::every(alloc, set, [listed], given, taken)
+    sets::every(alloc, set, [listed], given, taken);
 }
 
 pub fn call_closed_sets(
@@ -121,13 +121,13 @@ pub fn call_closed_sets(
     i64s: &mut RangeInclusiveSet<i64>,
     u128s: &mut RangeInclusiveSet<u128>,
     chars: &mut RangeInclusiveSet<char>,
-) -> Result<(), AllocError> {
-    inclusive_sets::every(alloc, u32s, [0..=5], 1..=4, 2..=3)?;
-    inclusive_sets::every(alloc, u64s, [0..=5], 1..=4, 2..=3)?;
-    inclusive_sets::every(alloc, usizes, [0..=5], 1..=4, 2..=3)?;
-    inclusive_sets::every(alloc, i64s, [-5..=5], -4..=4, -2..=2)?;
-    inclusive_sets::every(alloc, u128s, [0..=5], 1..=4, 2..=3)?;
-    inclusive_sets::every(alloc, chars, ['a'..='f'], 'b'..='e', 'c'..='d')
+) {
+    inclusive_sets::every(alloc, u32s, [0..=5], 1..=4, 2..=3);
+    inclusive_sets::every(alloc, u64s, [0..=5], 1..=4, 2..=3);
+    inclusive_sets::every(alloc, usizes, [0..=5], 1..=4, 2..=3);
+    inclusive_sets::every(alloc, i64s, [-5..=5], -4..=4, -2..=2);
+    inclusive_sets::every(alloc, u128s, [0..=5], 1..=4, 2..=3);
+    inclusive_sets::every(alloc, chars, ['a'..='f'], 'b'..='e', 'c'..='d');
 }
 
 pub fn call_sets_in_trees(
@@ -138,13 +138,13 @@ pub fn call_sets_in_trees(
     i64s: &mut tree_set::RangeSet<i64>,
     u128s: &mut tree_set::RangeSet<u128>,
     chars: &mut tree_set::RangeSet<char>,
-) -> Result<(), AllocError> {
-    tree_sets::every(alloc, u32s, [0..5], 1..4, 2..3)?;
-    tree_sets::every(alloc, u64s, [0..5], 1..4, 2..3)?;
-    tree_sets::every(alloc, usizes, [0..5], 1..4, 2..3)?;
-    tree_sets::every(alloc, i64s, [-5..5], -4..4, -2..2)?;
-    tree_sets::every(alloc, u128s, [0..5], 1..4, 2..3)?;
-    tree_sets::every(alloc, chars, ['a'..'f'], 'b'..'e', 'c'..'d')
+) {
+    tree_sets::every(alloc, u32s, [0..5], 1..4, 2..3);
+    tree_sets::every(alloc, u64s, [0..5], 1..4, 2..3);
+    tree_sets::every(alloc, usizes, [0..5], 1..4, 2..3);
+    tree_sets::every(alloc, i64s, [-5..5], -4..4, -2..2);
+    tree_sets::every(alloc, u128s, [0..5], 1..4, 2..3);
+    tree_sets::every(alloc, chars, ['a'..'f'], 'b'..'e', 'c'..'d');
 }
 
 pub fn call_set_of_texts_in_a_tree(
@@ -153,9 +153,9 @@ pub fn call_set_of_texts_in_a_tree(
     listed: Range<String>,
     given: Range<String>,
     taken: Range<String>,
-) -> Result<(), AllocError> {
+) {
     if listed.is_empty() || given.is_empty() || taken.is_empty() {
-        return Ok(());
+        return;
     }
-    tree_sets::every(alloc, set, [listed], given, taken)
+    tree_sets::every(alloc, set, [listed], given, taken);
 }

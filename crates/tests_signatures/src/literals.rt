@@ -1,9 +1,7 @@
 //! Inserts of literals as users write them, with nothing generic between: each container once, at
 //! keys that are signed, wide, or characters.
 
-use rangemap::{
-    RangeInclusiveMap, RangeInclusiveSet, RangeMap, RangeSet, chunked, tree_map, tree_set,
-};
+use rangemap::{RangeInclusiveMap, RangeInclusiveSet, RangeMap, RangeSet, tree_map, tree_set};
 use std::alloc::AllocError;
 
 pub fn insert(
@@ -24,16 +22,4 @@ pub fn insert_closed(
 ) -> Result<(), AllocError> {
     map.insert('a'..='f', 1)?;
     set.insert(-5..=5)
-}
-
-pub fn insert_in_chunks(
-    map: &mut chunked::RangeMap<i64, u8>,
-    closed_map: &mut chunked::RangeInclusiveMap<char, u8>,
-    set: &mut chunked::RangeSet<char>,
-    closed_set: &mut chunked::RangeInclusiveSet<i64>,
-) -> Result<(), AllocError> {
-    map.insert(-5..5, 1)?;
-    closed_map.insert('a'..='f', 1)?;
-    set.insert('a'..'f')?;
-    closed_set.insert(-5..=5)
 }

@@ -35,16 +35,16 @@ pub fn ask<'a, K: Ord + Clone, V: Eq + Clone, A: Allocator>(
 }
 
 pub fn from<K: Ord + Clone, V: Eq + Clone, A: Allocator + Clone, const N: usize>(
+    map: &RangeMap<K, V, A>,
     alloc: A,
     value: [(Range<K>, V); N],
-) -> Result<(RangeMap<K, V, A>, RangeMap<K, V, A>), AllocError>
+)
     requires non_empty { AreNonEmpty (half_open K.cmp) value }
     requires faithful_keys { KeysCloneFaithfully K.is_clone K.cmp }
     requires faithful_values { ValuesCloneFaithfully V.is_clone V.eq }
 {
-    let map = RangeMap::from(alloc, value)?;
-    let copy = map.clone()?;
-    Ok((map, copy))
+    let _: Result<RangeMap<K, V, A>, AllocError> = RangeMap::from(alloc, value);
+    let _: Result<RangeMap<K, V, A>, AllocError> = map.clone();
 }
 
 pub fn empty<K: Ord + Clone, V: Eq + Clone, A: Allocator>(
@@ -59,7 +59,7 @@ pub fn collect<K: Ord + Clone, V: Eq + Clone, A: Allocator, I: IntoIterator<Item
     iter: I,
     extended: &mut RangeMap<K, V, A>,
     more: I,
-) -> Result<RangeMap<K, V, A>, AllocError>
+)
     requires ends { IsFiniteIterable I.into_iter_gives I.IntoIter.can_next I.IntoIter.remaining iter }
     requires non_empty { (it : I.IntoIter) → I.into_iter_gives iter it → GivesNonEmpty (half_open K.cmp) I.IntoIter.next_gives it }
     requires more_ends { IsFiniteIterable I.into_iter_gives I.IntoIter.can_next I.IntoIter.remaining more }
@@ -67,10 +67,8 @@ pub fn collect<K: Ord + Clone, V: Eq + Clone, A: Allocator, I: IntoIterator<Item
     requires faithful_keys { KeysCloneFaithfully K.is_clone K.cmp }
     requires faithful_values { ValuesCloneFaithfully V.is_clone V.eq }
 {
-    let answer = extended.extend(more);
-    let collected = RangeMap::from_iter(alloc, iter)?;
-    answer?;
-    Ok(collected)
+    let _: Result<(), AllocError> = extended.extend(more);
+    let _: Result<RangeMap<K, V, A>, AllocError> = RangeMap::from_iter(alloc, iter);
 }
 
 pub fn change<K: Ord + Clone, V: Eq + Clone, A: Allocator>(
@@ -78,16 +76,15 @@ pub fn change<K: Ord + Clone, V: Eq + Clone, A: Allocator>(
     given: Range<K>,
     value: V,
     taken: Range<K>,
-) -> Result<(), AllocError>
+)
     requires given_non_empty { (half_open K.cmp).IsNonEmpty given }
     requires taken_non_empty { (half_open K.cmp).IsNonEmpty taken }
     requires faithful_keys { KeysCloneFaithfully K.is_clone K.cmp }
     requires faithful_values { ValuesCloneFaithfully V.is_clone V.eq }
 {
-    map.insert(given, value)?;
-    map.remove(taken)?;
+    let _: Result<(), AllocError> = map.insert(given, value);
+    let _: Result<(), AllocError> = map.remove(taken);
     map.clear();
-    Ok(())
 }
 
 pub fn hand_over<K: Ord + Clone, V: Eq + Clone, A: Allocator>(
@@ -152,20 +149,26 @@ pub fn every<K: Ord + Clone + Hash + Debug, const N: usize>(
     listed: [(Range<K>, u8); N],
     given: Range<K>,
     taken: Range<K>,
-) -> Result<(), AllocError>
+)
     requires listed_non_empty { AreNonEmpty (half_open K.cmp) listed }
     requires given_non_empty { (half_open K.cmp).IsNonEmpty given }
     requires taken_non_empty { (half_open K.cmp).IsNonEmpty taken }
     requires faithful_keys { KeysCloneFaithfully K.is_clone K.cmp }
 {
     ask(map, &given.start, &given);
-    let _: (bool, String) = compare_and_print(alloc, map, map, &mut DefaultHasher::new())?;
+    let _: Result<(bool, String), AllocError> = compare_and_print(
+        alloc,
+        map,
+        map,
+        &mut DefaultHasher::new(),
+    );
     let write = (root::write_nothing::<K>, root::write_nothing::<u8>);
     let read = (|_: &Value| Err(()), |_: &Value| Err(()));
     let _ = write_and_read(map, alloc, write, alloc, Form::Any, &Value::Null, read);
-    let _: (RangeMap<K, u8>, RangeMap<K, u8>) = empty(alloc, alloc);
-    let (made, copy) = from(alloc, listed)?;
-    let collected = collect(alloc, made, map, copy)?;
-    let _: IntoIter<K, u8> = hand_over(collected);
-    change(map, given, 1, taken)
+    from(map, alloc, listed);
+    let (first, second) = empty(alloc, alloc);
+    collect(alloc, first, map, second);
+    let (given_away, _) = empty(alloc, alloc);
+    let _: IntoIter<K, u8> = hand_over(given_away);
+    change(map, given, 1, taken);
 }

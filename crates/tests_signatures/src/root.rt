@@ -125,20 +125,23 @@ pub fn writes<E: Debug + PartialEq + Eq + Drop>(error: WriteError<E>) -> Option<
     }
 }
 
-pub fn macros_of_maps(alloc: Global) -> Result<(), AllocError> {
-    let _: RangeMap<u32, &'static str, Global> =
-        range_map! { in alloc; 0..100 => "abc", 100..200 => "def", }?;
-    let _: RangeInclusiveMap<u32, &'static str, u32, Global> =
-        range_inclusive_map! { in alloc; 0..=100 => "abc", 100..=200 => "def" }?;
-    let _: RangeMap<u32, &'static str, Global> = range_map! { in alloc; }?;
-    let _: RangeInclusiveMap<u32, &'static str, u32, Global> = range_inclusive_map! { in alloc; }?;
-    Ok(())
+pub fn macros_of_maps(alloc: Global) {
+    let _: Result<RangeMap<u32, &'static str, Global>, AllocError> =
+        range_map! { in alloc; 0..100 => "abc", 100..200 => "def", };
+    let _: Result<RangeInclusiveMap<u32, &'static str, u32, Global>, AllocError> =
+        range_inclusive_map! { in alloc; 0..=100 => "abc", 100..=200 => "def" };
+    let _: Result<RangeMap<u32, &'static str, Global>, AllocError> = range_map! { in alloc; };
+    let _: Result<RangeInclusiveMap<u32, &'static str, u32, Global>, AllocError> =
+        range_inclusive_map! { in alloc; };
 }
 
-pub fn macros_of_sets(alloc: Global) -> Result<(), AllocError> {
-    let _: RangeSet<u32, Global> = range_set![in alloc; 0..5, 5..9,]?;
-    let _: RangeInclusiveSet<u32, u32, Global> = range_inclusive_set![in alloc; 0..=5, 6..=9,]?;
-    let _: RangeSet<u32, Global> = range_set![in alloc;]?;
-    let _: RangeInclusiveSet<u32, u32, Global> = range_inclusive_set![in alloc;]?;
-    Ok(())
+pub fn macros_of_sets(alloc: Global) {
+    let _: Result<RangeSet<u32, Global>, AllocError> = range_set![in alloc; 0..5, 5..9,];
+    let _: Result<RangeInclusiveSet<u32, u32, Global>, AllocError> = range_inclusive_set![in alloc;
+        0..=5,
+        6..=9,
+    ];
+    let _: Result<RangeSet<u32, Global>, AllocError> = range_set![in alloc;];
+    let _: Result<RangeInclusiveSet<u32, u32, Global>, AllocError> =
+        range_inclusive_set![in alloc;];
 }

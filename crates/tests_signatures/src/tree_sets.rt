@@ -39,17 +39,18 @@ pub fn ask<'a, T: Ord + Clone, A: Allocator + Clone>(
 }
 
 pub fn from<T: Ord + Clone, A: Allocator + Clone, const N: usize>(
+    set: &RangeSet<T, A>,
+    other: &RangeSet<T, A>,
     alloc: A,
     value: [Range<T>; N],
-    other: &RangeSet<T, A>,
-) -> Result<(RangeSet<T, A>, RangeSet<T, A>, RangeSet<T, A>), AllocError>
+)
     requires non_empty { AreNonEmptyRanges (half_open T.cmp) value }
     requires faithful_keys { KeysCloneFaithfully T.is_clone T.cmp }
 {
-    let set = RangeSet::from(alloc, value)?;
-    let either = (&set | other)?;
-    let both = (&set & other)?;
-    Ok((set.clone()?, either, both))
+    let _: Result<RangeSet<T, A>, AllocError> = RangeSet::from(alloc, value);
+    let _: Result<RangeSet<T, A>, AllocError> = set.clone();
+    let _: Result<RangeSet<T, A>, AllocError> = set | other;
+    let _: Result<RangeSet<T, A>, AllocError> = set & other;
 }
 
 pub fn empty<T: Ord + Clone, A: Allocator + Clone>(
@@ -64,32 +65,29 @@ pub fn collect<T: Ord + Clone, A: Allocator + Clone, I: IntoIterator<Item = Rang
     iter: I,
     extended: &mut RangeSet<T, A>,
     more: I,
-) -> Result<RangeSet<T, A>, AllocError>
+)
     requires ends { IsFiniteIterable I.into_iter_gives I.IntoIter.can_next I.IntoIter.remaining iter }
     requires non_empty { (it : I.IntoIter) → I.into_iter_gives iter it → GivesNonEmptyRanges (half_open T.cmp) I.IntoIter.next_gives it }
     requires more_ends { IsFiniteIterable I.into_iter_gives I.IntoIter.can_next I.IntoIter.remaining more }
     requires more_non_empty { (it : I.IntoIter) → I.into_iter_gives more it → GivesNonEmptyRanges (half_open T.cmp) I.IntoIter.next_gives it }
     requires faithful_keys { KeysCloneFaithfully T.is_clone T.cmp }
 {
-    let answer = extended.extend(more);
-    let collected = RangeSet::from_iter(alloc, iter)?;
-    answer?;
-    Ok(collected)
+    let _: Result<(), AllocError> = extended.extend(more);
+    let _: Result<RangeSet<T, A>, AllocError> = RangeSet::from_iter(alloc, iter);
 }
 
 pub fn change<T: Ord + Clone, A: Allocator + Clone>(
     set: &mut RangeSet<T, A>,
     given: Range<T>,
     taken: Range<T>,
-) -> Result<(), AllocError>
+)
     requires given_non_empty { (half_open T.cmp).IsNonEmpty given }
     requires taken_non_empty { (half_open T.cmp).IsNonEmpty taken }
     requires faithful_keys { KeysCloneFaithfully T.is_clone T.cmp }
 {
-    set.insert(given)?;
-    set.remove(taken)?;
+    let _: Result<(), AllocError> = set.insert(given);
+    let _: Result<(), AllocError> = set.remove(taken);
     set.clear();
-    Ok(())
 }
 
 pub fn hand_over<T: Ord + Clone, A: Allocator + Clone>(set: RangeSet<T, A>) -> IntoIter<T, A> {
@@ -138,19 +136,25 @@ pub fn every<T: Ord + Clone + Hash + Debug, const N: usize>(
     listed: [Range<T>; N],
     given: Range<T>,
     taken: Range<T>,
-) -> Result<(), AllocError>
+)
     requires listed_non_empty { AreNonEmptyRanges (half_open T.cmp) listed }
     requires given_non_empty { (half_open T.cmp).IsNonEmpty given }
     requires taken_non_empty { (half_open T.cmp).IsNonEmpty taken }
     requires faithful_keys { KeysCloneFaithfully T.is_clone T.cmp }
 {
     ask(set, &given.start, &given, set);
-    let _: (bool, String) = compare_and_print(alloc, set, set, &mut DefaultHasher::new())?;
+    let _: Result<(bool, String), AllocError> = compare_and_print(
+        alloc,
+        set,
+        set,
+        &mut DefaultHasher::new(),
+    );
     let (write, read) = (root::write_nothing::<T>, |_: &Value| Err(()));
     let _ = write_and_read(set, alloc, write, alloc, Form::Any, &Value::Null, read);
-    let _: (RangeSet<T>, RangeSet<T>) = empty(alloc, alloc);
-    let (made, either, _both) = from(alloc, listed, set)?;
-    let collected = collect(alloc, made, set, either)?;
-    let _: IntoIter<T> = hand_over(collected);
-    change(set, given, taken)
+    from(set, set, alloc, listed);
+    let (first, second) = empty(alloc, alloc);
+    collect(alloc, first, set, second);
+    let (given_away, _) = empty(alloc, alloc);
+    let _: IntoIter<T> = hand_over(given_away);
+    change(set, given, taken);
 }

@@ -14,7 +14,8 @@ use std::alloc::Allocator;
 use std::test::Fail;
 use tests_words::{Word, first_word, pair_of, place, ranges_of, read_change};
 
-/// Makes the items that a text names, which the container takes one after another.
+/// Makes the items that a text names, which the container takes one after another. An empty text
+/// names none.
 #[tactic(auto, using(tests_words::proofs::OneMore::all_and_one))]
 pub fn items_of<M: InRows + OwnCalls>(
     alloc: M::Alloc,
@@ -24,8 +25,10 @@ pub fn items_of<M: InRows + OwnCalls>(
 {
     let mut all = Vec::new(alloc);
     for item in items.split(" + ") {
-        let (range, value) = pair_of::<M::Kind, M::Range, M::Value, M::Alloc>(alloc, item)?;
-        all.push(M::item(range, value))?;
+        if !item.is_empty() {
+            let (range, value) = pair_of::<M::Kind, M::Range, M::Value, M::Alloc>(alloc, item)?;
+            all.push(M::item(range, value))?;
+        }
     }
     Ok(all)
 }

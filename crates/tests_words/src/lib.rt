@@ -28,7 +28,7 @@ pub use grammar::{
 };
 pub use heaps::{Heap, MANY, Text};
 pub use pairs::{pair_of, pairs_of, ranges_of};
-pub use ranges::{FromEnds, filled, is_range, query_of, range_of};
+pub use ranges::{FromEnds, are_ranges, filled, is_range, query_of, range_of};
 pub use readers::{ReadsGaps, ReadsPairs, tell_gaps, tell_pairs, tell_ranges};
 pub use refusing::Refusing;
 pub use same::{check_made, check_same, check_text, check_that};

@@ -23,7 +23,7 @@ pub fn pair_of<Q: Kind<R>, R: KeyRange<Key: Word<A>>, V: Word<A>, A: Allocator +
     Ok((range, V::read(alloc, value)?))
 }
 
-/// Makes the pairs that a text names.
+/// Makes the pairs that a text names, of which an empty one has none.
 #[tactic(auto, using(crate::proofs::OneMore::pairs_and_one))]
 pub fn pairs_of<Q: Kind<R>, R: KeyRange<Key: Word<A>>, V: Word<A>, A: Allocator + Copy>(
     alloc: A,
@@ -33,12 +33,14 @@ pub fn pairs_of<Q: Kind<R>, R: KeyRange<Key: Word<A>>, V: Word<A>, A: Allocator 
 {
     let mut all = Vec::new(alloc);
     for pair in pairs.split(" + ") {
-        all.push(pair_of::<Q, R, V, A>(alloc, pair)?)?;
+        if !pair.is_empty() {
+            all.push(pair_of::<Q, R, V, A>(alloc, pair)?)?;
+        }
     }
     Ok(all)
 }
 
-/// Makes the ranges that a text names.
+/// Makes the ranges that a text names, of which an empty one has none.
 #[tactic(auto, using(crate::proofs::OneMore::all_and_one))]
 pub fn ranges_of<Q: Kind<R>, R: KeyRange<Key: Word<A>>, A: Allocator + Copy>(
     alloc: A,
@@ -48,7 +50,9 @@ pub fn ranges_of<Q: Kind<R>, R: KeyRange<Key: Word<A>>, A: Allocator + Copy>(
 {
     let mut all = Vec::new(alloc);
     for range in ranges.split(" + ") {
-        all.push(range_of::<Q, R, A>(alloc, range)?)?;
+        if !range.is_empty() {
+            all.push(range_of::<Q, R, A>(alloc, range)?)?;
+        }
     }
     Ok(all)
 }

@@ -74,3 +74,20 @@ pub fn is_range<R: KeyRange<Key: Word<A>>, A: Drop>(range: &R, text: &str) -> bo
         None => false,
     }
 }
+
+/// Whether ranges are those of a list, in which a separator stands between them.
+pub fn are_ranges<R: KeyRange<Key: Word<A>>, A: Drop>(
+    ranges: &[R],
+    list: &str,
+    separator: &str,
+) -> bool {
+    let mut rest = list;
+    for range in ranges {
+        let (text, others) = rest.split_once(separator).unwrap_or((rest, ""));
+        if !is_range::<R, A>(range, text) {
+            return false;
+        }
+        rest = others;
+    }
+    rest.is_empty()
+}

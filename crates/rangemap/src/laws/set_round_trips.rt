@@ -58,7 +58,7 @@ impl<WK, RK> Functions<WK, RK> {
         F: Drop,
     >(
         self,
-        json: Global,
+        json_alloc: Global,
         alloc: T::Alloc,
         form: Form,
         set: &Set<S>,
@@ -81,7 +81,7 @@ impl<WK, RK> Functions<WK, RK> {
             write_key,
             read_key,
         } = self;
-        let value = set.to_value(json, write_key)?;
+        let value = set.to_value(json_alloc, write_key)?;
         match Set::from_value(alloc, form, &value, read_key) {
             Ok(again) => Ok((value, again)),
             Err(error) => match error {

@@ -47,7 +47,7 @@ where
         ensures ok { IfOk result (IsForm S.Kind.kind (set_writer (FnReturnsAt WK.Fn write_key)) (with_unit S.Kind.kind self.now)) }
         ensures err { IfErr result (RefusesToWrite S.Kind.kind (set_writer (FnReturnsAt WK.Fn write_key)) (with_unit S.Kind.kind self.now)) }
     {
-        let writer = SetWriter { alloc, write_key };
+        let writer = SetWriter { write_key };
         write(alloc, &self.stored, writer)
     }
 }

@@ -1,15 +1,15 @@
 //! How an entry of a map is laid out and how one of a set is, each with the functions of a caller.
-ghost use Rattle.std.specs.Prelude.{◌≡◌, IfOk, MatchOption, Some as SomeWord, ◌∷◌, []};
+ghost use Rattle.std.specs.Prelude.{◌≡◌, MatchOption, Some as SomeWord, ◌∷◌, []};
 ghost use Rattle.serde_json.specs.declared.value.Value.{Value as Json};
 ghost use Rattle.rangemap_formats.specs.Json.{list_of};
 
 use super::WriteError;
 use super::reading::{ReadsParts, items};
-use super::writing::WritesParts;
+use super::writing::{WritesParts, list_of_two};
 use rangemap_core::key_range::KeyRange;
 use rangemap_core::store::Store;
 use serde_json::Value;
-use std::alloc::{AllocError, Global};
+use std::alloc::Global;
 
 /// Reads the entries of a map, `[[start, end], value]`.
 #[derive(Drop)]
@@ -54,8 +54,6 @@ impl<
 /// Writes the entries of a map.
 #[derive(Drop)]
 pub struct MapWriter<WK, WV> {
-    /// What the memory of the value comes from.
-    pub alloc: Global,
     /// Writes a key.
     pub write_key: WK,
     /// Writes a value.
@@ -79,13 +77,11 @@ impl<
         (self.write_key)(key)
     }
 
-    fn entry(&self, ends: (Value, Value), value: &S::Value) -> Result<Value, WriteError<E>> {
-        let part = match (self.write_value)(value) {
-            Ok(part) => part,
-            Err(fault) => return Err(WriteError::Caller(fault)),
-        };
-        let range = list_of_two(self.alloc, ends.0, ends.1)?;
-        Ok(list_of_two(self.alloc, range, part)?)
+    fn entry(&self, alloc: Global, range: Value, value: &S::Value) -> Result<Value, WriteError<E>> {
+        match (self.write_value)(value) {
+            Ok(part) => Ok(list_of_two(alloc, range, part)?),
+            Err(fault) => Err(WriteError::Caller(fault)),
+        }
     }
 }
 
@@ -127,8 +123,6 @@ impl<S: Store<Value = ()>, E, RK: Fn(&Value) -> Result<<S::Range as KeyRange>::K
 /// Writes the entries of a set.
 #[derive(Drop)]
 pub struct SetWriter<WK> {
-    /// What the memory of the value comes from.
-    pub alloc: Global,
     /// Writes a key.
     pub write_key: WK,
 }
@@ -148,8 +142,8 @@ impl<S: Store<Value = ()>, E, WK: Fn(&<S::Range as KeyRange>::Key) -> Result<Val
         (self.write_key)(key)
     }
 
-    fn entry(&self, ends: (Value, Value), _value: &()) -> Result<Value, WriteError<E>> {
-        Ok(list_of_two(self.alloc, ends.0, ends.1)?)
+    fn entry(&self, _alloc: Global, range: Value, _value: &()) -> Result<Value, WriteError<E>> {
+        Ok(range)
     }
 }
 
@@ -161,11 +155,4 @@ fn two_of<'a>(value: &'a Value) -> Option<(&'a Value, &'a Value)>
         [first, second] => Some((first, second)),
         _ => None,
     }
-}
-
-// The list of two.
-fn list_of_two(alloc: Global, first: Value, second: Value) -> Result<Value, AllocError>
-    ensures { IfOk result (λ list. list_of list ≡ SomeWord (first ∷ second ∷ [])) }
-{
-    Ok(Value::Array(vec![in alloc; first, second]?))
 }

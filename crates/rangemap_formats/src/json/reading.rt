@@ -2,7 +2,7 @@
 ghost use Rattle.std.specs.Prelude.{◌≡◌, IfErr, IfOk, MatchOption, OnOk, option_map};
 ghost use Rattle.serde_json.specs.declared.value.Value.{Value as Json};
 ghost use Rattle.rangemap_core.specs.Clones.{KeysCloneFaithfully, ValuesCloneFaithfully};
-ghost use Rattle.rangemap_formats.specs.Json.{Breaks, EndsWith, Follows, IsEmptyEntry, IsEntryFault, IsRead, IsReading, IsRefusedForMemoryAlone, IsUnambiguous, Reader, RefusesToRead, list_of};
+ghost use Rattle.rangemap_formats.specs.Json.{Breaks, EndsWith, Follows, IsEntryFault, IsRead, IsReading, IsRefusedForMemoryAlone, IsUnambiguous, Reader, RefusesToRead, list_of};
 ghost use Rattle.rangemap_core.specs.Ranges.{IsStorable};
 ghost use Rattle.rangemap_core.specs.engine.Intervals.{IsBetween};
 ghost use Rattle.rangemap_formats.specs.declared.json.Form.TheVariants.{Canonical as CanonicalWord};
@@ -66,24 +66,21 @@ pub fn read<S: StoreMut + Drop, E, R: ReadsParts<S, E>>(
     };
     let mut all = S::empty(alloc);
     for (at, entry) in entries.iter().enumerate() {
-        let found = read_entry::<S, E, R>(at, entry, reader)?;
-        let Some((range, value)) = found else {
-            return Err(ReadError::EmptyRange { at });
-        };
+        let (range, value) = read_entry::<S, E, R>(at, entry, reader)?;
         check_form(&all, form, at, &range, &value)?;
         all.insert(range, value)?;
     }
     Ok(all)
 }
 
-// The pair of the entry at the place, unless its range is empty.
+// The pair of the entry at the place.
 fn read_entry<S: Store, E, R: ReadsParts<S, E>>(
     at: usize,
     entry: &Value,
     reader: &R,
-) -> Result<Option<(S::Range, S::Value)>, ReadError<E>>
+) -> Result<(S::Range, S::Value), ReadError<E>>
     requires { R.is_ready reader.now }
-    ensures ok { IfOk result (λ found. MatchOption found (IsEmptyEntry S.Kind.kind (R.reader reader.now) entry.now) (λ pair. IsStorable S.Kind.kind pair.0 × IsRead S.Kind.kind (R.reader reader.now) pair entry.now)) }
+    ensures ok { IfOk result (λ pair. IsStorable S.Kind.kind pair.0 × IsRead S.Kind.kind (R.reader reader.now) pair entry.now) }
     ensures err { IfErr result (IsEntryFault S.Kind.kind (R.reader reader.now) at entry.now) }
 {
     let Some((start, end, value)) = reader.parts(entry) else {
@@ -108,8 +105,8 @@ fn read_entry<S: Store, E, R: ReadsParts<S, E>>(
         Err(fault) => return Err(ReadError::BadValue { at, fault }),
     };
     match between::<S::Kind, S::Range>(start, end) {
-        Some(range) => Ok(Some((range, value))),
-        None => Ok(None),
+        Some(range) => Ok((range, value)),
+        None => Err(ReadError::EmptyRange { at }),
     }
 }
 

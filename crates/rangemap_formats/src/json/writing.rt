@@ -1,8 +1,8 @@
 //! Writing the pairs of a store as the value of its JSON form.
-ghost use Rattle.std.specs.Prelude.{Err as ErrWord, IfErr, IfOk, Ok as OkWord};
+ghost use Rattle.std.specs.Prelude.{◌≡◌, ◌∷◌, [], Err as ErrWord, IfErr, IfOk, Ok as OkWord, Some as SomeWord};
 ghost use Rattle.serde_json.specs.declared.value.Value.{Value as Json};
 ghost use Rattle.rangemap_core.specs.Shown.{shown};
-ghost use Rattle.rangemap_formats.specs.Json.{CallerOr, IsForm, IsRefusedIn, IsWritten, RefusesToWrite, Writer};
+ghost use Rattle.rangemap_formats.specs.Json.{CallerOr, IsForm, IsRefusedIn, IsWritten, RefusesToWrite, Writer, list_of};
 
 use super::WriteError;
 use rangemap_core::cursor::Cursor;
@@ -10,7 +10,7 @@ use rangemap_core::key_range::KeyRange;
 use rangemap_core::reader::Reader;
 use rangemap_core::store::Store;
 use serde_json::Value;
-use std::alloc::Global;
+use std::alloc::{AllocError, Global};
 use std::marker::PhantomData;
 
 /// What writes the parts of an entry of a store, with faults of type `E`.
@@ -26,11 +26,11 @@ pub(crate) trait WritesParts<S: Store, E>: Drop {
         requires { is_ready self.now }
         ensures { (writer self.now).key key.now result };
 
-    /// Writes a value, where there is one to write, and lays it out as an entry behind the ends of
-    /// its range, the start before the end.
-    fn entry(&self, ends: (Value, Value), value: &S::Value) -> Result<Value, WriteError<E>>
+    /// Writes a value, where there is one to write, and lays it out as an entry behind its range,
+    /// `[start, end]`. The entry's memory comes from `alloc`.
+    fn entry(&self, alloc: Global, range: Value, value: &S::Value) -> Result<Value, WriteError<E>>
         requires { is_ready self.now }
-        ensures ok { IfOk result (λ entry. (part : Json) × (writer self.now).value value.now (OkWord part) × (writer self.now).shape entry ends.0 ends.1 part) }
+        ensures ok { IfOk result (λ entry. (start end : Json) → list_of range ≡ SomeWord (start ∷ end ∷ []) → (part : Json) × (writer self.now).value value.now (OkWord part) × (writer self.now).shape entry start end part) }
         ensures err { IfErr result (CallerOr (λ fault. (writer self.now).value value.now (ErrWord fault))) };
 }
 
@@ -75,7 +75,7 @@ impl<S: Store, E, W: WritesParts<S, E>> Reader<S::Range, S::Value> for Entries<S
         let mut entries = Vec::new(state.0);
         let mut rest = pairs;
         'pairs: while let Some(pair) = rest.take_first() {
-            let entry = write_entry::<S, C, E, W>(&pair, &state.1)?;
+            let entry = write_entry::<S, C, E, W>(state.0, &pair, &state.1)?;
             entries.push(entry)?;
         }
         Ok(Value::Array(entries))
@@ -84,6 +84,7 @@ impl<S: Store, E, W: WritesParts<S, E>> Reader<S::Range, S::Value> for Entries<S
 
 // The entry of the pair.
 fn write_entry<S: Store, C: Cursor<Range = S::Range, Value = S::Value>, E, W: WritesParts<S, E>>(
+    alloc: Global,
     pair: &(C::Given, C::GivenValue),
     writer: &W,
 ) -> Result<Value, WriteError<E>>
@@ -100,5 +101,13 @@ fn write_entry<S: Store, C: Cursor<Range = S::Range, Value = S::Value>, E, W: Wr
         Ok(part) => part,
         Err(fault) => return Err(WriteError::Caller(fault)),
     };
-    writer.entry((start, end), value)
+    let range = list_of_two(alloc, start, end)?;
+    writer.entry(alloc, range, value)
+}
+
+/// Returns the list of two.
+pub(crate) fn list_of_two(alloc: Global, first: Value, second: Value) -> Result<Value, AllocError>
+    ensures { IfOk result (λ list. list_of list ≡ SomeWord (first ∷ second ∷ [])) }
+{
+    Ok(Value::Array(vec![in alloc; first, second]?))
 }

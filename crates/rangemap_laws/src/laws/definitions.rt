@@ -86,7 +86,7 @@ pub fn set_and_text_rows()
     ensures pairs { plain_map (half_open nat_cmp) (codes "..") digit digit ((range 0 3, 1) ∷ (range 3 9, 2) ∷ []) ≡ codes "{0..3: 1, 3..9: 2}" }
     ensures ranges { plain_set (half_open nat_cmp) (codes "..") digit (range 0 3 ∷ range 4 9 ∷ []) ≡ codes "{0..3, 4..9}" }
     ensures closed_ranges { plain_set bytes (codes "..=") digit (inclusive 0 4 ∷ inclusive 6 9 ∷ []) ≡ codes "{0..=4, 6..=9}" }
-    ensures nothing { plain_set (half_open nat_cmp) (codes "..") digit [] ≡ codes "{}" }
+    ensures of_nothing { plain_set (half_open nat_cmp) (codes "..") digit [] ≡ codes "{}" }
 {}
 
 /// The JSON form of small lists, where `of` is the part that stands for a number, and what is read of
@@ -105,7 +105,7 @@ pub fn json_rows()
         → set_entry one (of 0) (of 4) (of 0)
         → set_entry two (of 6) (of 9) (of 6)
         → IsForm bytes (set_writer (writes of)) ((inclusive 0 4, tt) ∷ (inclusive 6 9, tt) ∷ []) v }
-    ensures nothing { (of : ℕ → Json) (v : Json) → list_of v ≡ SomeWord [] → IsForm (half_open nat_cmp) (set_writer (writes of)) [] v }
+    ensures of_nothing { (of : ℕ → Json) (v : Json) → list_of v ≡ SomeWord [] → IsForm (half_open nat_cmp) (set_writer (writes of)) [] v }
     ensures left_out { (of : ℕ → Json) (v : Json) → list_of v ≡ SomeWord [] → ¬ (IsForm (half_open nat_cmp) (map_writer (writes of) (writes of)) one_pair v) }
     ensures inserted { (of : ℕ → Json) (v one two : Json)
         → list_of v ≡ SomeWord (one ∷ two ∷ [])

@@ -62,7 +62,7 @@ impl<WK, WV, RK, RV> Functions<WK, WV, RK, RV> {
         F: Drop,
     >(
         self,
-        json: Global,
+        json_alloc: Global,
         alloc: T::Alloc,
         form: Form,
         map: &Map<S>,
@@ -93,7 +93,7 @@ impl<WK, WV, RK, RV> Functions<WK, WV, RK, RV> {
             read_key,
             read_value,
         } = self;
-        let value = map.to_value(json, write_key, write_value)?;
+        let value = map.to_value(json_alloc, write_key, write_value)?;
         match Map::from_value(alloc, form, &value, read_key, read_value) {
             Ok(again) => Ok((value, again)),
             Err(error) => match error {

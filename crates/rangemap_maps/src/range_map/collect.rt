@@ -86,7 +86,7 @@ where
         requires faithful_keys { KeysCloneFaithfully S.Range.Key.is_clone S.Range.Key.cmp }
         requires faithful_values { ValuesCloneFaithfully S.Value.is_clone S.Value.eq }
         ensures items { ExtendsWithItems I.into_iter_gives I.IntoIter.next_gives (Overrides S.Kind.kind S.Value.eq) iter self.old self.new result }
-        ensures nothing { ((it : I.IntoIter) → I.into_iter_gives iter it → GivesNothing I.IntoIter.next_gives it) → IsOk result × (self.new ≡ self.old) }
+        ensures of_nothing { ((it : I.IntoIter) → I.into_iter_gives iter it → GivesNothing I.IntoIter.next_gives it) → IsOk result × (self.new ≡ self.old) }
     {
         self.known();
         for (range, value) in iter {

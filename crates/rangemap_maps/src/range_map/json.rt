@@ -49,7 +49,6 @@ where
         ensures err { IfErr result (RefusesToWrite S.Kind.kind (map_writer (FnReturnsAt WK.Fn write_key) (FnReturnsAt WV.Fn write_value)) self.now) }
     {
         let writer = MapWriter {
-            alloc,
             write_key,
             write_value,
         };

@@ -48,29 +48,29 @@ pub fn insert<Q: Kind<R>, R: KeyRange, V: Eq + Clone, A: Allocator>(
 /// succeeds and changes nothing.
 pub fn remove<Q: Kind<R>, R: KeyRange, V: Eq + Clone, A: Allocator>(
     list: &mut Vec<(R, V), A>,
-    range: R,
+    range: &R,
 ) -> Result<(), AllocError>
     requires canonical { IsCanonical Q.kind V.eq list.old.items }
-    requires non_empty { Q.kind.IsNonEmpty range }
+    requires non_empty { Q.kind.IsNonEmpty range.now }
     requires faithful_keys { KeysCloneFaithfully R.Key.is_clone R.Key.cmp }
     requires faithful_values { ValuesCloneFaithfully V.is_clone V.eq }
-    ensures ok { OnOk result (IsCanonOf Q.kind V.eq (erase Q.kind (value_at Q.kind list.old.items) range) list.new.items) }
+    ensures ok { OnOk result (IsCanonOf Q.kind V.eq (erase Q.kind (value_at Q.kind list.old.items) range.now) list.new.items) }
     ensures err { OnErr result (list.new.items ≡ list.old.items) }
     ensures growth { OnOk result (length list.new.items ≤ length list.old.items + 1) }
-    ensures meets_nothing { overlapped Q.kind list.old.items range ≡ [] → IsOk result × (list.new.items ≡ list.old.items) }
+    ensures meets_nothing { overlapped Q.kind list.old.items range.now ≡ [] → IsOk result × (list.new.items ≡ list.old.items) }
 {
-    known_ends::<Q, R>(&range);
+    known_ends::<Q, R>(range);
     let pairs = list.as_slice();
-    let places = overlap::<Q, R, V>(pairs, &range);
+    let places = overlap::<Q, R, V>(pairs, range);
     if places.start == places.end {
         return Ok(());
     }
     let first = &pairs[places.start];
     let before = Endpoint::Start(&first.0);
-    let from = Endpoint::Start(&range);
+    let from = Endpoint::Start(range);
     let left = piece::<Q, R, V>(before, from, &first.1)?;
     let last = &pairs[places.end - 1];
-    let to = Endpoint::End(&range);
+    let to = Endpoint::End(range);
     let behind = Endpoint::End(&last.0);
     let right = piece::<Q, R, V>(to, behind, &last.1)?;
     splice(list, places, left, None, right)
@@ -99,6 +99,6 @@ pub fn change<Q: Kind<R>, R: KeyRange, V: Eq + Clone, A: Allocator>(
 {
     match value {
         Some(value) => insert::<Q, R, V, A>(list, range, value),
-        None => remove::<Q, R, V, A>(list, range),
+        None => remove::<Q, R, V, A>(list, &range),
     }
 }

@@ -2,6 +2,7 @@
 //! shown that the array is not too long for memory, so each type has a function of its own.
 
 use super::made::Made;
+use rangemap::RangeMap;
 use rangemap_core::closed::Closed;
 use rangemap_core::half_open::HalfOpen;
 use std::ops::{Range, RangeInclusive};
@@ -16,6 +17,16 @@ pub fn try_texts(heap: &Heap, row: &Row<'_>, left: u64) -> Answer {
     let (first, second) = two_pairs::<HalfOpen, Range<u32>, Text<'_>, &Heap>(heap, row.given)?;
     heap.refuse_after(left);
     Texts::is_made(Texts::from(heap, [first, second]), row.outcome)
+}
+
+/// A map of keys whose clone takes memory.
+type HalfOpenCostlyMap<'a> = RangeMap<Costly<'a>, char, &'a Heap>;
+
+/// Tries to make a map of keys whose clone takes memory.
+pub fn try_half_open_map(heap: &Heap, row: &Row<'_>, left: u64) -> Answer {
+    let (first, second) = two_pairs::<HalfOpen, Range<Costly<'_>>, char, &Heap>(heap, row.given)?;
+    heap.refuse_after(left);
+    HalfOpenCostlyMap::is_made(HalfOpenCostlyMap::from(heap, [first, second]), row.outcome)
 }
 
 /// Tries to make a closed map.

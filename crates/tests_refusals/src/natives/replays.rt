@@ -1,6 +1,5 @@
 //! Replays, of containers over each store, which is named here once for all keys and values.
 ghost use Rattle.std.specs.List.{AllByRecursion};
-ghost use Rattle.std.specs.Prelude.{IfOk};
 ghost use Rattle.rangemap.specs.Clones.{KeysCloneFaithfully, ValuesCloneFaithfully};
 
 use rangemap::map::Map;
@@ -47,18 +46,15 @@ impl<'t, A: Copy> Asked<'t, A> {
 }
 
 /// Answers what is asked, of calls on a container.
-fn answer_of<M: InRows, C: CallOn<M>>(
-    asked: Asked<'_, M::Alloc>,
-    calls: Result<Vec<C, M::Alloc>, Fail>,
-) -> Answer
-    requires non_empty { IfOk calls (λ calls. AllByRecursion C.has_non_empty calls.items) }
+fn answer_of<M: InRows, C: CallOn<M>>(asked: Asked<'_, M::Alloc>, calls: Vec<C, M::Alloc>) -> Answer
+    requires non_empty { AllByRecursion C.has_non_empty calls.items }
     requires faithful_keys { KeysCloneFaithfully M.Range.Key.is_clone M.Range.Key.cmp }
     requires faithful_values { ValuesCloneFaithfully M.Value.is_clone M.Value.eq }
 {
     match asked {
         Asked::Tried(heap, alloc, row, left) => try_replay::<M, C>(heap, alloc, calls, row, left),
         Asked::Owner(heaps, allocs, _, row) => {
-            check_added::<M, C>(heaps, allocs, calls?, row)?;
+            check_added::<M, C>(heaps, allocs, calls, row)?;
             Ok(true)
         }
     }
@@ -100,7 +96,7 @@ impl<
     fn answer(asked: Asked<'_, &'a Heap>) -> Answer
         requires { KeysCloneFaithfully R.Key.is_clone R.Key.cmp × ValuesCloneFaithfully V.is_clone V.eq }
     {
-        let calls = calls_of::<Q, R, V, &'a Heap>(asked.memory(), asked.calls()?);
+        let calls = calls_of::<Q, R, V, &'a Heap>(asked.memory(), asked.calls()?)?;
         answer_of::<Map<SortedVec<Q, R, V, &'a Heap>>, _>(asked, calls)
     }
 }
@@ -119,7 +115,7 @@ impl<
     fn answer(asked: Asked<'_, &'a Heap>) -> Answer
         requires { KeysCloneFaithfully R.Key.is_clone R.Key.cmp × ValuesCloneFaithfully V.is_clone V.eq }
     {
-        let calls = calls_of::<Q, R, V, &'a Heap>(asked.memory(), asked.calls()?);
+        let calls = calls_of::<Q, R, V, &'a Heap>(asked.memory(), asked.calls()?)?;
         answer_of::<Map<Chunks<Q, R, V, &'a Heap, N>>, _>(asked, calls)
     }
 }
@@ -133,7 +129,7 @@ impl<'a, K: Ord + Clone + Word<&'a Heap>, V: Eq + Clone + Word<&'a Heap>> Replay
     fn answer(asked: Asked<'_, &'a Heap>) -> Answer
         requires { KeysCloneFaithfully K.is_clone K.cmp × ValuesCloneFaithfully V.is_clone V.eq }
     {
-        let calls = calls_of::<HalfOpen, Range<K>, V, &'a Heap>(asked.memory(), asked.calls()?);
+        let calls = calls_of::<HalfOpen, Range<K>, V, &'a Heap>(asked.memory(), asked.calls()?)?;
         answer_of::<Map<Tree<K, V, &'a Heap>>, _>(asked, calls)
     }
 }
@@ -147,7 +143,7 @@ impl<'a, Q: Kind<R, Steps = R::Key>, R: FromEnds<Key: Word<&'a Heap>>> Replayed<
     fn answer(asked: Asked<'_, &'a Heap>) -> Answer
         requires { KeysCloneFaithfully R.Key.is_clone R.Key.cmp }
     {
-        let calls = set_calls_of::<Q, R, &'a Heap>(asked.memory(), asked.calls()?);
+        let calls = set_calls_of::<Q, R, &'a Heap>(asked.memory(), asked.calls()?)?;
         answer_of::<Set<SortedVec<Q, R, (), &'a Heap>>, _>(asked, calls)
     }
 }
@@ -161,7 +157,7 @@ impl<'a, Q: Kind<R, Steps = R::Key>, R: FromEnds<Key: Word<&'a Heap>>, const N: 
     fn answer(asked: Asked<'_, &'a Heap>) -> Answer
         requires { KeysCloneFaithfully R.Key.is_clone R.Key.cmp }
     {
-        let calls = set_calls_of::<Q, R, &'a Heap>(asked.memory(), asked.calls()?);
+        let calls = set_calls_of::<Q, R, &'a Heap>(asked.memory(), asked.calls()?)?;
         answer_of::<Set<Chunks<Q, R, (), &'a Heap, N>>, _>(asked, calls)
     }
 }
@@ -174,7 +170,7 @@ impl<'a, K: Ord + Clone + Word<&'a Heap>> Replayed<'a> for Sets<Tree<K, (), &'a 
     fn answer(asked: Asked<'_, &'a Heap>) -> Answer
         requires { KeysCloneFaithfully K.is_clone K.cmp }
     {
-        let calls = set_calls_of::<HalfOpen, Range<K>, &'a Heap>(asked.memory(), asked.calls()?);
+        let calls = set_calls_of::<HalfOpen, Range<K>, &'a Heap>(asked.memory(), asked.calls()?)?;
         answer_of::<Set<Tree<K, (), &'a Heap>>, _>(asked, calls)
     }
 }

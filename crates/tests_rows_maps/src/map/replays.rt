@@ -7,8 +7,8 @@ use std::test::Fail;
 
 #[test]
 fn calls_on_maps_are_replayed(rt: HostRuntime) -> Result<(), Fail> {
-    // insert inside and back; two that touch; remove inside; and calls on a third map, where there
-    // are two
+    // insert inside and back; two that touch; remove inside; calls on a third map, where there are
+    // two; and no pairs, of which a map is made or by which one is extended
     check_half_open_replay::<bool>(
         rt.alloc(),
         "new, insert 0..10 false, insert 3..6 true, clone, insert 3..6 false | +++++ | \
@@ -20,6 +20,7 @@ fn calls_on_maps_are_replayed(rt: HostRuntime) -> Result<(), Fail> {
         "from 0..10 a + 3..6 b, clone, clear, extend 20..30 c, \
         2: clear, 7: insert 0..1 d, 2: remove 0..1, 2: clone, 2: extend 0..1 d | ++++----- | \
         20..30 c; 0..3 a, 3..6 b, 6..10 a",
+        "from, extend, clone, 1: insert 0..3 a, 1: extend, 2: extend | +++++- | ; 0..3 a",
     ];
     for row in rows {
         check_half_open_replay::<char>(rt.alloc(), row)?;

@@ -1,6 +1,6 @@
 //! Rows over sets of closed ranges made by both replays, and calls that name no set.
 
-use crate::sets::{check_bytes_changes, check_closed_replay};
+use crate::sets::{check_bytes_changes, check_closed_replay, check_stepped_changes};
 use std::test::Fail;
 
 #[test]
@@ -9,6 +9,15 @@ fn bytes_by_own_steps(rt: HostRuntime) -> Result<(), Fail> {
         rt.alloc(),
         "new, insert 0..=9, insert 250..=255, clone, 1: insert 10..=249 | +++++ | \
         0..=9, 250..=255; 0..=255",
+    )
+}
+
+#[test]
+fn signed_bytes_by_steps_of_another_type(rt: HostRuntime) -> Result<(), Fail> {
+    check_stepped_changes(
+        rt.alloc(),
+        "new, insert -128..=127, clone, remove -128..=-128, clone, remove 127..=127, \
+        2: insert -128..=-128 | +++++++ | -127..=126; -128..=127; -128..=127",
     )
 }
 

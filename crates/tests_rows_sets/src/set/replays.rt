@@ -14,6 +14,11 @@ fn two_sets_are_put_together(rt: HostRuntime) -> Result<(), Fail> {
         "from 0..5, from 5..10, union 0 1, intersection 0 1, extend 9..12, 1: insert 3..5, \
         union 0 1 | +++++++ | 0..5, 9..12; 3..10; 0..10; ; 0..12",
     )?;
+    // No ranges.
+    check_half_open_replay(
+        rt.alloc(),
+        "from, extend, from 0..5, 1: extend, union 0 1, 2: extend 5..9 | ++++++ | ; 0..5; 0..9",
+    )?;
     // A set may be both sides.
     check_half_open_replay(
         rt.alloc(),

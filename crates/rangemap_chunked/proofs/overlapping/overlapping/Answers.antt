@@ -1,23 +1,92 @@
-use Rattle.std.proofs.Common.{arith, ◌≡◌, ◌∙◌, ◌+◌, ◌-◌, ◌<◌, ◌++◌, append-nil, drop, length, suc, sym, take}
+use Rattle.std.proofs.Common.{arith, ◌≡◌, ◌∙◌, ◌+◌, ◌-◌, ◌<◌, List, ◌++◌, [], Some, ap, append-nil, drop, false, get_or, is_gt, length, subst, suc, sym, take, true}
+use Rattle.std.specs.List.{take_while}
+use Rattle.std.specs.List.Sorted.{IsPartitionedBy}
+use Rattle.rangemap_core.specs.Ranges.{IsCanonical, overlapped}
+use Rattle.rangemap_core.specs.engine.Places.{place_cmp}
+use Rattle.rangemap_core.specs.engine.Stretch.{Every, starts_within}
+use Rattle.rangemap_core.proofs.PlaceLemmas.{S}
+use Rattle.rangemap_sorted.proofs.OverlapLemmas.{begun_first, begun_of_past}
+use Rattle.rangemap_sorted.proofs.ReadLemmas.{begun_alike}
 use Rattle.rangemap_chunked.specs.Chunks.{whole}
-use Rattle.rangemap_chunked.proofs.OverlapLemmas.{met_alone, met_over}
+use Rattle.rangemap_chunked.proofs.CutLemmas.{canonical_chunk}
+use Rattle.rangemap_chunked.proofs.OverlapLemmas.{first_begun, last_past, met_alone, met_over, pairs_at}
 use Rattle.rangemap_chunked.proofs.overlapping.overlapping.Goals as goal
+
+pub overlapping_pairs-requires : goal.overlapping_pairs-requires
+overlapping_pairs-requires g c =
+    let k = g.Q.Kind.kind in
+    let eq = g.V.PartialEq.eq in
+    let chunks = c.args.chunks.now in
+    let here : c.start_of-at.result < length chunks = c.start_of-at.ensures.in_bounds (omega (arith, c.if-chunks-eq0.false)) in
+    subst (IsCanonical k eq) (sym (c.as_slice-first.ensures ∙ c.index-chunks-at.is)) (canonical_chunk k eq chunks c.requires.canonical c.start_of-at.result c.index-chunks-at.result here)
+
+pub overlapping_tail-requires : goal.overlapping_tail-requires
+overlapping_tail-requires g c =
+    let k = g.Q.Kind.kind in
+    let eq = g.V.PartialEq.eq in
+    let chunks = c.args.chunks.now in
+    let here : c.start_of-at.result < length chunks = c.start_of-at.ensures.in_bounds (omega (arith, c.if-chunks-eq0.false)) in
+    subst (IsCanonical k eq) (sym (c.as_slice-first.ensures ∙ c.index-chunks-at.is)) (canonical_chunk k eq chunks c.requires.canonical c.start_of-at.result c.index-chunks-at.result here)
+
+pub take_begun-requires : goal.take_begun-requires
+take_begun-requires g c =
+    let k = g.Q.Kind.kind in
+    let eq = g.V.PartialEq.eq in
+    let chunks = c.args.chunks.now in
+    let query = c.args.query.now in
+    let pairs = c.as_slice.result.now in
+    let there : c.end_from-end.result - 1 < length chunks = omega (arith, c.end_from-end.ensures.bound, c.end_from-end.ensures.behind) in
+    let canonical : IsCanonical k eq pairs = subst (IsCanonical k eq) (sym (c.as_slice.ensures ∙ c.index-chunks-last.is)) (canonical_chunk k eq chunks c.requires.canonical (c.end_from-end.result - 1) c.index-chunks-last.result there) in
+    subst (λ test. IsPartitionedBy test pairs) (begun_alike g.met.Q.Kind.reads g.R.KeyRange.has_end {V = g.row.V.Denot} query)
+    (begun_first g.met.Q.Kind.placed eq g.met.Q.Kind.interval query pairs canonical)
 
 pub returns-then-end-at : goal.returns-then-end-at
 returns-then-end-at g c =
+    let k = g.Q.Kind.kind in
     let chunks = c.args.chunks.now in
+    let query = c.args.query.now in
     let at = c.start_of-at.result in
     let end = c.end_from-end.result in
     let here : at < length chunks = c.start_of-at.ensures.in_bounds (omega (arith, c.if-chunks-eq0.false)) in
-    c.between.ensures ∙ append-nil c.met.result.now ∙ c.met.ensures
-    ∙ sym (met_alone g.met.Q.Kind.placed g.met.V.Eq.laws c.args.query.now c.known_ends.ensures chunks c.requires at end here c.end_from-end.ensures.bound c.start_of-at.ensures.clear c.end_from-end.ensures.clear (omega (arith, c.if-end-at.true)))
+    let first = pairs_at chunks at here c.index-chunks-at.result c.as_slice-first.result.now c.as_slice-first.ensures c.index-chunks-at.is in
+    c.between.ensures ∙ append-nil c.overlapping_pairs.result.now ∙ c.overlapping_pairs.ensures
+    ∙ ap (λ (pairs : List (g.row.R.Denot × g.row.V.Denot)). overlapped k pairs query) first
+    ∙ sym (met_alone g.met.Q.Kind.placed g.met.V.Eq.laws query c.known_ends.ensures chunks c.requires at end here c.end_from-end.ensures.bound c.start_of-at.ensures.clear c.end_from-end.ensures.clear (omega (arith, c.if-end-at.true)))
 
 pub returns : goal.returns
 returns g c =
+    let k = g.Q.Kind.kind in
+    let p = g.met.Q.Kind.placed in
+    let eq = g.V.PartialEq.eq in
+    let e = g.met.V.Eq.laws in
     let chunks = c.args.chunks.now in
+    let query = c.args.query.now in
+    let asked = c.known_ends.ensures in
     let at = c.start_of-at.result in
     let end = c.end_from-end.result in
+    let bound = c.end_from-end.ensures.bound in
+    let clear = c.start_of-at.ensures.clear in
+    let behind = c.end_from-end.ensures.clear in
+    let past = c.start_of-at.ensures.past in
+    let more : at + 1 < end = omega (arith, c.if-end-at.false) in
+    let begun = c.end_from-end.ensures.begun more in
     let here : at < length chunks = c.start_of-at.ensures.in_bounds (omega (arith, c.if-chunks-eq0.false)) in
-    let is : end ≡ suc (end - 1) = omega (arith, c.if-end-at.false) in
-    c.between-2.ensures ∙ (λ i. c.met-2.ensures i ++ (whole (take (end - 1 - (at + 1)) (drop (at + 1) chunks)) ++ c.met-3.ensures i))
-    ∙ sym (met_over g.met.Q.Kind.placed g.met.V.Eq.laws c.args.query.now c.known_ends.ensures chunks c.requires at end here c.end_from-end.ensures.bound c.start_of-at.ensures.clear c.end_from-end.ensures.clear (end - 1) is (omega (arith, c.if-end-at.false)) c.start_of-at.ensures.past (c.end_from-end.ensures.begun (omega (arith, c.if-end-at.false))))
+    let there : end - 1 < length chunks = omega (arith, bound, more) in
+    let is : end ≡ suc (end - 1) = omega (arith, more) in
+    let tail = c.as_slice-first.result.now in
+    let head = c.as_slice.result.now in
+    let first : tail ≡ get_or chunks at [] = pairs_at chunks at here c.index-chunks-at.result tail c.as_slice-first.ensures c.index-chunks-at.is in
+    let last : head ≡ get_or chunks (end - 1) [] = pairs_at chunks (end - 1) there c.index-chunks-last.result head c.as_slice.ensures c.index-chunks-last.is in
+    let canonical : IsCanonical k eq head = subst (IsCanonical k eq) (sym last) (canonical_chunk k eq chunks c.requires.canonical (end - 1) [] there) in
+    let of_first : c.overlapping_tail.result.now ≡ overlapped k (get_or chunks at []) query =
+    c.overlapping_tail.ensures.all
+    (subst (Every (λ (a : g.row.R.Denot × g.row.V.Denot). starts_within (S p eq) query a ≡ true)) (sym first) (first_begun p e query asked chunks c.requires at end here bound clear behind (end - 1) is (omega (arith, more)) past begun))
+    ∙ ap (λ (pairs : List (g.row.R.Denot × g.row.V.Denot)). overlapped k pairs query) first in
+    let of_last : c.take_begun.result.now ≡ overlapped k (get_or chunks (end - 1) []) query =
+    c.take_begun.ensures
+    ∙ subst (λ test. take_while test head ≡ overlapped k head query) (begun_alike g.met.Q.Kind.reads g.R.KeyRange.has_end {V = g.row.V.Denot} query)
+    (begun_of_past p eq g.met.Q.Kind.interval query asked head canonical
+    (subst (Every (λ (b : g.row.R.Denot × g.row.V.Denot). is_gt (place_cmp k.cmp (Some (k.start query)) (Some (k.start b.0))) ≡ false)) (sym last) (last_past p e query asked chunks c.requires at end here bound clear behind (end - 1) is (omega (arith, more)) past begun)))
+    ∙ ap (λ (pairs : List (g.row.R.Denot × g.row.V.Denot)). overlapped k pairs query) last in
+    c.between-2.ensures ∙ (λ i. of_first i ++ (whole (take (end - 1 - (at + 1)) (drop (at + 1) chunks)) ++ of_last i))
+    ∙ sym (met_over p e query asked chunks c.requires at end here bound clear behind (end - 1) is (omega (arith, more)) past begun)

@@ -5,7 +5,7 @@ use Rattle.rangemap_unions.proofs.UnitValueLemmas.{adds_last, adds_none}
 use Rattle.rangemap.proofs.range_set.Set.extend.Goals as goal
 
 pub loop-range-init : goal.loop-range-init
-loop-range-init g c = record { added = adds_none g.S.Kind.Kind.kind c.args.self.now c.known.ensures; nothing = λ e. refl }
+loop-range-init g c = record { added = adds_none g.S.Kind.Kind.kind c.args.self.now c.known.ensures; of_nothing = λ e. refl }
 
 pub insert-requires-clause-non_empty : goal.insert-requires-clause-non_empty
 insert-requires-clause-non_empty g c =
@@ -20,15 +20,15 @@ insert-requires-clause-not_exhausted g c =
 pub loop-range-preserved : goal.loop-range-preserved
 loop-range-preserved g c = record {
   added = adds_last g.S.Kind.Kind.kind c.args.self.now c.loop-range.self c.insert.new.self c.loop-range.yielded c.in-Some.range c.loop-range.invariant.added c.in_ok-insert.ensures.ok;
-  nothing = λ e. absurd (omega (arith, simp length-append at (ap length e)));
+  of_nothing = λ e. absurd (omega (arith, simp length-append at (ap length e)));
 }
 
-pub returns-clause-nothing : goal.returns-clause-nothing
-returns-clause-nothing g c = λ none.
+pub returns-clause-of_nothing : goal.returns-clause-of_nothing
+returns-clause-of_nothing g c = λ none.
     let it = c.into_iter-range-iterator in
-    (refl, c.loop-range.invariant.nothing (none_taken g.I.IntoIter.Iterator.next_gives it.result c.loop-range.yielded c.loop-range.range-iterator (none it.result it.ensures.into_iter_gives) c.loop-range.yielded_by))
+    (refl, c.loop-range.invariant.of_nothing (none_taken g.I.IntoIter.Iterator.next_gives it.result c.loop-range.yielded c.loop-range.range-iterator (none it.result it.ensures.into_iter_gives) c.loop-range.yielded_by))
 
-pub returns-in_err-insert-clause-nothing : goal.returns-in_err-insert-clause-nothing
-returns-in_err-insert-clause-nothing g c = λ none.
+pub returns-in_err-insert-clause-of_nothing : goal.returns-in_err-insert-clause-of_nothing
+returns-in_err-insert-clause-of_nothing g c = λ none.
     let it = c.into_iter-range-iterator in
     absurd (none_next g.I.IntoIter.Iterator.next_gives it.result c.loop-range.yielded c.loop-range.range-iterator c.in-Some.range c.next.new.self (none it.result it.ensures.into_iter_gives) c.loop-range.yielded_by c.in-Some.ensures.steps)

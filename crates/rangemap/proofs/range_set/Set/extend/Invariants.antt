@@ -6,5 +6,5 @@ use Rattle.rangemap.proofs.range_set.Set.extend.Given as goal
 abbrev pub invariant-loop-range : goal.invariant-loop-range
 invariant-loop-range g l = record {
   added : Adds g.S.Kind.Kind.kind l.fn.self l.yielded l.self;
-  nothing : l.yielded ≡ [] → l.self ≡ l.fn.self;
+  of_nothing : l.yielded ≡ [] → l.self ≡ l.fn.self;
 }

@@ -1,11 +1,36 @@
-use Rattle.std.proofs.Common.{◌∙◌, [], option_map, sym, unwrap_or}
+use Rattle.std.proofs.Common.{arith, rules, ◌≡◌, ℕ, ◌<◌, ◌∙◌, List, [], ◌∷◌, ◌++◌, Option, Some, None, MatchOption, ap, subst, sym, append-nil, length, option_map, unwrap_or}
+use Rattle.std.specs.Map.Iter.{TakesLast}
 use Rattle.std.specs.Vec.Iter.{into_iter_items}
-use Rattle.rangemap_chunked.proofs.ChunkLemmas.{last_filled, last_whole}
+use Rattle.rangemap_core.proofs.ListLemmas.{Every-right}
+use Rattle.rangemap_chunked.specs.Chunks.{AreFilled, whole}
+use Rattle.rangemap_chunked.proofs.ChunkLemmas.{last_whole}
 use Rattle.rangemap_chunked.proofs.into_iter.IntoIterCursor.take_last.Goals as goal
 
-pub invariant_of-self-in-Some-next_back : goal.invariant_of-self-in-Some-next_back
-invariant_of-self-in-Some-next_back g c = last_filled (into_iter_items c.self.inside.chunks) (into_iter_items c.next_back.new.self) c.in-Some-next_back.chunk c.in-Some-next_back.ensures.steps c.self.invariant
+-- the last pair of the chunk that is begun, or of what is left at the front, is the last of all
+last_taken : {X : Type 0} (all front front' back begun left : List X) (chunks rest : List (List X)) (m n : ℕ) (chunk : Option (List X)) (pair : Option X)
+    → all ≡ front ++ (whole chunks ++ back) → back ≡ [] → AreFilled chunks → m ≡ length chunks → n ≡ length rest
+    → MatchOption chunk ((m ≡ 0) × (n ≡ 0)) (λ c. chunks ≡ rest ++ c ∷ [])
+    → MatchOption chunk ((begun ≡ front) × (front' ≡ [])) (λ c. (begun ≡ c) × (front' ≡ front))
+    → TakesLast (λ p. p) begun pair left → TakesLast (λ p. p) all pair (front' ++ (whole rest ++ left))
+last_taken all front front' back begun left (x ∷ xs) rest m n None pair is none filled here there steps begins taken = absurd (omega (arith, here, steps.0))
+last_taken all front front' back begun left [] (x ∷ xs) m n None pair is none filled here there steps begins taken = absurd (omega (arith, there, steps.1))
+last_taken all front front' back begun left [] [] m n None None is none filled here there steps begins taken = (
+  is ∙ (λ i. front ++ none i) ∙ append-nil front ∙ sym begins.0 ∙ taken.0,
+  (λ i. begins.1 i ++ taken.1 i),
+)
+last_taken all front front' back begun left [] [] m n None (Some x) is none filled here there steps begins taken =
+    is ∙ (λ i. front ++ none i) ∙ append-nil front ∙ sym begins.0 ∙ taken ∙ (λ i. (sym begins.1 i ++ left) ++ x ∷ [])
+last_taken all front front' back begun left chunks rest m n (Some c) None is none filled here there steps begins taken =
+    let some = Every-right (λ chunk. 0 < length chunk) rest (c ∷ []) (subst AreFilled steps filled) in
+    let empty : c ≡ [] = sym begins.0 ∙ taken.0 in
+    let one : length c ≡ 0 = ap length empty in
+    absurd (omega (arith, some.0, one))
+last_taken all front front' back begun left chunks rest m n (Some c) (Some x) is none filled here there steps begins taken =
+    is ∙ last_whole chunks rest c steps front back left x none (sym begins.0 ∙ taken) ∙ (λ i. (sym begins.1 i ++ (whole rest ++ left)) ++ x ∷ [])
 
-pub returns-in-Some-next_back : goal.returns-in-Some-next_back
-returns-in-Some-next_back g c =
-    sym c.self.view_is ∙ last_whole (into_iter_items c.self.inside.chunks) (into_iter_items c.next_back.new.self) c.in-Some-next_back.chunk c.in-Some-next_back.ensures.steps (unwrap_or (option_map into_iter_items c.self.inside.front) []) (unwrap_or (option_map into_iter_items c.self.inside.back) []) (unwrap_or (option_map into_iter_items c.last_of-in-Some-next_back.new.pairs) []) c.in_ok-pair.pair c.in_default.ensures.0 (sym c.into_pairs.ensures ∙ c.in_ok-pair.ensures)
+pub returns : goal.returns
+returns g c =
+    last_taken _ (unwrap_or (option_map into_iter_items c.self.inside.front) []) (unwrap_or (option_map into_iter_items c.next_pairs.new.other_end) []) (unwrap_or (option_map into_iter_items c.self.inside.back) [])
+    (unwrap_or (option_map into_iter_items c.next_pairs.result) []) (unwrap_or (option_map into_iter_items c.last_of-2.new.pairs) [])
+    (into_iter_items c.self.inside.chunks) (into_iter_items c.next_back.new.self) _ _ c.next_back.result c.last_of-2.result
+    (sym c.self.view_is) c.in_default.ensures.0 c.self.invariant (search rules) (search rules) c.next_back.ensures.steps c.next_pairs.ensures c.last_of-2.ensures

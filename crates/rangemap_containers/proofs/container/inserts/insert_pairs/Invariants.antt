@@ -5,5 +5,5 @@ use Rattle.rangemap_containers.proofs.container.inserts.insert_pairs.Given as go
 abbrev pub invariant-loop-range : goal.invariant-loop-range
 invariant-loop-range g l = record {
   inserted : Overrides g.M.Kind.Kind.kind g.M.Value.PartialEq.eq (g.M.Container.pairs l.fn.map) l.yielded (g.M.Container.pairs l.map);
-  nothing : l.yielded ≡ [] → g.M.Container.pairs l.map ≡ g.M.Container.pairs l.fn.map;
+  of_nothing : l.yielded ≡ [] → g.M.Container.pairs l.map ≡ g.M.Container.pairs l.fn.map;
 }

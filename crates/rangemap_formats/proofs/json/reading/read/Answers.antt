@@ -1,7 +1,7 @@
 use Rattle.std.proofs.Common.{arith, ◌<◌, ◌≤◌, length, sym, take}
 use Rattle.std.proofs.lemmas.List.{take_all, take_more}
 use Rattle.std.proofs.lemmas.Result.{IfErr-weaker, err_from_is_err_and}
-use Rattle.rangemap_formats.proofs.ReadingLemmas.{Inserted-more, Inserted-none, Inserted-same, at_place, refused_entry, refused_insert, refused_order, refused_range}
+use Rattle.rangemap_formats.proofs.ReadingLemmas.{Inserted-more, Inserted-none, Inserted-same, at_place, refused_entry, refused_insert, refused_order}
 use Rattle.rangemap_formats.proofs.RoundTripLemmas.{refused_for_memory}
 use Rattle.rangemap_formats.specs.Json.{IsRefusedForMemoryAlone, RefusesToRead}
 use Rattle.rangemap_formats.proofs.json.reading.read.Goals as goal
@@ -11,8 +11,8 @@ loop-at-init g c =
     Inserted-none g.S.Kind.Kind.kind g.met.S.Kind.Kind.placed g.S.Value.PartialEq.eq g.met.S.Value.Eq.laws (g.R.ReadsParts.reader c.args.reader.now)
     c.args.form (g.S.Store.pairs c.empty-all.result) c.empty-all.ensures
 
-pub returns-in_err-found-clause-err : goal.returns-in_err-found-clause-err
-returns-in_err-found-clause-err g c =
+pub returns-in_err-range-clause-err : goal.returns-in_err-range-clause-err
+returns-in_err-range-clause-err g c =
     let xs = c.in-Some.entries.now in
     let entry = c.index-entries-at.result in
     let here : c.loop-at.at < length xs = omega arith in
@@ -20,44 +20,30 @@ returns-in_err-found-clause-err g c =
     rw (left.1, left.2)
     (refused_entry g.S.Kind.Kind.kind g.met.S.Kind.Kind.placed g.S.Value.PartialEq.eq g.met.S.Value.Eq.laws (g.R.ReadsParts.reader c.args.reader.now)
     c.args.form c.args.value.now xs (sym c.in-Some.ensures) c.loop-at.at (g.S.Store.pairs c.loop-at.all) c.loop-at.invariant
-    entry (at_place xs c.loop-at.at entry here c.index-entries-at.is) c.in_err-found.field-0.0 c.in_err-found.ensures.err)
+    entry (at_place xs c.loop-at.at entry here c.index-entries-at.is) c.in_err-range.field-0.0 c.in_err-range.ensures.err)
 
-pub returns-in_err-found-clause-exact : goal.returns-in_err-found-clause-exact
-returns-in_err-found-clause-exact g c =
+pub returns-in_err-range-clause-exact : goal.returns-in_err-range-clause-exact
+returns-in_err-range-clause-exact g c =
     let k = g.S.Kind.Kind.kind in
     let eq = g.S.Value.PartialEq.eq in
     let r = g.R.ReadsParts.reader c.args.reader.now in
     IfErr-weaker c.from_residual.result (RefusesToRead k r eq c.args.form c.args.value.now) (IsRefusedForMemoryAlone k r eq c.args.form c.args.value.now)
     (refused_for_memory k g.met.S.Kind.Kind.placed eq g.met.S.Value.Eq.laws r (g.R.ReadsParts.unambiguous c.args.reader.now) c.args.value.now c.args.form)
-    (returns-in_err-found-clause-err g c)
-
-pub returns-in_default-found-clause-err : goal.returns-in_default-found-clause-err
-returns-in_default-found-clause-err g c =
-    let xs = c.in-Some.entries.now in
-    let entry = c.index-entries-at.result in
-    let here : c.loop-at.at < length xs = omega arith in
-    refused_range g.S.Kind.Kind.kind g.met.S.Kind.Kind.placed g.S.Value.PartialEq.eq g.met.S.Value.Eq.laws (g.R.ReadsParts.reader c.args.reader.now)
-    c.args.form c.args.value.now xs (sym c.in-Some.ensures) c.loop-at.at (g.S.Store.pairs c.loop-at.all) c.loop-at.invariant
-    entry (at_place xs c.loop-at.at entry here c.index-entries-at.is) (rw c.in_default-found.is at c.in_ok-found.ensures.ok)
-
-pub returns-in_default-found-clause-exact : goal.returns-in_default-found-clause-exact
-returns-in_default-found-clause-exact g c =
-    refused_for_memory g.S.Kind.Kind.kind g.met.S.Kind.Kind.placed g.S.Value.PartialEq.eq g.met.S.Value.Eq.laws (g.R.ReadsParts.reader c.args.reader.now) (g.R.ReadsParts.unambiguous c.args.reader.now)
-    c.args.value.now c.args.form _ (returns-in_default-found-clause-err g c)
+    (returns-in_err-range-clause-err g c)
 
 pub returns-in_err-check_form-clause-err : goal.returns-in_err-check_form-clause-err
 returns-in_err-check_form-clause-err g c =
     let xs = c.in-Some.entries.now in
     let entry = c.index-entries-at.result in
     let here : c.loop-at.at < length xs = omega arith in
-    let pair = rw c.in-Some-found.is at c.in_ok-found.ensures.ok in
+    let pair = c.in_ok-range.ensures.ok in
     let left = err_from_is_err_and c.from_residual-in_err-check_form.result c.from_residual-in_err-check_form.ensures.1 in
     let why = c.in_err-check_form.ensures.err in
     rw (left.1, left.2)
     (refused_order g.S.Kind.Kind.kind g.met.S.Kind.Kind.placed g.S.Value.PartialEq.eq g.met.S.Value.Eq.laws (g.R.ReadsParts.reader c.args.reader.now)
     c.args.form c.args.value.now xs (sym c.in-Some.ensures) c.loop-at.at (g.S.Store.pairs c.loop-at.all) c.loop-at.invariant
     entry (at_place xs c.loop-at.at entry here c.index-entries-at.is)
-    (c.in-Some-found.range, c.in-Some-found.value) pair.1 pair.0
+    (c.in_ok-range.range, c.in_ok-range.value) pair.1 pair.0
     why.0 why.1.0 why.1.1 c.in_err-check_form.field-0.0 why.1.2)
 
 pub returns-in_err-check_form-clause-exact : goal.returns-in_err-check_form-clause-exact
@@ -74,24 +60,24 @@ returns-in_err-insert-clause-err g c =
     let xs = c.in-Some.entries.now in
     let entry = c.index-entries-at.result in
     let here : c.loop-at.at < length xs = omega arith in
-    let pair = rw c.in-Some-found.is at c.in_ok-found.ensures.ok in
+    let pair = c.in_ok-range.ensures.ok in
     let left = err_from_is_err_and c.from_residual-in_err-insert.result c.from_residual-in_err-insert.ensures.1 in
     rw (left.1, left.2)
     (refused_insert g.S.Kind.Kind.kind g.met.S.Kind.Kind.placed g.S.Value.PartialEq.eq g.met.S.Value.Eq.laws (g.R.ReadsParts.reader c.args.reader.now)
     c.args.form c.args.value.now xs (sym c.in-Some.ensures) c.loop-at.at (g.S.Store.pairs c.loop-at.all) c.loop-at.invariant
     entry (at_place xs c.loop-at.at entry here c.index-entries-at.is)
-    (c.in-Some-found.range, c.in-Some-found.value) pair.1 pair.0 c.in_ok-check_form.ensures.ok)
+    (c.in_ok-range.range, c.in_ok-range.value) pair.1 pair.0 c.in_ok-check_form.ensures.ok)
 
 pub loop-at-preserved : goal.loop-at-preserved
 loop-at-preserved g c =
     let xs = c.in-Some.entries.now in
     let entry = c.index-entries-at.result in
     let here : c.loop-at.at < length xs = omega arith in
-    let pair = rw c.in-Some-found.is at c.in_ok-found.ensures.ok in
+    let pair = c.in_ok-range.ensures.ok in
     rw (take_more xs c.loop-at.at entry here, ← c.index-entries-at.is)
     (Inserted-more g.S.Kind.Kind.kind g.met.S.Kind.Kind.placed g.S.Value.PartialEq.eq g.met.S.Value.Eq.laws (g.R.ReadsParts.reader c.args.reader.now)
     c.args.form (take c.loop-at.at xs) (g.S.Store.pairs c.loop-at.all) c.loop-at.invariant
-    entry (c.in-Some-found.range, c.in-Some-found.value) pair.1 pair.0
+    entry (c.in_ok-range.range, c.in_ok-range.value) pair.1 pair.0
     (g.S.Store.pairs c.insert.new.self) c.in_ok-check_form.ensures.ok c.in_ok-insert.ensures.ok)
 
 pub returns-clause-ok : goal.returns-clause-ok

@@ -12,14 +12,16 @@ returns-clause-ok g c =
     let starts : c.start.result.now ≡ k.start range = c.start.ensures ∙ g.met.S.Kind.Kind.reads.start _ ∙ ap k.start c.parts.ensures.range in
     let ends : c.end.result.now ≡ k.end range = c.end.ensures ∙ g.met.S.Kind.Kind.reads.end _ ∙ ap k.end c.parts.ensures.range in
     IfOk-weaker c.entry.result _ _
-    (λ entry h. record {
+    (λ entry h.
+    let written = h c.in-Ok.part c.in-Ok-key.part c.in_ok-range.ensures in
+    record {
       start = c.in-Ok.part;
       end = c.in-Ok-key.part;
-      value = h.0;
-      shape = h.2;
+      value = written.0;
+      shape = written.2;
       start_is = subst (λ x. w.key x (Ok c.in-Ok.part)) starts c.in-Ok.ensures;
       end_is = subst (λ x. w.key x (Ok c.in-Ok-key.part)) ends c.in-Ok-key.ensures;
-      value_is = subst (λ x. w.value x (Ok h.0)) c.parts.ensures.value h.1;
+      value_is = subst (λ x. w.value x (Ok written.0)) c.parts.ensures.value written.1;
     })
     c.entry.ensures.ok
 

@@ -10,8 +10,8 @@ use Rattle.rangemap_sorted.proofs.entries.changes.remove.Goals as goal
 pub returns-then-places-clause-ok : goal.returns-then-places-clause-ok
 returns-then-places-clause-ok g c =
     let canonical : IsCanonical g.Q.Kind.kind g.V.PartialEq.eq c.as_slice-pairs.result.now = rw (c.as_slice-pairs.ensures.value) c.requires.canonical in
-    let stored : IsStorable g.Q.Kind.kind c.args.range = record { start_is_key = c.known_ends.ensures.start_is_key; end_is_key = c.known_ends.ensures.end_is_key; non_empty = c.requires.non_empty } in
-    rw (← c.as_slice-pairs.ensures.value) (unchanged_is_canon g.met.Q.Kind.placed g.V.PartialEq.eq g.met.V.Eq.laws c.as_slice-pairs.result.now canonical c.args.range stored _ _ c.overlap-places.ensures c.if-places.true)
+    let stored : IsStorable g.Q.Kind.kind c.args.range.now = record { start_is_key = c.known_ends.ensures.start_is_key; end_is_key = c.known_ends.ensures.end_is_key; non_empty = c.requires.non_empty } in
+    rw (← c.as_slice-pairs.ensures.value) (unchanged_is_canon g.met.Q.Kind.placed g.V.PartialEq.eq g.met.V.Eq.laws c.as_slice-pairs.result.now canonical c.args.range.now stored _ _ c.overlap-places.ensures c.if-places.true)
 
 pub piece-requires-clause-from : goal.piece-requires-clause-from
 piece-requires-clause-from g c =
@@ -28,21 +28,21 @@ piece-requires-2-clause-to g c =
 pub returns-in_err-left-clause-meets_nothing : goal.returns-in_err-left-clause-meets_nothing
 returns-in_err-left-clause-meets_nothing g c =
     let canonical : IsCanonical g.Q.Kind.kind g.V.PartialEq.eq c.as_slice-pairs.result.now = rw (c.as_slice-pairs.ensures.value) c.requires.canonical in
-    let stored : IsStorable g.Q.Kind.kind c.args.range = record { start_is_key = c.known_ends.ensures.start_is_key; end_is_key = c.known_ends.ensures.end_is_key; non_empty = c.requires.non_empty } in
+    let stored : IsStorable g.Q.Kind.kind c.args.range.now = record { start_is_key = c.known_ends.ensures.start_is_key; end_is_key = c.known_ends.ensures.end_is_key; non_empty = c.requires.non_empty } in
     λ none.
-    absurd (meets_none g.met.Q.Kind.placed g.V.PartialEq.eq g.met.V.Eq.laws c.as_slice-pairs.result.now canonical c.args.range stored _ _ c.overlap-places.ensures (rw (c.as_slice-pairs.ensures.value) none) (omega (arith, c.overlap-places.ensures.start_le_end)))
+    absurd (meets_none g.met.Q.Kind.placed g.V.PartialEq.eq g.met.V.Eq.laws c.as_slice-pairs.result.now canonical c.args.range.now stored _ _ c.overlap-places.ensures (rw (c.as_slice-pairs.ensures.value) none) (omega (arith, c.overlap-places.ensures.start_le_end)))
 
 pub returns-in_err-right-clause-meets_nothing : goal.returns-in_err-right-clause-meets_nothing
 returns-in_err-right-clause-meets_nothing g c =
     let canonical : IsCanonical g.Q.Kind.kind g.V.PartialEq.eq c.as_slice-pairs.result.now = rw (c.as_slice-pairs.ensures.value) c.requires.canonical in
-    let stored : IsStorable g.Q.Kind.kind c.args.range = record { start_is_key = c.known_ends.ensures.start_is_key; end_is_key = c.known_ends.ensures.end_is_key; non_empty = c.requires.non_empty } in
+    let stored : IsStorable g.Q.Kind.kind c.args.range.now = record { start_is_key = c.known_ends.ensures.start_is_key; end_is_key = c.known_ends.ensures.end_is_key; non_empty = c.requires.non_empty } in
     λ none.
-    absurd (meets_none g.met.Q.Kind.placed g.V.PartialEq.eq g.met.V.Eq.laws c.as_slice-pairs.result.now canonical c.args.range stored _ _ c.overlap-places.ensures (rw (c.as_slice-pairs.ensures.value) none) (omega (arith, c.overlap-places.ensures.start_le_end)))
+    absurd (meets_none g.met.Q.Kind.placed g.V.PartialEq.eq g.met.V.Eq.laws c.as_slice-pairs.result.now canonical c.args.range.now stored _ _ c.overlap-places.ensures (rw (c.as_slice-pairs.ensures.value) none) (omega (arith, c.overlap-places.ensures.start_le_end)))
 
 pub returns-clause-ok : goal.returns-clause-ok
 returns-clause-ok g c =
     let canonical : IsCanonical g.Q.Kind.kind g.V.PartialEq.eq c.as_slice-pairs.result.now = rw (c.as_slice-pairs.ensures.value) c.requires.canonical in
-    let stored : IsStorable g.Q.Kind.kind c.args.range = record { start_is_key = c.known_ends.ensures.start_is_key; end_is_key = c.known_ends.ensures.end_is_key; non_empty = c.requires.non_empty } in
+    let stored : IsStorable g.Q.Kind.kind c.args.range.now = record { start_is_key = c.known_ends.ensures.start_is_key; end_is_key = c.known_ends.ensures.end_is_key; non_empty = c.requires.non_empty } in
     let k = g.Q.Kind.kind in
     let xs = c.as_slice-pairs.result.now in
     let left = c.in_ok-left.left in
@@ -53,8 +53,8 @@ returns-clause-ok g c =
     let last : c.index-pairs-places-2.result ≡ get_or xs (end - 1) c.index-pairs-places-2.result = c.index-pairs-places-2.is in
     let replaced = take start xs ++ (option_to_list left ++ option_to_list right) ++ drop end xs in
     let ok : OnOk c.splice.result (c.splice.new.list.items ≡ replaced) = rw (c.as_slice-pairs.ensures.value) c.splice.ensures.ok in
-    rw (← c.as_slice-pairs.ensures.value) (on_ok (λ (new : List (g.row.R.Denot × g.row.V.Denot)). IsCanonOf k g.V.PartialEq.eq (erase k (value_at k xs) c.args.range) new) c.splice.result c.splice.new.list.items replaced ok
-    (cut_is_canon g.met.Q.Kind.placed g.V.PartialEq.eq g.met.V.Eq.laws xs canonical c.args.range stored start end c.overlap-places.ensures (omega (arith, c.overlap-places.ensures.start_le_end)) _ _ first last left right
+    rw (← c.as_slice-pairs.ensures.value) (on_ok (λ (new : List (g.row.R.Denot × g.row.V.Denot)). IsCanonOf k g.V.PartialEq.eq (erase k (value_at k xs) c.args.range.now) new) c.splice.result c.splice.new.list.items replaced ok
+    (cut_is_canon g.met.Q.Kind.placed g.V.PartialEq.eq g.met.V.Eq.laws xs canonical c.args.range.now stored start end c.overlap-places.ensures (omega (arith, c.overlap-places.ensures.start_le_end)) _ _ first last left right
     c.in_ok-left.ensures.cut c.in_ok-right.ensures.cut c.in_ok-left.ensures.storable c.in_ok-right.ensures.storable))
 
 pub returns-clause-growth : goal.returns-clause-growth
@@ -72,6 +72,6 @@ returns-clause-growth g c =
 pub returns-clause-meets_nothing : goal.returns-clause-meets_nothing
 returns-clause-meets_nothing g c =
     let canonical : IsCanonical g.Q.Kind.kind g.V.PartialEq.eq c.as_slice-pairs.result.now = rw (c.as_slice-pairs.ensures.value) c.requires.canonical in
-    let stored : IsStorable g.Q.Kind.kind c.args.range = record { start_is_key = c.known_ends.ensures.start_is_key; end_is_key = c.known_ends.ensures.end_is_key; non_empty = c.requires.non_empty } in
+    let stored : IsStorable g.Q.Kind.kind c.args.range.now = record { start_is_key = c.known_ends.ensures.start_is_key; end_is_key = c.known_ends.ensures.end_is_key; non_empty = c.requires.non_empty } in
     λ none.
-    absurd (meets_none g.met.Q.Kind.placed g.V.PartialEq.eq g.met.V.Eq.laws c.as_slice-pairs.result.now canonical c.args.range stored _ _ c.overlap-places.ensures (rw (c.as_slice-pairs.ensures.value) none) (omega (arith, c.overlap-places.ensures.start_le_end)))
+    absurd (meets_none g.met.Q.Kind.placed g.V.PartialEq.eq g.met.V.Eq.laws c.as_slice-pairs.result.now canonical c.args.range.now stored _ _ c.overlap-places.ensures (rw (c.as_slice-pairs.ensures.value) none) (omega (arith, c.overlap-places.ensures.start_le_end)))

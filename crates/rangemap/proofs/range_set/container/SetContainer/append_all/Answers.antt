@@ -10,5 +10,5 @@ read-requires g c = (all_storable g.S.Kind.Kind.kind _ _ c.known.ensures, c.requ
 pub returns-clause-ok : goal.returns-clause-ok
 returns-clause-ok g c = on_ok_weaker c.read.result (all_with_unit g.S.Kind.Kind.kind _ _ c.self.view_is _ _) c.read.ensures.0
 
-pub returns-clause-nothing : goal.returns-clause-nothing
-returns-clause-nothing g c = λ none. c.read.ensures.2 (pairs_are g.S.Kind.Kind.kind _ _ c.self.view_is ∙ none)
+pub returns-clause-of_nothing : goal.returns-clause-of_nothing
+returns-clause-of_nothing g c = λ none. c.read.ensures.2 (pairs_are g.S.Kind.Kind.kind _ _ c.self.view_is ∙ none)

@@ -16,8 +16,8 @@ read_overlapping-requires g c = (
 pub returns-clause-ok : goal.returns-clause-ok
 returns-clause-ok g c = on_ok_weaker c.read_overlapping.result (overlapped_with_unit g.S.Kind.Kind.kind _ _ c.self.view_is c.args.range.now _ _) c.read_overlapping.ensures.0
 
-pub returns-clause-nothing : goal.returns-clause-nothing
-returns-clause-nothing g c =
+pub returns-clause-of_nothing : goal.returns-clause-of_nothing
+returns-clause-of_nothing g c =
     let k = g.S.Kind.Kind.kind in
     λ none.
     c.read_overlapping.ensures.2 (ap (λ pairs. overlapped k pairs c.args.range.now) (pairs_are k _ _ c.self.view_is) ∙ none)

@@ -12,5 +12,5 @@ read_overlapping-requires g c = (
   c.requires.faithful_values,
 )
 
-pub returns-clause-nothing : goal.returns-clause-nothing
-returns-clause-nothing g c = λ none. c.read_overlapping.ensures.2 (ap (λ pairs. overlapped g.S.Kind.Kind.kind pairs c.args.range.now) c.self.view_is ∙ none)
+pub returns-clause-of_nothing : goal.returns-clause-of_nothing
+returns-clause-of_nothing g c = λ none. c.read_overlapping.ensures.2 (ap (λ pairs. overlapped g.S.Kind.Kind.kind pairs c.args.range.now) c.self.view_is ∙ none)
