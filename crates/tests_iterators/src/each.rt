@@ -6,34 +6,24 @@ use std::alloc::{AllocError, Allocator};
 use std::iter::{DoubleEndedIterator, Iterator};
 use std::ops::{Range, RangeInclusive};
 
-// items `T` are lent, and items `G` given away; each may be asked at any time, from either end
-fn both_ends<
-    T: Drop,
-    G: Drop,
-    Iter: DoubleEndedIterator<Item = T> + Drop,
-    IntoIter: DoubleEndedIterator<Item = G> + Drop,
-    Overlapping: DoubleEndedIterator<Item = T> + Drop,
->(mut iter: Iter, mut into_iter: IntoIter, mut overlapping: Overlapping)
-    requires iter_front { (it : Iter) → Iter.can_next it }
-    requires iter_back { (it : Iter) → Iter.can_next_back it }
-    requires into_iter_front { (it : IntoIter) → IntoIter.can_next it }
-    requires into_iter_back { (it : IntoIter) → IntoIter.can_next_back it }
-    requires overlapping_front { (it : Overlapping) → Overlapping.can_next it }
-    requires overlapping_back { (it : Overlapping) → Overlapping.can_next_back it }
+// items `T` may be asked at any time, from either end
+fn both_ends<T: Drop, I: DoubleEndedIterator<Item = T> + Drop>(mut items: I)
+    requires front { (it : I) → I.can_next it }
+    requires back { (it : I) → I.can_next_back it }
 {
-    let _: (Option<T>, Option<T>) = (iter.next(), iter.next_back());
-    let _: (Option<G>, Option<G>) = (into_iter.next(), into_iter.next_back());
-    let _: (Option<T>, Option<T>) = (overlapping.next(), overlapping.next_back());
+    let _: (Option<T>, Option<T>) = (items.next(), items.next_back());
 }
 
-fn front<T: Drop, I: Iterator<Item = T> + Drop>(_items: I) {}
+// checks the bound alone, and takes nothing
+fn is_iterator<T: Drop, I: Iterator<Item = T> + Drop>(_items: I) {}
 
-fn fronts<
+// the same of three iterators
+fn are_iterators<
     T: Drop,
-    Gaps: Iterator<Item = T> + Drop,
-    Union: Iterator<Item = T> + Drop,
-    Intersection: Iterator<Item = T> + Drop,
->(_gaps: Gaps, _union: Union, _intersection: Intersection) {}
+    G: Iterator<Item = T> + Drop,
+    U: Iterator<Item = T> + Drop,
+    X: Iterator<Item = T> + Drop,
+>(_gaps: G, _union: U, _intersection: X) {}
 
 pub fn of_maps<'a, K: Ord + Clone, V: Eq + Clone, A: Allocator>(
     iter: map::Iter<'a, K, V>,
@@ -43,9 +33,11 @@ pub fn of_maps<'a, K: Ord + Clone, V: Eq + Clone, A: Allocator>(
 ) -> Result<Option<Range<K>>, AllocError>
     requires { KeysCloneFaithfully K.is_clone K.cmp }
 {
-    both_ends::<(&'a Range<K>, &'a V), (Range<K>, V), _, _, _>(iter, into_iter, overlapping);
+    both_ends::<(&'a Range<K>, &'a V), _>(iter);
+    both_ends::<(Range<K>, V), _>(into_iter);
+    both_ends::<(&'a Range<K>, &'a V), _>(overlapping);
     let first = gaps.try_next()?;
-    front::<Result<Range<K>, AllocError>, _>(gaps);
+    is_iterator::<Result<Range<K>, AllocError>, _>(gaps);
     Ok(first)
 }
 
@@ -57,9 +49,11 @@ pub fn of_trees<'a, K: Ord + Clone, V: Eq + Clone, A: Allocator + Clone>(
 ) -> Result<Option<Range<K>>, AllocError>
     requires { KeysCloneFaithfully K.is_clone K.cmp }
 {
-    both_ends::<(&'a Range<K>, &'a V), (Range<K>, V), _, _, _>(iter, into_iter, overlapping);
+    both_ends::<(&'a Range<K>, &'a V), _>(iter);
+    both_ends::<(Range<K>, V), _>(into_iter);
+    both_ends::<(&'a Range<K>, &'a V), _>(overlapping);
     let first = gaps.try_next()?;
-    front::<Result<Range<K>, AllocError>, _>(gaps);
+    is_iterator::<Result<Range<K>, AllocError>, _>(gaps);
     Ok(first)
 }
 
@@ -71,13 +65,11 @@ pub fn of_closed_maps<'a, K: Ord + Clone, V: Eq + Clone, S: StepFns<K>, A: Alloc
 ) -> Result<Option<RangeInclusive<K>>, AllocError>
     requires { KeysCloneFaithfully K.is_clone K.cmp }
 {
-    both_ends::<(&'a RangeInclusive<K>, &'a V), (RangeInclusive<K>, V), _, _, _>(
-        iter,
-        into_iter,
-        overlapping,
-    );
+    both_ends::<(&'a RangeInclusive<K>, &'a V), _>(iter);
+    both_ends::<(RangeInclusive<K>, V), _>(into_iter);
+    both_ends::<(&'a RangeInclusive<K>, &'a V), _>(overlapping);
     let first = gaps.try_next()?;
-    front::<Result<RangeInclusive<K>, AllocError>, _>(gaps);
+    is_iterator::<Result<RangeInclusive<K>, AllocError>, _>(gaps);
     Ok(first)
 }
 
@@ -91,13 +83,15 @@ pub fn of_sets<'a, T: Ord + Clone, A: Allocator>(
 ) -> Result<[Option<Range<T>>; 3], AllocError>
     requires { KeysCloneFaithfully T.is_clone T.cmp }
 {
-    both_ends::<&'a Range<T>, Range<T>, _, _, _>(iter, into_iter, overlapping);
+    both_ends::<&'a Range<T>, _>(iter);
+    both_ends::<Range<T>, _>(into_iter);
+    both_ends::<&'a Range<T>, _>(overlapping);
     let firsts = [
         gaps.try_next()?,
         union.try_next()?,
         intersection.try_next()?,
     ];
-    fronts::<Result<Range<T>, AllocError>, _, _, _>(gaps, union, intersection);
+    are_iterators::<Result<Range<T>, AllocError>, _, _, _>(gaps, union, intersection);
     Ok(firsts)
 }
 
@@ -111,13 +105,15 @@ pub fn of_closed_sets<'a, T: StepLite + Clone, S: StepFns<T>, A: Allocator>(
 ) -> Result<[Option<RangeInclusive<T>>; 3], AllocError>
     requires { KeysCloneFaithfully T.is_clone T.cmp }
 {
-    both_ends::<&'a RangeInclusive<T>, RangeInclusive<T>, _, _, _>(iter, into_iter, overlapping);
+    both_ends::<&'a RangeInclusive<T>, _>(iter);
+    both_ends::<RangeInclusive<T>, _>(into_iter);
+    both_ends::<&'a RangeInclusive<T>, _>(overlapping);
     let firsts = [
         gaps.try_next()?,
         union.try_next()?,
         intersection.try_next()?,
     ];
-    fronts::<Result<RangeInclusive<T>, AllocError>, _, _, _>(gaps, union, intersection);
+    are_iterators::<Result<RangeInclusive<T>, AllocError>, _, _, _>(gaps, union, intersection);
     Ok(firsts)
 }
 
@@ -131,12 +127,14 @@ pub fn of_sets_in_trees<'a, T: Ord + Clone, A: Allocator + Clone>(
 ) -> Result<[Option<Range<T>>; 3], AllocError>
     requires { KeysCloneFaithfully T.is_clone T.cmp }
 {
-    both_ends::<&'a Range<T>, Range<T>, _, _, _>(iter, into_iter, overlapping);
+    both_ends::<&'a Range<T>, _>(iter);
+    both_ends::<Range<T>, _>(into_iter);
+    both_ends::<&'a Range<T>, _>(overlapping);
     let firsts = [
         gaps.try_next()?,
         union.try_next()?,
         intersection.try_next()?,
     ];
-    fronts::<Result<Range<T>, AllocError>, _, _, _>(gaps, union, intersection);
+    are_iterators::<Result<Range<T>, AllocError>, _, _, _>(gaps, union, intersection);
     Ok(firsts)
 }

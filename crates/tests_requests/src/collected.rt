@@ -1,6 +1,5 @@
 //! What is collected of a container by one call where a request is refused: its gaps in a range, or the
-//! stretches of one.
-ghost use Rattle.std.specs.Iterator.{IsFinite};
+//! segments of one.
 ghost use Rattle.rangemap.specs.Clones.{KeysCloneFaithfully, ValuesCloneFaithfully};
 
 use crate::row::{Answer, Row};
@@ -10,11 +9,13 @@ use rangemap::map::Map;
 use rangemap_core::key_range::KeyRange;
 use rangemap_core::store::Lends;
 use std::alloc::AllocError;
-use std::iter::Iterator;
-use std::ops::Deref;
-use tests_support::{Heap, InRows, Word, are_ranges, check_that, first_word, is_range};
+use std::marker::PhantomData;
+use tests_support::{
+    Heap, InRows, ReadsPairs, Word, are_ranges, check_that, first_word, is_range, take_item,
+    tell_pairs,
+};
 
-/// The word of a stretch that has no value.
+/// The word of a segment that has no value.
 const NONE: &str = "none";
 
 /// Tries to collect the gaps in the range that the call names.
@@ -38,7 +39,7 @@ pub fn try_collect_gaps<M: InRows>(heap: &Heap, alloc: M::Alloc, row: &Row<'_>, 
     }
 }
 
-/// Tries to divide the range that the call names into stretches, each with its value, or with the word
+/// Tries to divide the range that the call names into segments, each with its value, or with the word
 /// `none` in the row.
 pub fn try_segments<M: InRows>(heap: &Heap, alloc: M::Alloc, row: &Row<'_>, left: u64) -> Answer
     requires faithful_keys { KeysCloneFaithfully M.Range.Key.is_clone M.Range.Key.cmp }
@@ -49,10 +50,10 @@ pub fn try_segments<M: InRows>(heap: &Heap, alloc: M::Alloc, row: &Row<'_>, left
     let divided = segments(alloc, &map, &query);
     row.end_refusal(heap, left)?;
     match divided {
-        Ok(stretches) => {
+        Ok(segments) => {
             check_that(
-                has_stretches::<_, M::Value, M::Alloc>(&stretches, row.outcome),
-                "the stretches differ",
+                has_segments::<_, M::Value, M::Alloc>(&segments, row.outcome),
+                "the segments differ",
             )?;
             Ok(true)
         }
@@ -60,41 +61,43 @@ pub fn try_segments<M: InRows>(heap: &Heap, alloc: M::Alloc, row: &Row<'_>, left
     }
 }
 
-/// Whether a map holds the stretches of a list.
-fn has_stretches<'a, S, V, A>(map: &'a Map<S>, list: &str) -> bool
+/// Whether a map holds the segments of a list.
+fn has_segments<'a, S, V, A>(map: &'a Map<S>, list: &str) -> bool
 where
     S: Lends<'a, Range: KeyRange<Key: Word<A>> + 'a, Value = Option<V>>,
     V: Word<A> + 'a,
     A: Drop,
 {
-    are_stretches::<S::Range, V, A, _, _, _>(map.iter(), list)
+    let mut listed: Listed<'_, A> = Listed {
+        rest: list,
+        are_equal: true,
+        memory: PhantomData,
+    };
+    tell_pairs(map.iter(), &mut listed).is_ok() && listed.are_equal && listed.rest.is_empty()
 }
 
-/// Whether stretches are those of a list.
-fn are_stretches<
-    R: KeyRange<Key: Word<A>>,
-    V: Word<A>,
-    A: Drop,
-    L: Deref<Target = R> + Drop,
-    W: Deref<Target = Option<V>> + Drop,
-    I: Iterator<Item = (L, W)> + Drop,
->(stretches: I, list: &str) -> bool
-    requires can { I.can_next stretches }
-    requires ends { IsFinite (I.remaining stretches) }
-{
-    let mut rest = list;
-    for (range, value) in stretches {
-        let (stretch, others) = rest.split_once(", ").unwrap_or((rest, ""));
-        if !is_stretch::<R, V, A>(&*range, &*value, stretch) {
-            return false;
-        }
-        rest = others;
+/// Segments, compared with those of a list, one after another.
+#[derive(Drop)]
+struct Listed<'t, A> {
+    // The segments that are still to come.
+    rest: &'t str,
+    are_equal: bool,
+    memory: PhantomData<A>,
+}
+
+impl<'t, R: KeyRange<Key: Word<A>>, V: Word<A>, A: Drop> ReadsPairs<R, Option<V>>
+    for Listed<'t, A> {
+    fn pair(&mut self, range: &R, value: &Option<V>) -> Result<(), AllocError> {
+        self.are_equal &= match take_item(&mut self.rest) {
+            Some(segment) => is_segment::<R, V, A>(range, value, segment),
+            None => false,
+        };
+        Ok(())
     }
-    rest.is_empty()
 }
 
-/// Whether a stretch is the one that a text names.
-fn is_stretch<R: KeyRange<Key: Word<A>>, V: Word<A>, A: Drop>(
+/// Whether a segment is the one that a text names.
+fn is_segment<R: KeyRange<Key: Word<A>>, V: Word<A>, A: Drop>(
     range: &R,
     value: &Option<V>,
     text: &str,

@@ -107,42 +107,34 @@ pub fn compare_and_print<
     root::compare_and_print(alloc, left, right, state)
 }
 
-pub fn write_and_read<
-    K: Ord + Clone,
-    V: Eq + Clone,
-    A: Allocator,
-    E,
-    WK: Fn(&K) -> Result<Value, E>,
-    WV: Fn(&V) -> Result<Value, E>,
-    RK: Fn(&Value) -> Result<K, E>,
-    RV: Fn(&Value) -> Result<V, E>,
->(
+pub fn write_and_read<K: Ord + Clone, V: Eq + Clone, A: Allocator, E: Copy>(
     map: &RangeMap<K, V, A>,
     alloc: Global,
-    write: (WK, WV),
     other: A,
     form: Form,
     value: &Value,
-    read: (RK, RV),
+    fault: E,
 ) -> (
     Result<Value, WriteError<E>>,
     Result<RangeMap<K, V, A>, ReadError<E>>,
 )
-    requires write_keys { WK.IsAlwaysCallable write.0 }
-    requires write_values { WV.IsAlwaysCallable write.1 }
-    requires read_keys { RK.IsAlwaysCallable read.0 }
-    requires read_values { RV.IsAlwaysCallable read.1 }
     requires faithful_keys { KeysCloneFaithfully K.is_clone K.cmp }
     requires faithful_values { ValuesCloneFaithfully V.is_clone V.eq }
 {
-    let written = map.to_value(alloc, write.0, write.1);
+    let written = map.to_value(alloc, |_: &K| Err(fault), |_: &V| Err(fault));
     (
         written,
-        RangeMap::from_value(other, form, value, read.0, read.1),
+        RangeMap::from_value(
+            other,
+            form,
+            value,
+            |_: &Value| Err(fault),
+            |_: &Value| Err(fault),
+        ),
     )
 }
 
-/// Makes every call, at one type of keys.
+/// Makes each call of this file once, over any keys; `keys` calls it at seven types of them.
 pub fn every<K: Ord + Clone + Hash + Debug, const N: usize>(
     alloc: Global,
     map: &mut RangeMap<K, u8>,
@@ -162,9 +154,7 @@ pub fn every<K: Ord + Clone + Hash + Debug, const N: usize>(
         map,
         &mut DefaultHasher::new(),
     );
-    let write = (root::write_nothing::<K>, root::write_nothing::<u8>);
-    let read = (|_: &Value| Err(()), |_: &Value| Err(()));
-    let _ = write_and_read(map, alloc, write, alloc, Form::Any, &Value::Null, read);
+    let _ = write_and_read(map, alloc, alloc, Form::Any, &Value::Null, ());
     from(map, alloc, listed);
     let (first, second) = empty(alloc, alloc);
     collect(alloc, first, map, second);

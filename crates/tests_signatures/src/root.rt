@@ -82,11 +82,6 @@ pub fn compare_and_print<C: Ord + Hash + Debug, H: Hasher>(
     Ok((answer, text(alloc, left)?))
 }
 
-// writes no part of a container, of whatever type
-pub fn write_nothing<P>(_part: &P) -> Result<Value, ()> {
-    Err(())
-}
-
 fn derives_part<P: Clone + Copy + Debug + PartialEq + Eq>(_p: P) {}
 
 fn derives_error<P: Debug + PartialEq + Eq + Drop>(_p: P) {}

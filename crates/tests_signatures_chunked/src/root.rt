@@ -31,8 +31,3 @@ pub fn compare_and_print<C: Ord + Hash + Debug, H: Hasher>(
     let answer = compare(left, right, state);
     Ok((answer, text(alloc, left)?))
 }
-
-// writes no part of a container, of whatever type
-pub fn write_nothing<P>(_part: &P) -> Result<Value, ()> {
-    Err(())
-}

@@ -98,32 +98,27 @@ pub fn compare_and_print<T: Ord + Clone + Hash + Debug, H: Hasher>(
     root::compare_and_print(alloc, left, right, state)
 }
 
-pub fn write_and_read<
-    T: Ord + Clone,
-    E,
-    WK: Fn(&T) -> Result<Value, E>,
-    RK: Fn(&Value) -> Result<T, E>,
->(
+pub fn write_and_read<T: Ord + Clone, E: Copy>(
     set: &RangeSet<T>,
     alloc: Global,
-    write_key: WK,
     other: Global,
     form: Form,
     value: &Value,
-    read_key: RK,
+    fault: E,
 ) -> (
     Result<Value, WriteError<E>>,
     Result<RangeSet<T>, ReadError<E>>,
 )
-    requires write_keys { WK.IsAlwaysCallable write_key }
-    requires read_keys { RK.IsAlwaysCallable read_key }
     requires faithful_keys { KeysCloneFaithfully T.is_clone T.cmp }
 {
-    let written = set.to_value(alloc, write_key);
-    (written, RangeSet::from_value(other, form, value, read_key))
+    let written = set.to_value(alloc, |_: &T| Err(fault));
+    (
+        written,
+        RangeSet::from_value(other, form, value, |_: &Value| Err(fault)),
+    )
 }
 
-/// Makes every call, at one type of keys.
+/// Makes each call of this file once, over any keys; `keys` calls it at seven types of them.
 pub fn every<T: Ord + Clone + Hash + Debug, const N: usize>(
     alloc: Global,
     set: &mut RangeSet<T>,
@@ -143,8 +138,7 @@ pub fn every<T: Ord + Clone + Hash + Debug, const N: usize>(
         set,
         &mut DefaultHasher::new(),
     );
-    let (write, read) = (root::write_nothing::<T>, |_: &Value| Err(()));
-    let _ = write_and_read(set, alloc, write, alloc, Form::Any, &Value::Null, read);
+    let _ = write_and_read(set, alloc, alloc, Form::Any, &Value::Null, ());
     from(set, set, alloc, listed);
     let (first, second) = empty(alloc, alloc);
     collect(alloc, first, set, second);

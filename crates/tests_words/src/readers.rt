@@ -23,12 +23,10 @@ pub trait ReadsGaps<R> {
 /// Tells a reader of the pairs of an iterator.
 #[inline(always)]
 pub fn tell_pairs<
-    R,
-    V,
-    L: Deref<Target = R> + Drop,
-    W: Deref<Target = V> + Drop,
+    L: Deref + Drop,
+    W: Deref + Drop,
     I: Iterator<Item = (L, W)> + Drop,
-    U: ReadsPairs<R, V>,
+    U: ReadsPairs<L::Target, W::Target>,
 >(pairs: I, reader: &mut U) -> Result<(), AllocError>
     requires can { I.can_next pairs }
     requires ends { IsFinite (I.remaining pairs) }
@@ -41,12 +39,10 @@ pub fn tell_pairs<
 
 /// Tells a reader of the ranges of an iterator, each with the value that says nothing.
 #[inline(always)]
-pub fn tell_ranges<
-    R,
-    L: Deref<Target = R> + Drop,
-    I: Iterator<Item = L> + Drop,
-    U: ReadsPairs<R, ()>,
->(ranges: I, reader: &mut U) -> Result<(), AllocError>
+pub fn tell_ranges<L: Deref + Drop, I: Iterator<Item = L> + Drop, U: ReadsPairs<L::Target, ()>>(
+    ranges: I,
+    reader: &mut U,
+) -> Result<(), AllocError>
     requires can { I.can_next ranges }
     requires ends { IsFinite (I.remaining ranges) }
 {
