@@ -1,7 +1,7 @@
 //! What each iterator gives, from which ends.
 ghost use Rattle.rangemap.specs.Clones.{KeysCloneFaithfully};
 
-use rangemap::{StepFns, StepLite, inclusive_map, inclusive_set, map, set, tree_map, tree_set};
+use rangemap::{StepFns, inclusive_map, inclusive_set, map, set, tree_map, tree_set};
 use std::alloc::{AllocError, Allocator};
 use std::iter::{DoubleEndedIterator, Iterator};
 use std::ops::{Range, RangeInclusive};
@@ -95,7 +95,7 @@ pub fn of_sets<'a, T: Ord + Clone, A: Allocator>(
     Ok(firsts)
 }
 
-pub fn of_closed_sets<'a, T: StepLite + Clone, S: StepFns<T>, A: Allocator>(
+pub fn of_closed_sets<'a, T: Ord + Clone, S: StepFns<T>, A: Allocator>(
     iter: inclusive_set::Iter<'a, T>,
     into_iter: inclusive_set::IntoIter<T, A>,
     overlapping: inclusive_set::Overlapping<'a, T>,

@@ -1,5 +1,4 @@
-use Rattle.std.proofs.Common.{arith, ◌≤◌}
-use Rattle.std.specs.Ordering.{nat_cmp}
+use Rattle.std.proofs.Common.{arith, ◌≤◌, nat_cmp}
 use Rattle.rangemap.proofs.LoopLemmas.{covered_by_items}
 use Rattle.rangemap.proofs.Loops.{lends_again}
 use Rattle.rangemap.proofs.NumberKinds.{half_open_unsigned}
@@ -8,6 +7,5 @@ use Rattle.examples.proofs.calling.is_below.Goals as goal
 
 pub returns : goal.returns
 returns c = λ yes key there.
-    let each = covered_by_items (half_open nat_cmp) c.args.set.now (λ range. range.end ≤ c.args.limit) (search lends_again) c.loop-range.invariant c.in-None.is in
-    let one = each key there in
+    let one = covered_by_items (half_open nat_cmp) c.args.set.now (λ range. range.end ≤ c.args.limit) (search lends_again) c.loop-range.invariant c.in-None.is key there in
     omega (arith, one.kept, half_open_unsigned.to one.range key one.holds)
