@@ -6,7 +6,6 @@ use rangemap::{
     Form, Part, RangeInclusiveMap, RangeInclusiveSet, RangeMap, RangeSet, ReadError, StepFns,
     StepLite, WriteError, range_inclusive_map, range_inclusive_set, range_map, range_set,
 };
-use serde_json::Value;
 use std::alloc::{AllocError, Global};
 use std::cmp::Ordering;
 use std::fmt::Debug;

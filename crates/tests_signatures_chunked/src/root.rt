@@ -1,6 +1,5 @@
 //! What is called on a container of whatever type.
 
-use serde_json::Value;
 use std::alloc::{AllocError, Global};
 use std::cmp::Ordering;
 use std::fmt::Debug;
