@@ -5,8 +5,8 @@ use Rattle.rangemap_core.specs.engine.Endpoints.{EndpointOf, IsPlaced}
 use Rattle.rangemap_core.specs.Ranges.{RangeKind, IsCanonOfPoints, covers, same_ranges}
 use Rattle.rangemap_core.specs.Sets.{IsCanonicalSet}
 use Rattle.rangemap.specs.Joined.{joined, other_of}
-use Rattle.rangemap.specs.declared.laws.sets.Operator.{Operator}
-use Rattle.rangemap.specs.declared.laws.sets.Operator.TheVariants.{Union, Intersection}
+use Rattle.rangemap.specs.declared.range_set.operators.Operator.{Operator}
+use Rattle.rangemap.specs.declared.range_set.operators.Operator.TheVariants.{Union, Intersection}
 use Rattle.rangemap.proofs.SetRoundTripLemmas.{same_points}
 
 -- the laws, key by key

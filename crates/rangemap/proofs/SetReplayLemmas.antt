@@ -14,8 +14,8 @@ use Rattle.rangemap.specs.declared.range_set.calls.SetCall.TheVariants.{FromIter
 use Rattle.rangemap_containers.specs.Histories.{Makes}
 use Rattle.rangemap.specs.SetHistories.{SetStep}
 use Rattle.rangemap.specs.Joined.{joined, joining}
-use Rattle.rangemap.specs.declared.laws.sets.Operator.{Operator}
-use Rattle.rangemap.specs.declared.laws.sets.Operator.TheVariants.{Union, Intersection}
+use Rattle.rangemap.specs.declared.range_set.operators.Operator.{Operator}
+use Rattle.rangemap.specs.declared.range_set.operators.Operator.TheVariants.{Union, Intersection}
 use Rattle.rangemap.proofs.SetRoundTripLemmas.{unit_equiv}
 
 module _ {K X : Type 0} (k : RangeKind K X) (ls : List (List X)) where

@@ -1,7 +1,7 @@
 -- What an operator makes of two sets, which are the keys that they have, and which is the other one.
 use Rattle.std.specs.Prelude.{ℕ, Bool, ◌&&◌, ◌||◌}
-use Rattle.rangemap.specs.declared.laws.sets.Operator.{Operator}
-use Rattle.rangemap.specs.declared.laws.sets.Operator.TheVariants.{Union, Intersection}
+use Rattle.rangemap.specs.declared.range_set.operators.Operator.{Operator}
+use Rattle.rangemap.specs.declared.range_set.operators.Operator.TheVariants.{Union, Intersection}
 use Rattle.rangemap.specs.declared.range_set.calls.SetCall.{SetCall}
 use Rattle.rangemap.specs.declared.range_set.calls.SetCall.TheVariants.{Union as UnionCall, Intersection as IntersectionCall}
 

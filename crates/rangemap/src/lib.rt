@@ -31,7 +31,7 @@
 //! | `chunked::RangeMap`, `chunked::RangeSet`, `chunked::RangeInclusiveMap`, `chunked::RangeInclusiveSet` | as those above, in many sorted vectors, for more than about a thousand ranges that change at random places |
 //! | `tree_map::RangeMap`, `tree_set::RangeSet` | as `RangeMap`, in a B-tree |
 //!
-//! Each container is an alias of `map::Map` or `range_set::Set`, where its calls are described with
+//! Each container is an alias of `map::Map` or `set::Set`, where its calls are described with
 //! their contracts. `container` has what code over any container asks of it; `laws` says what holds of
 //! every one; `replay`, in the module of each container, makes any list of calls.
 //!

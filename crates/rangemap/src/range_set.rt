@@ -21,6 +21,8 @@ mod json;
 mod operators;
 mod text;
 
+pub use operators::Operator;
+
 /// A set of keys in disjoint ranges, which joins ranges that overlap or touch.
 ///
 /// `S` keeps the ranges: a sorted vector, a tree, chunks. A call costs what the map's of its name
@@ -40,7 +42,7 @@ pub struct Set<S: Store<Value = ()>> {
     stored: S,
     // Names what keys and allocator may borrow, which the checker asks of a struct and `S` alone
     // does not.
-    lives: PhantomData<(S::Range, S::Alloc)>,
+    borrows: PhantomData<(S::Range, S::Alloc)>,
 }
 
 impl<S: Store<Value = ()>> Model for Set<S> {
@@ -66,14 +68,14 @@ where
 impl<S: StoreMut<Value = ()>> Set<S> {
     /// Returns the empty set over the steps of its kind, whose memory will come from `alloc`.
     ///
-    /// Of closed ranges these are the steps of `StepFnsT`. Half-open ranges have none, and `new` is the
-    /// word for them.
+    /// Over closed ranges the kind is `Closed<StepFnsT>`, and the steps are those of `StepFnsT`. Half-open
+    /// ranges need none: make them by `new`.
     pub fn new_with_step_fns(alloc: S::Alloc) -> Self
         ensures { result ≡ [] }
     {
         Set {
             stored: S::empty(alloc),
-            lives: PhantomData,
+            borrows: PhantomData,
         }
     }
 }

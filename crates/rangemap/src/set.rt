@@ -1,6 +1,6 @@
 //! The set over half-open ranges, and the run of any calls that make or change such sets.
 
-use crate::range_set::Set;
+pub use crate::range_set::Set;
 use crate::range_set::calls::SetCall;
 pub use rangemap_containers::replay::replay;
 use rangemap_core::gaps;

@@ -155,8 +155,9 @@ pub trait StoreMut: Store {
     fn clear(&mut self)
         ensures { Self.pairs self.new ≡ [] };
 
-    /// Makes an equal store out of clones, in memory of `alloc`, a clone of this store's own allocator,
-    /// or of further clones of it: a tree is cloned whole, and each chunk owns a handle.
+    /// Makes an equal store out of clones of the pairs, in memory of `alloc`, which is a clone of this
+    /// store's own allocator. A store of several handles makes the others of clones of its own: a tree
+    /// is cloned whole, and each chunk owns a handle.
     ///
     /// # Requires
     ///
@@ -190,7 +191,7 @@ pub trait HandsOver: Store {
         ensures pairs { Self.IntoIter.left result ≡ Self.pairs self }
         ensures canonical { IsCanonical Self.Kind.kind Self.Value.eq (Self.pairs self) };
 
-    /// What is taken of them is the very pair.
+    /// An item is, in contracts, the stored pair itself.
     ghost gives: { (pair : Self.Range × Self.Value) → shown Self.IntoIter.given Self.IntoIter.given_value pair ≡ pair };
 }
 
@@ -226,9 +227,9 @@ where
     fn overlapping(&'a self, range: &'a Self::Range) -> Self::Overlapping
         ensures { Self.Overlapping.left result ≡ overlapped Self.Kind.kind (Self.pairs self.now) range.now };
 
-    /// What is taken of them leads to the pair.
+    /// An item of `Iter`, two references, is in contracts the pair that they point to.
     ghost lends: { (pair : _) → shown Self.Iter.given Self.Iter.given_value pair ≡ deref_pair pair };
 
-    /// So does what is taken of those that overlap a range.
+    /// So is an item of `Overlapping`.
     ghost lends_overlapping: { (pair : _) → shown Self.Overlapping.given Self.Overlapping.given_value pair ≡ deref_pair pair };
 }

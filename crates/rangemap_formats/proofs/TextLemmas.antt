@@ -35,6 +35,10 @@ module _ {K X : Type 0} (k : RangeKind K X) (dots : List ℕ) (key_text : K → 
   pub set_text_known : (list : List X) → AreKeyTexts k dots key key_text list → set_text k dots key_text list ≡ Some (plain_set k dots key list)
   set_text_known = braced_known (plain_range k dots key) (range_text k dots key_text) (AreKeyTexts k dots key key_text) (λ r rest h. (rw (h.0, h.1) refl, h.2))
 
+  pub all_keys_known : ((x : K) → key_text x ≡ Some (key x)) → (list : List X) → AreKeyTexts k dots key key_text list
+  all_keys_known a [] = tt
+  all_keys_known a (r ∷ rest) = (a (k.start r), a (k.end r), all_keys_known a rest)
+
   module _ {V : Type 0} (value_text : V → Option (List ℕ)) (value : V → List ℕ) where
     pub map_text_known : (list : List (X × V)) → AreTexts k dots key value key_text value_text list → map_text k dots key_text value_text list ≡ Some (plain_map k dots key value list)
     map_text_known = braced_known (plain_pair k dots key value) (pair_text k dots key_text value_text) (AreTexts k dots key value key_text value_text) (λ p rest h. (rw (h.0, h.1, h.2) refl, h.3))

@@ -45,7 +45,7 @@ pub struct Map<S: Store> {
     stored: S,
     // Names what keys, values and allocator may borrow, which the checker asks of a struct and `S` alone
     // does not.
-    lives: PhantomData<(S::Range, S::Value, S::Alloc)>,
+    borrows: PhantomData<(S::Range, S::Value, S::Alloc)>,
 }
 
 impl<S: Store> Model for Map<S> {
@@ -71,14 +71,14 @@ where
 impl<S: StoreMut> Map<S> {
     /// Returns the empty map over the steps of its kind, whose memory will come from `alloc`.
     ///
-    /// Of closed ranges these are the steps of `StepFnsT`. Half-open ranges have none, and `new` is the
-    /// word for them.
+    /// Over closed ranges the kind is `Closed<StepFnsT>`, and the steps are those of `StepFnsT`. Half-open
+    /// ranges need none: make them by `new`.
     pub fn new_with_step_fns(alloc: S::Alloc) -> Self
         ensures { result ≡ [] }
     {
         Map {
             stored: S::empty(alloc),
-            lives: PhantomData,
+            borrows: PhantomData,
         }
     }
 }

@@ -119,28 +119,28 @@ fn assert_each_may_be_refused<R: AllocGlobal + Abort>(
     Ok(())
 }
 
-/// Runs a script with the request refused that comes after `left` others, and compares how it ends
+/// Runs a script with the request refused that comes after `granted` others, and compares how it ends
 /// and what it prints. Returns the line at which the request fell, or none where there are no more
-/// than `left`.
+/// than `granted`.
 fn refused_line<R: AllocGlobal + Abort>(
     rt: &R,
     words: &[String],
     lines: &str,
     rows: &[Row],
-    left: u64,
+    granted: u64,
 ) -> Option<u64> {
-    let heap = Refusing::new(rt.alloc(), left);
+    let heap = Refusing::new(rt.alloc(), granted);
     let mut fetched = 0;
     let mut held = Vec::new(rt.alloc());
     let input = Lines::new(lines.as_bytes(), &mut fetched);
     let ended = run_in(&heap, rt.alloc(), words, input, &mut held);
-    assert_eq!(rt; heap.held(), 0, "{words:?}, request {left}");
+    assert_eq!(rt; heap.held(), 0, "{words:?}, request {granted}");
     if heap.has_refused() {
         let line = fetched;
         assert_eq!(rt;
             ended,
             Err(Cause::Memory.at(line)),
-            "{words:?}, request {left}"
+            "{words:?}, request {granted}"
         );
         assert!(rt; are_answers(&held, rows, line.saturating_sub(1) as usize));
         Some(line)

@@ -63,59 +63,63 @@ impl Tried for Natives {
 
     ghost clones_are_faithful = { ⊤ };
 
-    fn is_accepted(heap: &Heap, alloc: Global, row: &Row<'_>, left: u64) -> Answer {
+    fn is_accepted(heap: &Heap, alloc: Global, row: &Row<'_>, granted: u64) -> Answer {
         let is_accepted = match row.call {
-            "replay maps by steps" => steps::try_maps(heap, row, left),
-            "replay sets by steps" => steps::try_sets(heap, row, left),
-            "replay chunked maps by steps" => steps::try_chunked_maps(heap, row, left),
-            "replay chunked sets by steps" => steps::try_chunked_sets(heap, row, left),
-            "map to texts from" => arrays::try_texts(heap, row, left),
-            "map from" => arrays::try_half_open_map(heap, row, left),
-            "inclusive map from" => arrays::try_map(heap, row, left),
-            "tree from" => arrays::try_tree(heap, row, left),
-            "set from" => arrays::try_set(heap, row, left),
-            "inclusive set from" => arrays::try_inclusive_set(heap, row, left),
-            "tree set from" => arrays::try_tree_set(heap, row, left),
-            "chunked map from" => arrays::try_chunked_map(heap, row, left),
-            "chunked inclusive map from" => arrays::try_chunked_inclusive_map(heap, row, left),
-            "chunked set from" => arrays::try_chunked_set(heap, row, left),
-            "chunked inclusive set from" => arrays::try_chunked_inclusive_set(heap, row, left),
-            "macros" => return macros::try_lists(heap, row, left),
-            "read map" => json::try_map::<Numbers<'_, u32>>(heap, alloc, row, left),
+            "replay maps by steps" => steps::try_maps(heap, row, granted),
+            "replay sets by steps" => steps::try_sets(heap, row, granted),
+            "replay chunked maps by steps" => steps::try_chunked_maps(heap, row, granted),
+            "replay chunked sets by steps" => steps::try_chunked_sets(heap, row, granted),
+            "map to texts from" => arrays::try_texts(heap, row, granted),
+            "map from" => arrays::try_half_open_map(heap, row, granted),
+            "inclusive map from" => arrays::try_map(heap, row, granted),
+            "tree from" => arrays::try_tree(heap, row, granted),
+            "set from" => arrays::try_set(heap, row, granted),
+            "inclusive set from" => arrays::try_inclusive_set(heap, row, granted),
+            "tree set from" => arrays::try_tree_set(heap, row, granted),
+            "chunked map from" => arrays::try_chunked_map(heap, row, granted),
+            "chunked inclusive map from" => arrays::try_chunked_inclusive_map(heap, row, granted),
+            "chunked set from" => arrays::try_chunked_set(heap, row, granted),
+            "chunked inclusive set from" => arrays::try_chunked_inclusive_set(heap, row, granted),
+            "macros" => return macros::try_lists(heap, row, granted),
+            "read map" => json::try_map::<Numbers<'_, u32>>(heap, alloc, row, granted),
             "read inclusive map" => {
-                json::try_map::<ClosedNumbers<'_, u32>>(heap, alloc, row, left)
+                json::try_map::<ClosedNumbers<'_, u32>>(heap, alloc, row, granted)
             }
-            "read tree" => json::try_map::<Tree<u32, u32, &Heap>>(heap, alloc, row, left),
-            "read set" => json::try_set::<Numbers<'_, ()>>(heap, alloc, row, left),
+            "read tree" => json::try_map::<Tree<u32, u32, &Heap>>(heap, alloc, row, granted),
+            "read set" => json::try_set::<Numbers<'_, ()>>(heap, alloc, row, granted),
             "read inclusive set" => {
-                json::try_set::<ClosedNumbers<'_, ()>>(heap, alloc, row, left)
+                json::try_set::<ClosedNumbers<'_, ()>>(heap, alloc, row, granted)
             }
-            "read tree set" => json::try_set::<Tree<u32, (), &Heap>>(heap, alloc, row, left),
+            "read tree set" => json::try_set::<Tree<u32, (), &Heap>>(heap, alloc, row, granted),
             "read chunked map" => {
-                json::try_map::<ChunkedNumbers<'_, u32>>(heap, alloc, row, left)
+                json::try_map::<ChunkedNumbers<'_, u32>>(heap, alloc, row, granted)
             }
-            "read chunked set" => json::try_set::<ChunkedNumbers<'_, ()>>(heap, alloc, row, left),
+            "read chunked set" => json::try_set::<ChunkedNumbers<'_, ()>>(
+                heap, alloc, row, granted,
+            ),
             "read chunked inclusive map" => {
-                json::try_map::<ChunkedClosedNumbers<'_, u32>>(heap, alloc, row, left)
+                json::try_map::<ChunkedClosedNumbers<'_, u32>>(heap, alloc, row, granted)
             }
             "read chunked inclusive set" => {
-                json::try_set::<ChunkedClosedNumbers<'_, ()>>(heap, alloc, row, left)
+                json::try_set::<ChunkedClosedNumbers<'_, ()>>(heap, alloc, row, granted)
             }
-            "read costly parts" => json::try_costly_inclusive_map(heap, alloc, row, left),
-            "read costly map" => json::try_costly_map(heap, alloc, row, left),
-            "read costly tree" => json::try_costly_tree(heap, alloc, row, left),
-            "read costly set" => json::try_costly_set(heap, alloc, row, left),
-            "read costly inclusive set" => json::try_costly_inclusive_set(heap, alloc, row, left),
-            _ => try_replay(heap, row, left),
+            "read costly parts" => json::try_costly_inclusive_map(heap, alloc, row, granted),
+            "read costly map" => json::try_costly_map(heap, alloc, row, granted),
+            "read costly tree" => json::try_costly_tree(heap, alloc, row, granted),
+            "read costly set" => json::try_costly_set(heap, alloc, row, granted),
+            "read costly inclusive set" => json::try_costly_inclusive_set(
+                heap, alloc, row, granted,
+            ),
+            _ => try_replay(heap, row, granted),
         }?;
-        row.end_refusal(heap, left)?;
+        row.end_refusal(heap, granted)?;
         Ok(is_accepted)
     }
 }
 
 /// Tries a replay of any calls.
-fn try_replay(heap: &Heap, row: &Row<'_>, left: u64) -> Answer {
-    let asked = Asked::Tried(heap, heap, row, left);
+fn try_replay(heap: &Heap, row: &Row<'_>, granted: u64) -> Answer {
+    let asked = Asked::Tried(heap, heap, row, granted);
     match row.call {
         "replay maps" => InVector::<HalfOpen, Range<u32>, char>::answer(asked),
         "replay inclusive maps" => InVector::<Closed<u8>, RangeInclusive<u8>, bool>::answer(asked),

@@ -33,10 +33,10 @@ impl<
 
     ghost clones_are_faithful = { KeysCloneFaithfully R.Key.is_clone R.Key.cmp × ValuesCloneFaithfully V.is_clone V.eq };
 
-    fn is_accepted(heap: &Heap, alloc: &'a Heap, row: &Row<'_>, left: u64) -> Answer {
-        match try_or_make::<Map<SortedVec<Q, R, V, &'a Heap>>>(heap, alloc, row, left)? {
+    fn is_accepted(heap: &Heap, alloc: &'a Heap, row: &Row<'_>, granted: u64) -> Answer {
+        match try_or_make::<Map<SortedVec<Q, R, V, &'a Heap>>>(heap, alloc, row, granted)? {
             Step::Tried(is_accepted) => Ok(is_accepted),
-            Step::Asks(map, outer) => try_gaps(heap, &map, &outer, row, left),
+            Step::Asks(map, outer) => try_gaps(heap, &map, &outer, row, granted),
         }
     }
 }
@@ -54,10 +54,10 @@ impl<
 
     ghost clones_are_faithful = { KeysCloneFaithfully R.Key.is_clone R.Key.cmp × ValuesCloneFaithfully V.is_clone V.eq };
 
-    fn is_accepted(heap: &Heap, alloc: &'a Heap, row: &Row<'_>, left: u64) -> Answer {
-        match try_or_make::<Map<Chunks<Q, R, V, &'a Heap, N>>>(heap, alloc, row, left)? {
+    fn is_accepted(heap: &Heap, alloc: &'a Heap, row: &Row<'_>, granted: u64) -> Answer {
+        match try_or_make::<Map<Chunks<Q, R, V, &'a Heap, N>>>(heap, alloc, row, granted)? {
             Step::Tried(is_accepted) => Ok(is_accepted),
-            Step::Asks(map, outer) => try_gaps(heap, &map, &outer, row, left),
+            Step::Asks(map, outer) => try_gaps(heap, &map, &outer, row, granted),
         }
     }
 }
@@ -70,10 +70,10 @@ impl<'a, K: Ord + Clone + Word<&'a Heap>, V: Eq + Clone + Word<&'a Heap>> Tried
 
     ghost clones_are_faithful = { KeysCloneFaithfully K.is_clone K.cmp × ValuesCloneFaithfully V.is_clone V.eq };
 
-    fn is_accepted(heap: &Heap, alloc: &'a Heap, row: &Row<'_>, left: u64) -> Answer {
-        match try_or_make::<Map<Tree<K, V, &'a Heap>>>(heap, alloc, row, left)? {
+    fn is_accepted(heap: &Heap, alloc: &'a Heap, row: &Row<'_>, granted: u64) -> Answer {
+        match try_or_make::<Map<Tree<K, V, &'a Heap>>>(heap, alloc, row, granted)? {
             Step::Tried(is_accepted) => Ok(is_accepted),
-            Step::Asks(map, outer) => try_gaps(heap, &map, &outer, row, left),
+            Step::Asks(map, outer) => try_gaps(heap, &map, &outer, row, granted),
         }
     }
 }
@@ -91,7 +91,7 @@ fn try_or_make<M: InRows + OwnCalls>(
     heap: &Heap,
     alloc: M::Alloc,
     row: &Row<'_>,
-    left: u64,
+    granted: u64,
 ) -> Result<Step<M, M::Range>, Fail>
     requires faithful_keys { KeysCloneFaithfully M.Range.Key.is_clone M.Range.Key.cmp }
     requires faithful_values { ValuesCloneFaithfully M.Value.is_clone M.Value.eq }
@@ -102,12 +102,12 @@ fn try_or_make<M: InRows + OwnCalls>(
         return Ok(Step::Asks(map, outer));
     }
     let is_accepted = match name {
-        "extend" => try_makers::<M>(heap, alloc, row, left),
-        "append" => try_appends::<M>(heap, alloc, row, left),
-        "collect_gaps" => try_collect_gaps::<M>(heap, alloc, row, left),
-        "segments" => try_segments::<M>(heap, alloc, row, left),
-        "run" => try_run::<M>(heap, alloc, row, left),
-        _ => try_call::<M>(heap, alloc, row, left),
+        "extend" => try_makers::<M>(heap, alloc, row, granted),
+        "append" => try_appends::<M>(heap, alloc, row, granted),
+        "collect_gaps" => try_collect_gaps::<M>(heap, alloc, row, granted),
+        "segments" => try_segments::<M>(heap, alloc, row, granted),
+        "run" => try_run::<M>(heap, alloc, row, granted),
+        _ => try_call::<M>(heap, alloc, row, granted),
     };
     Ok(Step::Tried(is_accepted?))
 }
@@ -118,12 +118,12 @@ fn try_gaps<'a, S>(
     map: &'a Map<S>,
     outer: &'a S::Range,
     row: &Row<'_>,
-    left: u64,
+    granted: u64,
 ) -> Answer
 where
     S: Lends<'a, Range: 'a + KeyRange<Key: Word<S::Alloc>>, Value: 'a>,
     requires { KeysCloneFaithfully S.Range.Key.is_clone S.Range.Key.cmp }
 {
     let gaps = (map.gaps(outer), map.gaps(outer));
-    try_both::<S::Range, S::Alloc, _>(heap, gaps, row, left)
+    try_both::<S::Range, S::Alloc, _>(heap, gaps, row, granted)
 }

@@ -30,11 +30,11 @@ impl<'a, Q: Kind<R, Steps = R::Key>, R: FromEnds<Key: Word<&'a Heap>>> Tried
 
     ghost clones_are_faithful = { KeysCloneFaithfully R.Key.is_clone R.Key.cmp };
 
-    fn is_accepted(heap: &Heap, alloc: &'a Heap, row: &Row<'_>, left: u64) -> Answer {
-        match try_or_make::<Set<SortedVec<Q, R, (), &'a Heap>>>(heap, alloc, row, left)? {
+    fn is_accepted(heap: &Heap, alloc: &'a Heap, row: &Row<'_>, granted: u64) -> Answer {
+        match try_or_make::<Set<SortedVec<Q, R, (), &'a Heap>>>(heap, alloc, row, granted)? {
             Step::Tried(is_accepted) => Ok(is_accepted),
-            Step::Gaps(set, other) => try_gaps(heap, &set, &other, row, left),
-            Step::Joins(one, other) => try_joined(heap, &one, &other, row, left),
+            Step::Gaps(set, other) => try_gaps(heap, &set, &other, row, granted),
+            Step::Joins(one, other) => try_joined(heap, &one, &other, row, granted),
         }
     }
 }
@@ -47,11 +47,11 @@ impl<'a, Q: Kind<R, Steps = R::Key>, R: FromEnds<Key: Word<&'a Heap>>, const N: 
 
     ghost clones_are_faithful = { KeysCloneFaithfully R.Key.is_clone R.Key.cmp };
 
-    fn is_accepted(heap: &Heap, alloc: &'a Heap, row: &Row<'_>, left: u64) -> Answer {
-        match try_or_make::<Set<Chunks<Q, R, (), &'a Heap, N>>>(heap, alloc, row, left)? {
+    fn is_accepted(heap: &Heap, alloc: &'a Heap, row: &Row<'_>, granted: u64) -> Answer {
+        match try_or_make::<Set<Chunks<Q, R, (), &'a Heap, N>>>(heap, alloc, row, granted)? {
             Step::Tried(is_accepted) => Ok(is_accepted),
-            Step::Gaps(set, other) => try_gaps(heap, &set, &other, row, left),
-            Step::Joins(one, other) => try_joined(heap, &one, &other, row, left),
+            Step::Gaps(set, other) => try_gaps(heap, &set, &other, row, granted),
+            Step::Joins(one, other) => try_joined(heap, &one, &other, row, granted),
         }
     }
 }
@@ -63,11 +63,11 @@ impl<'a, T: Ord + Clone + Word<&'a Heap>> Tried for Sets<Tree<T, (), &'a Heap>> 
 
     ghost clones_are_faithful = { KeysCloneFaithfully T.is_clone T.cmp };
 
-    fn is_accepted(heap: &Heap, alloc: &'a Heap, row: &Row<'_>, left: u64) -> Answer {
-        match try_or_make::<Set<Tree<T, (), &'a Heap>>>(heap, alloc, row, left)? {
+    fn is_accepted(heap: &Heap, alloc: &'a Heap, row: &Row<'_>, granted: u64) -> Answer {
+        match try_or_make::<Set<Tree<T, (), &'a Heap>>>(heap, alloc, row, granted)? {
             Step::Tried(is_accepted) => Ok(is_accepted),
-            Step::Gaps(set, other) => try_gaps(heap, &set, &other, row, left),
-            Step::Joins(one, other) => try_joined(heap, &one, &other, row, left),
+            Step::Gaps(set, other) => try_gaps(heap, &set, &other, row, granted),
+            Step::Joins(one, other) => try_joined(heap, &one, &other, row, granted),
         }
     }
 }
@@ -87,7 +87,7 @@ fn try_or_make<S: InRows<Value = ()> + OwnCalls>(
     heap: &Heap,
     alloc: S::Alloc,
     row: &Row<'_>,
-    left: u64,
+    granted: u64,
 ) -> Result<Step<S>, Fail>
     requires { KeysCloneFaithfully S.Range.Key.is_clone S.Range.Key.cmp }
 {
@@ -97,12 +97,12 @@ fn try_or_make<S: InRows<Value = ()> + OwnCalls>(
             let one = made_of(alloc, row.given)?;
             Ok(Step::Joins(one, made_of(alloc, other)?))
         }
-        ("extend", _) => Ok(Step::Tried(try_makers::<S>(heap, alloc, row, left)?)),
-        ("append", _) => Ok(Step::Tried(try_appends::<S>(heap, alloc, row, left)?)),
-        ("collect_gaps", _) => Ok(Step::Tried(try_collect_gaps::<S>(heap, alloc, row, left)?)),
-        ("segments", _) => Ok(Step::Tried(try_segments::<S>(heap, alloc, row, left)?)),
-        ("grow", _) => Ok(Step::Tried(try_growths::<S>(heap, alloc, row, left)?)),
-        _ => Ok(Step::Tried(try_call::<S>(heap, alloc, row, left)?)),
+        ("extend", _) => Ok(Step::Tried(try_makers::<S>(heap, alloc, row, granted)?)),
+        ("append", _) => Ok(Step::Tried(try_appends::<S>(heap, alloc, row, granted)?)),
+        ("collect_gaps", _) => Ok(Step::Tried(try_collect_gaps::<S>(heap, alloc, row, granted)?)),
+        ("segments", _) => Ok(Step::Tried(try_segments::<S>(heap, alloc, row, granted)?)),
+        ("grow", _) => Ok(Step::Tried(try_growths::<S>(heap, alloc, row, granted)?)),
+        _ => Ok(Step::Tried(try_call::<S>(heap, alloc, row, granted)?)),
     }
 }
 
@@ -112,7 +112,7 @@ fn try_gaps<'a, S>(
     set: &'a Set<S>,
     other: &'a Set<S>,
     row: &Row<'_>,
-    left: u64,
+    granted: u64,
 ) -> Answer
 where
     S: Lends<'a, Range: 'a + KeyRange<Key: Word<S::Alloc>>, Value = ()>,
@@ -120,7 +120,7 @@ where
 {
     let outer = other.first().ok_or("gaps are asked for in a range")?;
     let gaps = (set.gaps(outer), set.gaps(outer));
-    try_both::<S::Range, S::Alloc, _>(heap, gaps, row, left)
+    try_both::<S::Range, S::Alloc, _>(heap, gaps, row, granted)
 }
 
 /// Puts two sets together.
@@ -129,7 +129,7 @@ fn try_joined<'a, S>(
     one: &'a Set<S>,
     other: &'a Set<S>,
     row: &Row<'_>,
-    left: u64,
+    granted: u64,
 ) -> Answer
 where
     S: Lends<'a, Value = (), Iter: Peek> + StoreMut<Alloc: Copy> + Drop,
@@ -141,22 +141,22 @@ where
     match first_word(row.call).0 {
         "union" => {
             let items = (one.union(other), one.union(other));
-            try_both::<S::Range, S::Alloc, _>(heap, items, row, left)
+            try_both::<S::Range, S::Alloc, _>(heap, items, row, granted)
         }
         "intersection" => {
             let items = (one.intersection(other), one.intersection(other));
-            try_both::<S::Range, S::Alloc, _>(heap, items, row, left)
+            try_both::<S::Range, S::Alloc, _>(heap, items, row, granted)
         }
         "or" => {
-            heap.refuse_after(left);
+            heap.refuse_after(granted);
             let made = one | other;
-            row.end_refusal(heap, left)?;
+            row.end_refusal(heap, granted)?;
             is_made(made, row.outcome)
         }
         "and" => {
-            heap.refuse_after(left);
+            heap.refuse_after(granted);
             let made = one & other;
-            row.end_refusal(heap, left)?;
+            row.end_refusal(heap, granted)?;
             is_made(made, row.outcome)
         }
         _ => Err(Fail::new("a call is unknown")),

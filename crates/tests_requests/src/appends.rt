@@ -12,13 +12,13 @@ use tests_support::{
 /// Tries to append the pairs that a query overlaps, or `all`, or the `gaps` in a range. The call names
 /// the query, or the word `gaps` and the range, and behind it the items of the list that they are
 /// appended to, with a plus between them. Where the clones were refused the list is as before.
-pub fn try_appends<M: InRows>(heap: &Heap, alloc: M::Alloc, row: &Row<'_>, left: u64) -> Answer
+pub fn try_appends<M: InRows>(heap: &Heap, alloc: M::Alloc, row: &Row<'_>, granted: u64) -> Answer
     requires faithful_keys { KeysCloneFaithfully M.Range.Key.is_clone M.Range.Key.cmp }
     requires faithful_values { ValuesCloneFaithfully M.Value.is_clone M.Value.eq }
 {
     match first_word(first_word(row.call).1) {
-        ("gaps", operands) => try_gaps::<M>(heap, alloc, operands, row, left),
-        (query, list) => try_pairs::<M>(heap, alloc, (query, list), row, left),
+        ("gaps", operands) => try_gaps::<M>(heap, alloc, operands, row, granted),
+        (query, list) => try_pairs::<M>(heap, alloc, (query, list), row, granted),
     }
 }
 
@@ -28,7 +28,7 @@ fn try_pairs<M: InRows>(
     alloc: M::Alloc,
     operands: (&str, &str),
     row: &Row<'_>,
-    left: u64,
+    granted: u64,
 ) -> Answer
     requires faithful_keys { KeysCloneFaithfully M.Range.Key.is_clone M.Range.Key.cmp }
     requires faithful_values { ValuesCloneFaithfully M.Value.is_clone M.Value.eq }
@@ -37,14 +37,14 @@ fn try_pairs<M: InRows>(
     let map: M = made_of(alloc, row.given)?;
     let mut pairs = pairs_of::<M::Kind, M::Range, M::Value, M::Alloc>(alloc, list)?;
     let is_appended = if query == "all" {
-        heap.refuse_after(left);
+        heap.refuse_after(granted);
         map.append_all(&mut pairs).is_ok()
     } else {
         let query = range_of::<M::Kind, M::Range, M::Alloc>(alloc, query)?;
-        heap.refuse_after(left);
+        heap.refuse_after(granted);
         map.append_overlapping(&query, &mut pairs).is_ok()
     };
-    row.end_refusal(heap, left)?;
+    row.end_refusal(heap, granted)?;
     let (expected, separator) = expected(row, list, is_appended);
     check_that(
         are_pairs::<M>(pairs.as_slice(), expected, separator),
@@ -60,7 +60,7 @@ fn try_gaps<M: InRows>(
     alloc: M::Alloc,
     operands: &str,
     row: &Row<'_>,
-    left: u64,
+    granted: u64,
 ) -> Answer
     requires faithful_keys { KeysCloneFaithfully M.Range.Key.is_clone M.Range.Key.cmp }
     requires faithful_values { ValuesCloneFaithfully M.Value.is_clone M.Value.eq }
@@ -68,9 +68,9 @@ fn try_gaps<M: InRows>(
     let (outer_range, list) = first_word(operands);
     let (map, outer_range) = with_range::<M>(alloc, row.given, outer_range)?;
     let mut ranges = ranges_of::<M::Kind, M::Range, M::Alloc>(alloc, list)?;
-    heap.refuse_after(left);
+    heap.refuse_after(granted);
     let is_appended = map.append_gaps(&outer_range, &mut ranges).is_ok();
-    row.end_refusal(heap, left)?;
+    row.end_refusal(heap, granted)?;
     let (expected, separator) = expected(row, list, is_appended);
     check_that(
         are_ranges::<M::Range, M::Alloc>(ranges.as_slice(), expected, separator),

@@ -8,23 +8,29 @@ use std::alloc::AllocError;
 use std::test::Fail;
 use tests_support::{Heap, InRows, check_row, check_that, made_of, make, read_change};
 
-/// Tries the call of a row, whose request that comes after `left` others is refused. One that is
+/// Tries the call of a row, whose request that comes after `granted` others is refused. One that is
 /// refused leaves what was stored, in as many blocks, and is accepted with memory.
-pub fn try_call<M: InRows>(heap: &Heap, alloc: M::Alloc, row: &Row<'_>, left: u64) -> Answer
+pub fn try_call<M: InRows>(heap: &Heap, alloc: M::Alloc, row: &Row<'_>, granted: u64) -> Answer
     requires faithful_keys { KeysCloneFaithfully M.Range.Key.is_clone M.Range.Key.cmp }
     requires faithful_values { ValuesCloneFaithfully M.Value.is_clone M.Value.eq }
 {
     let mut map: M = made_of(alloc, row.given)?;
-    try_on(heap, alloc, &mut map, row, left)
+    try_on(heap, alloc, &mut map, row, granted)
 }
 
 /// Tries the call on a container that holds what the row has.
-fn try_on<M: InRows>(heap: &Heap, alloc: M::Alloc, map: &mut M, row: &Row<'_>, left: u64) -> Answer
+fn try_on<M: InRows>(
+    heap: &Heap,
+    alloc: M::Alloc,
+    map: &mut M,
+    row: &Row<'_>,
+    granted: u64,
+) -> Answer
     requires faithful_keys { KeysCloneFaithfully M.Range.Key.is_clone M.Range.Key.cmp }
     requires faithful_values { ValuesCloneFaithfully M.Value.is_clone M.Value.eq }
 {
     let held = heap.held();
-    let is_accepted = call_until(heap, alloc, map, row, left)?;
+    let is_accepted = call_until(heap, alloc, map, row, granted)?;
     if !is_accepted {
         check_that(heap.held() == held, "a refused call keeps a block")?;
         check_row(map, row.given)?;
@@ -34,27 +40,27 @@ fn try_on<M: InRows>(heap: &Heap, alloc: M::Alloc, map: &mut M, row: &Row<'_>, l
     Ok(is_accepted)
 }
 
-/// Makes the call of a row. Once it has what it is to be given, the request that comes after `left`
+/// Makes the call of a row. Once it has what it is to be given, the request that comes after `granted`
 /// others is refused.
 fn call_until<M: InRows>(
     heap: &Heap,
     alloc: M::Alloc,
     map: &mut M,
     row: &Row<'_>,
-    left: u64,
+    granted: u64,
 ) -> Answer
     requires faithful_keys { KeysCloneFaithfully M.Range.Key.is_clone M.Range.Key.cmp }
     requires faithful_values { ValuesCloneFaithfully M.Value.is_clone M.Value.eq }
 {
     let change = read_change::<M::Kind, M::Range, M::Value, M::Alloc>(alloc, 0, row.call)?;
-    heap.refuse_after(left);
+    heap.refuse_after(granted);
     let is_accepted = match change {
         Change::Insert { range, value, .. } => map.insert(range, value).is_ok(),
         Change::Remove { range, .. } => map.remove(range).is_ok(),
         Change::Clone { .. } => is_made(map.clone(), row.outcome)?,
         Change::New | Change::Clear { .. } => return Err(Fail::new("a call takes no memory")),
     };
-    row.end_refusal(heap, left)?;
+    row.end_refusal(heap, granted)?;
     Ok(is_accepted)
 }
 

@@ -19,14 +19,19 @@ use tests_support::{
 const NONE: &str = "none";
 
 /// Tries to collect the gaps in the range that the call names.
-pub fn try_collect_gaps<M: InRows>(heap: &Heap, alloc: M::Alloc, row: &Row<'_>, left: u64) -> Answer
+pub fn try_collect_gaps<M: InRows>(
+    heap: &Heap,
+    alloc: M::Alloc,
+    row: &Row<'_>,
+    granted: u64,
+) -> Answer
     requires faithful_keys { KeysCloneFaithfully M.Range.Key.is_clone M.Range.Key.cmp }
     requires faithful_values { ValuesCloneFaithfully M.Value.is_clone M.Value.eq }
 {
     let (map, outer_range) = with_range::<M>(alloc, row.given, first_word(row.call).1)?;
-    heap.refuse_after(left);
+    heap.refuse_after(granted);
     let collected = collect_gaps(alloc, &map, &outer_range);
-    row.end_refusal(heap, left)?;
+    row.end_refusal(heap, granted)?;
     match collected {
         Ok(gaps) => {
             check_that(
@@ -41,14 +46,14 @@ pub fn try_collect_gaps<M: InRows>(heap: &Heap, alloc: M::Alloc, row: &Row<'_>, 
 
 /// Tries to divide the range that the call names into segments, each with its value, or with the word
 /// `none` in the row.
-pub fn try_segments<M: InRows>(heap: &Heap, alloc: M::Alloc, row: &Row<'_>, left: u64) -> Answer
+pub fn try_segments<M: InRows>(heap: &Heap, alloc: M::Alloc, row: &Row<'_>, granted: u64) -> Answer
     requires faithful_keys { KeysCloneFaithfully M.Range.Key.is_clone M.Range.Key.cmp }
     requires faithful_values { ValuesCloneFaithfully M.Value.is_clone M.Value.eq }
 {
     let (map, query) = with_range::<M>(alloc, row.given, first_word(row.call).1)?;
-    heap.refuse_after(left);
+    heap.refuse_after(granted);
     let divided = segments(alloc, &map, &query);
-    row.end_refusal(heap, left)?;
+    row.end_refusal(heap, granted)?;
     match divided {
         Ok(segments) => {
             check_that(

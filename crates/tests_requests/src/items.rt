@@ -8,7 +8,7 @@ use tests_support::{Heap, Tries, Word, check_that, is_range};
 /// Tries to ask for the two items that a row has, by `try_next` and, of the same items again, by
 /// `next`, which clone alike. The row counts the requests of the first item, and behind these those
 /// of the second. Answers whether the first came at once.
-pub fn try_both<R, A, I>(heap: &Heap, items: (I, I), row: &Row<'_>, left: u64) -> Answer
+pub fn try_both<R, A, I>(heap: &Heap, items: (I, I), row: &Row<'_>, granted: u64) -> Answer
 where
     R: KeyRange<Key: Word<A>>,
     A: Drop,
@@ -16,9 +16,9 @@ where
     requires { (it : I) → I.can_next it }
 {
     let (mut tried, mut taken) = items;
-    let expected = (row.requests <= left, row.all() <= left);
-    let are_tried = try_items::<R, A, I>(heap, &mut tried, row, left);
-    let are_taken = take_items::<R, A, I>(heap, &mut taken, row, left);
+    let expected = (row.requests <= granted, row.all() <= granted);
+    let are_tried = try_items::<R, A, I>(heap, &mut tried, row, granted);
+    let are_taken = take_items::<R, A, I>(heap, &mut taken, row, granted);
     check_that(
         are_tried == Some(expected) && are_taken == are_tried,
         "the items are others, or their requests",
@@ -28,7 +28,12 @@ where
 
 /// Whether the first item comes by `try_next` at once, and whether both do. One that is refused can
 /// be asked for again. `None` says that the items are others, or their requests.
-fn try_items<R, A, I>(heap: &Heap, items: &mut I, row: &Row<'_>, left: u64) -> Option<(bool, bool)>
+fn try_items<R, A, I>(
+    heap: &Heap,
+    items: &mut I,
+    row: &Row<'_>,
+    granted: u64,
+) -> Option<(bool, bool)>
 where
     R: KeyRange<Key: Word<A>>,
     A: Drop,
@@ -36,11 +41,11 @@ where
     requires { I.can_next items.old }
 {
     let (first, second) = row.outcome.split_once(", ")?;
-    heap.refuse_after(left);
+    heap.refuse_after(granted);
     let is_first = is_at_once::<R, A, I>(items, first)?;
     let is_second = is_at_once::<R, A, I>(items, second)?;
     let is_over = is_next::<R, A, I>(items, "");
-    if row.has_as_many(heap, left) && is_over {
+    if row.has_as_many(heap, granted) && is_over {
         Some((is_first, is_first && is_second))
     } else {
         None
@@ -65,7 +70,12 @@ fn is_at_once<R: KeyRange<Key: Word<A>>, A: Drop, I: Tries<Range = R>>(
 
 /// Whether the first item comes by `next`, and whether both do. One that is refused says so, and no
 /// item comes after that. `None` says that the items are others, or their requests.
-fn take_items<R, A, I>(heap: &Heap, items: &mut I, row: &Row<'_>, left: u64) -> Option<(bool, bool)>
+fn take_items<R, A, I>(
+    heap: &Heap,
+    items: &mut I,
+    row: &Row<'_>,
+    granted: u64,
+) -> Option<(bool, bool)>
 where
     R: KeyRange<Key: Word<A>>,
     A: Drop,
@@ -73,11 +83,11 @@ where
     requires { (it : I) → I.can_next it }
 {
     let (first, second) = row.outcome.split_once(", ")?;
-    heap.refuse_after(left);
+    heap.refuse_after(granted);
     let is_first = is_taken::<R, A, I>(items, first)?;
     let is_second = is_first && is_taken::<R, A, I>(items, second)?;
     let is_over = items.next().is_none() && is_next::<R, A, I>(items, "");
-    if row.has_as_many(heap, left) && is_over {
+    if row.has_as_many(heap, granted) && is_over {
         Some((is_first, is_second))
     } else {
         None

@@ -36,20 +36,20 @@ pub fn two_pairs<Q: Kind<R>, R: KeyRange<Key: Word<A>>, V: Word<A>, A: Allocator
     Ok((first, pair_of::<Q, R, V, A>(alloc, second)?))
 }
 
-/// Inserts the pairs into an empty container, until the request is refused that comes after `left`
+/// Inserts the pairs into an empty container, until the request is refused that comes after `granted`
 /// others. Tells whether all were inserted. The caller ends the refusal.
 fn insert_until<M: InRows>(
     heap: &Heap,
     alloc: M::Alloc,
     pairs: Vec<(M::Range, M::Value), M::Alloc>,
-    left: u64,
+    granted: u64,
 ) -> (M, bool)
     requires non_empty { AreNonEmpty M.Kind.kind pairs.items }
     requires faithful_keys { KeysCloneFaithfully M.Range.Key.is_clone M.Range.Key.cmp }
     requires faithful_values { ValuesCloneFaithfully M.Value.is_clone M.Value.eq }
 {
     let mut map = M::new_with_step_fns(alloc);
-    heap.refuse_after(left);
+    heap.refuse_after(granted);
     let answer = insert_pairs(&mut map, pairs);
     (map, answer.is_ok())
 }
@@ -59,31 +59,31 @@ fn extend_until<M: OwnCalls>(
     heap: &Heap,
     alloc: M::Alloc,
     items: Vec<M::Item, M::Alloc>,
-    left: u64,
+    granted: u64,
 ) -> (M, bool)
     requires non_empty { AllByRecursion M.takes items.items }
     requires faithful_keys { KeysCloneFaithfully M.Range.Key.is_clone M.Range.Key.cmp }
     requires faithful_values { ValuesCloneFaithfully M.Value.is_clone M.Value.eq }
 {
     let mut map = M::new(alloc);
-    heap.refuse_after(left);
+    heap.refuse_after(granted);
     let answer = extend_by(&mut map, items);
     (map, answer.is_ok())
 }
 
-/// Makes a container of the items by `from_iter`, unless the request that comes after `left` others
+/// Makes a container of the items by `from_iter`, unless the request that comes after `granted` others
 /// is made, which is refused.
 fn collect_until<M: OwnCalls>(
     heap: &Heap,
     alloc: M::Alloc,
     items: Vec<M::Item, M::Alloc>,
-    left: u64,
+    granted: u64,
 ) -> Result<M, AllocError>
     requires non_empty { AllByRecursion M.takes items.items }
     requires faithful_keys { KeysCloneFaithfully M.Range.Key.is_clone M.Range.Key.cmp }
     requires faithful_values { ValuesCloneFaithfully M.Value.is_clone M.Value.eq }
 {
-    heap.refuse_after(left);
+    heap.refuse_after(granted);
     made_from(alloc, items)
 }
 
@@ -103,7 +103,7 @@ pub fn try_makers<M: InRows + OwnCalls>(
     heap: &Heap,
     alloc: M::Alloc,
     row: &Row<'_>,
-    left: u64,
+    granted: u64,
 ) -> Answer
     requires faithful_keys { KeysCloneFaithfully M.Range.Key.is_clone M.Range.Key.cmp }
     requires faithful_values { ValuesCloneFaithfully M.Value.is_clone M.Value.eq }
@@ -112,14 +112,14 @@ pub fn try_makers<M: InRows + OwnCalls>(
         heap,
         alloc,
         pairs_of::<M::Kind, M::Range, M::Value, M::Alloc>(alloc, row.given)?,
-        left,
+        granted,
     );
-    row.end_refusal(heap, left)?;
-    let extended = extend_until::<M>(heap, alloc, items_of::<M>(alloc, row.given)?, left);
-    row.end_refusal(heap, left)?;
-    let made = collect_until::<M>(heap, alloc, items_of::<M>(alloc, row.given)?, left);
-    row.end_refusal(heap, left)?;
-    check_kept(inserted, extended, made, kept(row.outcome, left)?)
+    row.end_refusal(heap, granted)?;
+    let extended = extend_until::<M>(heap, alloc, items_of::<M>(alloc, row.given)?, granted);
+    row.end_refusal(heap, granted)?;
+    let made = collect_until::<M>(heap, alloc, items_of::<M>(alloc, row.given)?, granted);
+    row.end_refusal(heap, granted)?;
+    check_kept(inserted, extended, made, kept(row.outcome, granted)?)
 }
 
 /// Compares what inserts and an `extend` kept, and what `from_iter` made, with a list. Answers

@@ -13,15 +13,15 @@ use tests_support::{Heap, InRows, changes_of, check_row, check_same, check_that,
 const LISTS: u64 = 3;
 
 /// Tries the replay of a row's calls that containers have over any steps.
-pub fn try_changes<M: InRows>(heap: &Heap, alloc: M::Alloc, row: &Row<'_>, left: u64) -> Answer
+pub fn try_changes<M: InRows>(heap: &Heap, alloc: M::Alloc, row: &Row<'_>, granted: u64) -> Answer
     requires faithful_keys { KeysCloneFaithfully M.Range.Key.is_clone M.Range.Key.cmp }
     requires faithful_values { ValuesCloneFaithfully M.Value.is_clone M.Value.eq }
 {
     let calls = changes_of::<M::Kind, M::Range, M::Value, M::Alloc>(alloc, row.given)?;
-    try_replay::<M, _>(heap, alloc, calls, row, left)
+    try_replay::<M, _>(heap, alloc, calls, row, granted)
 }
 
-/// Tries to replay calls from no container on, where the request that comes after `left` others is
+/// Tries to replay calls from no container on, where the request that comes after `granted` others is
 /// refused. The caller ends the refusal.
 ///
 /// Of the calls that add a container those that were accepted have added one each; where all were, the
@@ -32,25 +32,25 @@ pub fn try_replay<M: InRows, C: CallOn<M>>(
     alloc: M::Alloc,
     calls: Vec<C, M::Alloc>,
     row: &Row<'_>,
-    left: u64,
+    granted: u64,
 ) -> Answer
     requires non_empty { AllByRecursion C.has_non_empty calls.items }
     requires faithful_keys { KeysCloneFaithfully M.Range.Key.is_clone M.Range.Key.cmp }
     requires faithful_values { ValuesCloneFaithfully M.Value.is_clone M.Value.eq }
 {
     let mut all: Vec<M, M::Alloc> = Vec::new(alloc);
-    heap.refuse_after(left);
+    heap.refuse_after(granted);
     match replay(alloc, &mut all, calls) {
-        Ok(answers) => check_left(answers.as_slice(), all.as_slice(), row, left),
+        Ok(answers) => check_left(answers.as_slice(), all.as_slice(), row, granted),
         Err(AllocError) => check_none(all.len()),
     }
 }
 
-/// Whether all calls were accepted. Shows that as many containers are left as accepted calls have
+/// Whether all calls were accepted. Shows that as many containers are granted as accepted calls have
 /// added, and that they hold what the row has where all were accepted.
-fn check_left<M: InRows>(answers: &[bool], all: &[M], row: &Row<'_>, left: u64) -> Answer {
+fn check_left<M: InRows>(answers: &[bool], all: &[M], row: &Row<'_>, granted: u64) -> Answer {
     let is_accepted = !answers.contains(&false);
-    check_that(left >= LISTS, "there was room without a list")?;
+    check_that(granted >= LISTS, "there was room without a list")?;
     check_that(
         all.len() == added(row.given, answers),
         "a refused call adds a container",

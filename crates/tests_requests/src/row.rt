@@ -44,25 +44,25 @@ impl<'t> Row<'t> {
     }
 
     /// Grants all requests from now on. Returns whether one was refused, of a call that makes more
-    /// than `left`, or none, of one that does not.
+    /// than `granted`, or none, of one that does not.
     ///
     /// So a request that a call does without is seen, too: one that the row does not count would be
     /// refused behind all others, and one that is not made would not be.
-    pub(crate) fn has_as_many(&self, heap: &Heap, left: u64) -> bool {
+    pub(crate) fn has_as_many(&self, heap: &Heap, granted: u64) -> bool {
         let has_refused = heap.has_refused();
         heap.refuse_after(MANY);
-        has_refused == (left < self.all())
+        has_refused == (granted < self.all())
     }
 
     /// Grants all requests from now on, once the call of the row was made, of which the request
-    /// that comes after `left` others was to be refused.
+    /// that comes after `granted` others was to be refused.
     ///
     /// # Errors
     ///
     /// The call made more requests than the row has, or fewer.
-    pub fn end_refusal(&self, heap: &Heap, left: u64) -> Result<(), Fail> {
+    pub fn end_refusal(&self, heap: &Heap, granted: u64) -> Result<(), Fail> {
         check_that(
-            self.has_as_many(heap, left),
+            self.has_as_many(heap, granted),
             format_args!("{} makes another number of requests", self.call),
         )
     }

@@ -52,25 +52,25 @@ fn commands<M: InRows>(
 
 /// Tries the run of these commands on an empty container, of two pairs that stand apart. The row has
 /// what it holds where all are accepted.
-pub fn try_run<M: InRows>(heap: &Heap, alloc: M::Alloc, row: &Row<'_>, left: u64) -> Answer
+pub fn try_run<M: InRows>(heap: &Heap, alloc: M::Alloc, row: &Row<'_>, granted: u64) -> Answer
     requires faithful_keys { KeysCloneFaithfully M.Range.Key.is_clone M.Range.Key.cmp }
     requires faithful_values { ValuesCloneFaithfully M.Value.is_clone M.Value.eq }
 {
     let mut map = M::new_with_step_fns(alloc);
     let (first, second) = two_pairs::<M::Kind, M::Range, M::Value, M::Alloc>(alloc, row.given)?;
     let commands = commands::<M>(alloc, first, second)?;
-    heap.refuse_after(left);
+    heap.refuse_after(granted);
     let answers = run(alloc, &mut map, commands);
-    row.end_refusal(heap, left)?;
+    row.end_refusal(heap, granted)?;
     match answers {
         Ok(answers) => {
-            let pairs = kept(row, left)?;
+            let pairs = kept(row, granted)?;
             check_row(&map, pairs)?;
-            are_accepted::<M>(answers.as_slice(), pairs, row, left)
+            are_accepted::<M>(answers.as_slice(), pairs, row, granted)
         }
         Err(AllocError) => {
             check_that(
-                (left, map.len()) == (0, 0),
+                (granted, map.len()) == (0, 0),
                 "a run without room makes a call",
             )?;
             Ok(false)
@@ -80,14 +80,14 @@ pub fn try_run<M: InRows>(heap: &Heap, alloc: M::Alloc, row: &Row<'_>, left: u64
 
 /// Whether so many requests are granted that the first insert is accepted: the list of all takes the
 /// last request, and that insert those before it.
-fn is_inserted(row: &Row<'_>, left: u64) -> bool {
-    row.requests.saturating_sub(1) <= left
+fn is_inserted(row: &Row<'_>, granted: u64) -> bool {
+    row.requests.saturating_sub(1) <= granted
 }
 
 /// The pairs that the container holds then: both, or the second alone.
-fn kept<'t>(row: &Row<'t>, left: u64) -> Result<&'t str, Fail> {
+fn kept<'t>(row: &Row<'t>, granted: u64) -> Result<&'t str, Fail> {
     let (_, second) = row.outcome.split_once(", ").ok_or("there are two pairs")?;
-    Ok(if is_inserted(row, left) {
+    Ok(if is_inserted(row, granted) {
         row.outcome
     } else {
         second
@@ -99,17 +99,17 @@ fn are_accepted<M: InRows>(
     answers: &[OutcomeOf<M>],
     pairs: &str,
     row: &Row<'_>,
-    left: u64,
+    granted: u64,
 ) -> Answer {
     let [first, second, third, last] = answers else {
         return Err(Fail::new("four commands have other answers"));
     };
-    let is_inserted = is_inserted(row, left);
+    let is_inserted = is_inserted(row, granted);
     let expected = if is_inserted { 2 } else { 1 };
     let is_counted = matches!(third, Ok(Answered::Len(len)) if *len == expected);
     let is_listed = is_listed::<M>(last, pairs)?;
     let accepted = (first.is_ok(), second.is_ok(), is_counted, is_listed);
-    let is_last_refused = left == row.requests.saturating_sub(1);
+    let is_last_refused = granted == row.requests.saturating_sub(1);
     check_that(
         accepted == (is_inserted, true, true, !is_last_refused),
         "a command answers otherwise",

@@ -18,7 +18,7 @@ pub trait Tried: Sized {
     /// That a clone of a key or a value equals its original.
     ghost clones_are_faithful: { Type 0 };
 
-    /// Tries the call of a row, whose request that comes after `left` others is refused. Answers
+    /// Tries the call of a row, whose request that comes after `granted` others is refused. Answers
     /// whether it was accepted. Each call that is made so ends its refusal by `Row::end_refusal`.
     ///
     /// Every container is asked to `insert`, to `remove` and to `clone`; for the `gaps` in a range,
@@ -29,7 +29,7 @@ pub trait Tried: Sized {
     /// what commands `run` on. Sets are put together with another by `union`, `intersection`, `or` and
     /// `and`, the first two of which have to give two items; and they `grow` by ranges that stand
     /// apart, of which they keep so many for each number of requests that are granted.
-    fn is_accepted(heap: &Heap, alloc: Self::Alloc, row: &Row<'_>, left: u64) -> Answer
+    fn is_accepted(heap: &Heap, alloc: Self::Alloc, row: &Row<'_>, granted: u64) -> Answer
         requires { clones_are_faithful };
 }
 
@@ -65,9 +65,9 @@ fn check_line<M: Tried>(heap: &Heap, alloc: M::Alloc, line: &str) -> Result<(), 
     requires { M.clones_are_faithful }
 {
     let row = Row::read(line)?;
-    for left in 0..=row.all() {
-        let is_accepted = M::is_accepted(heap, alloc, &row, left)?;
-        let is_enough = row.requests <= left;
+    for granted in 0..=row.all() {
+        let is_accepted = M::is_accepted(heap, alloc, &row, granted)?;
+        let is_enough = row.requests <= granted;
         check_that(is_accepted == is_enough && heap.held() == 0, line)?;
     }
     Ok(())

@@ -47,7 +47,8 @@ pub use rangemap::laws::sets::{
     Operator, Sides, absorbs, associates, closed_operations, commutes, distributes, is_idempotent,
 };
 pub use rangemap::laws::texts::{
-    ascii_text, set_texts_are_joined, signed_text, texts_are_joined, unsigned_text,
+    ascii_text, set_texts_are_joined, signed_text, texts_are_joined, unsigned_set_text,
+    unsigned_text,
 };
 pub use rangemap::laws::{
     equal_exactly_when_alike, gaps_and_covered_keys_make_up_a_range,

@@ -23,10 +23,10 @@ struct Requests {
 }
 
 impl<B: Allocator> Refusing<B> {
-    /// Over `inner`. The request that comes after `left` others is refused.
-    pub fn new(inner: B, left: u64) -> Refusing<B> {
+    /// Over `inner`. The request that comes after `granted` others is refused.
+    pub fn new(inner: B, granted: u64) -> Refusing<B> {
         let requests = Requests {
-            left,
+            left: granted,
             has_refused: false,
             held: 0,
         };
@@ -36,10 +36,10 @@ impl<B: Allocator> Refusing<B> {
         }
     }
 
-    /// From now on `left` requests are passed on, and the one after them is refused.
-    pub fn refuse_after(&self, left: u64) {
+    /// From now on `granted` requests are passed on, and the one after them is refused.
+    pub fn refuse_after(&self, granted: u64) {
         let mut requests = self.requests.get();
-        requests.left = left;
+        requests.left = granted;
         requests.has_refused = false;
         self.requests.set(requests);
     }

@@ -14,55 +14,13 @@ ghost use Rattle.rangemap.specs.Clones.{KeysCloneFaithfully};
 ghost use Rattle.rangemap.specs.Joined.{joined, other_of};
 ghost use Rattle.rangemap.specs.Ranges.{IsCanonOfPoints, covers, same_ranges};
 
+pub use crate::range_set::Operator;
 use crate::range_set::Set;
 use rangemap_core::key_range::KeyRange;
 use rangemap_core::kind::Kind;
 use rangemap_core::store::StoreMut;
 pub use rangemap_unions::laws::closed_operations;
 use std::alloc::AllocError;
-
-/// One of the two operators.
-#[derive(Clone, Copy)]
-pub enum Operator {
-    /// `|`, the keys of either set.
-    Union,
-    /// `&`, the keys of both.
-    Intersection,
-}
-
-impl Operator {
-    /// Returns the set that the operator makes of the two.
-    ///
-    /// # Errors
-    ///
-    /// Memory or a clone was refused.
-    pub fn apply<S: StoreMut<Value = ()> + Drop>(
-        self,
-        first: &Set<S>,
-        second: &Set<S>,
-    ) -> Result<Set<S>, AllocError>
-    where
-        S::Alloc: Clone,
-        S::Kind: Kind<S::Range, Steps = <S::Range as KeyRange>::Key>,
-        requires faithful_keys { KeysCloneFaithfully S.Range.Key.is_clone S.Range.Key.cmp }
-        ensures { IfOk result (IsCanonOfPoints S.Kind.kind (joined self (covers S.Kind.kind first.now) (covers S.Kind.kind second.now))) }
-    {
-        match self {
-            Operator::Union => first | second,
-            Operator::Intersection => first & second,
-        }
-    }
-
-    /// Returns the other operator.
-    pub fn other(self) -> Operator
-        ensures { result ≡ other_of self }
-    {
-        match self {
-            Operator::Union => Operator::Intersection,
-            Operator::Intersection => Operator::Union,
-        }
-    }
-}
 
 /// Both sides of a law, left and right.
 pub type Sides<M> = Result<(M, M), AllocError>;

@@ -8,10 +8,11 @@ ghost use Rattle.std.specs.Fmt.{signed_decimal};
 ghost use Rattle.std.specs.List.{list_all};
 ghost use Rattle.std.specs.Ordering.{int_cmp, nat_cmp};
 ghost use Rattle.rangemap.specs.Ranges.{closed, half_open};
-ghost use Rattle.rangemap.specs.Texts.{plain_map, quoted};
+ghost use Rattle.rangemap.specs.Texts.{plain_map, plain_set, quoted};
 
 use crate::inclusive_map::RangeInclusiveMap;
 use crate::map::RangeMap;
+use crate::set::RangeSet;
 use rangemap_core::std_ext::StepFns;
 pub use rangemap_laws::laws::texts::{set_texts_are_joined, texts_are_joined};
 use std::alloc::{AllocError, Global};
@@ -36,6 +37,17 @@ pub fn signed_text(alloc: Global, signed: &RangeInclusiveMap<i8, u64>) -> Result
     ensures { IfOk result (λ text. string_bytes text ≡ plain_map (closed ⟦<i8 as StepFns<i8>>⟧.is_key int_cmp) (codes "..=") signed_decimal decimal signed.now) }
 {
     format!(in alloc; "{signed:?}")
+}
+
+/// Returns the debug text of a set of numbers without sign.
+///
+/// # Errors
+///
+/// Memory for the text was refused.
+pub fn unsigned_set_text(alloc: Global, set: &RangeSet<u32>) -> Result<String, AllocError>
+    ensures { IfOk result (λ text. string_bytes text ≡ plain_set (half_open nat_cmp) (codes "..") decimal set.now) }
+{
+    format!(in alloc; "{set:?}")
 }
 
 /// Returns the debug text of a map of numbers to ASCII texts.

@@ -6,8 +6,7 @@ ghost use Rattle.rangemap.specs.Joined.{joining};
 ghost use Rattle.rangemap.specs.Ranges.{unit_eq, with_unit};
 ghost use Rattle.rangemap.specs.SetHistories.{SetStep};
 
-use super::Set;
-use crate::laws::sets::Operator;
+use super::{Operator, Set};
 use rangemap_containers::calls::Change;
 use rangemap_containers::replay::{CallOn, push_made};
 use rangemap_core::key_range::KeyRange;
@@ -18,6 +17,8 @@ use std::vec::Vec;
 
 /// A call that makes a set or changes one, over ranges of type `R`. It names a set by its place in
 /// the list.
+///
+/// It holds no `Change`, as a map's `Call` does: a caller would have to write `value: ()`.
 #[derive(Drop)]
 pub enum SetCall<R, A: Allocator> {
     /// Makes an empty set.

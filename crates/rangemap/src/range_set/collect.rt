@@ -38,7 +38,7 @@ where
         let alloc = self.stored.allocator().clone()?;
         Ok(Set {
             stored: self.stored.copy(alloc)?,
-            lives: PhantomData,
+            borrows: PhantomData,
         })
     }
 }

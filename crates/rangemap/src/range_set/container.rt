@@ -1,7 +1,8 @@
 //! The set as one of the library's containers.
 //!
 //! What a map tells of values and pairs is made of `get`, `contains`, `first` and `last`; the appends
-//! hand the pairs and gaps of its store on. All other methods are the set's own calls.
+//! hand the pairs and gaps of its store on. All other methods are the set's own calls: `self.insert(..)`
+//! is the call of `Set`, which comes before that of a trait.
 
 use super::Set;
 use rangemap_containers::container::{Appending, Container};
@@ -62,17 +63,13 @@ where
     }
 
     fn get(&self, key: &<S::Range as KeyRange>::Key) -> Option<&()> {
-        match self.get(key) {
-            Some(_) => Some(&()),
-            None => None,
-        }
+        let _ = self.get(key)?;
+        Some(&())
     }
 
     fn get_key_value(&self, key: &<S::Range as KeyRange>::Key) -> Option<(&S::Range, &())> {
-        match self.get(key) {
-            Some(range) => Some((range, &())),
-            None => None,
-        }
+        let range = self.get(key)?;
+        Some((range, &()))
     }
 
     fn contains_key(&self, key: &<S::Range as KeyRange>::Key) -> bool {
@@ -80,17 +77,13 @@ where
     }
 
     fn first_range_value(&self) -> Option<(&S::Range, &())> {
-        match self.first() {
-            Some(range) => Some((range, &())),
-            None => None,
-        }
+        let range = self.first()?;
+        Some((range, &()))
     }
 
     fn last_range_value(&self) -> Option<(&S::Range, &())> {
-        match self.last() {
-            Some(range) => Some((range, &())),
-            None => None,
-        }
+        let range = self.last()?;
+        Some((range, &()))
     }
 
     fn overlaps(&self, range: &S::Range) -> bool {

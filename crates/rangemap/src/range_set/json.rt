@@ -100,7 +100,7 @@ where
         let stored = read(alloc, form, value, &reader)?;
         Ok(Set {
             stored,
-            lives: PhantomData,
+            borrows: PhantomData,
         })
     }
 }

@@ -1,5 +1,8 @@
-//! Union and intersection of two sets: as iterators, and as sets.
-ghost use Rattle.std.specs.Prelude.{◌++◌};
+//! Union and intersection of two sets: as iterators, as sets, and as a choice between the two.
+ghost use Rattle.std.specs.Prelude.{◌≡◌, ◌++◌, IfOk};
+ghost use Rattle.rangemap.specs.Clones.{KeysCloneFaithfully};
+ghost use Rattle.rangemap.specs.Joined.{joined, other_of};
+ghost use Rattle.rangemap.specs.Ranges.{IsCanonOfPoints, covers};
 ghost use Rattle.rangemap.specs.Sets.{AreCommon, AreHulls, CoverEither};
 
 use super::Set;
@@ -86,7 +89,7 @@ where
             .read_both::<Uniting<S>>(&other.stored, &mut stored)?;
         Ok(Set {
             stored,
-            lives: PhantomData,
+            borrows: PhantomData,
         })
     }
 }
@@ -123,7 +126,50 @@ where
             .read_both::<Intersecting<S>>(&other.stored, &mut stored)?;
         Ok(Set {
             stored,
-            lives: PhantomData,
+            borrows: PhantomData,
         })
+    }
+}
+
+/// One of the two operators.
+#[derive(Clone, Copy)]
+pub enum Operator {
+    /// `|`, the keys of either set.
+    Union,
+    /// `&`, the keys of both.
+    Intersection,
+}
+
+impl Operator {
+    /// Returns the set that the operator makes of the two.
+    ///
+    /// # Errors
+    ///
+    /// Memory or a clone was refused.
+    pub fn apply<S: StoreMut<Value = ()> + Drop>(
+        self,
+        first: &Set<S>,
+        second: &Set<S>,
+    ) -> Result<Set<S>, AllocError>
+    where
+        S::Alloc: Clone,
+        S::Kind: Kind<S::Range, Steps = <S::Range as KeyRange>::Key>,
+        requires faithful_keys { KeysCloneFaithfully S.Range.Key.is_clone S.Range.Key.cmp }
+        ensures { IfOk result (IsCanonOfPoints S.Kind.kind (joined self (covers S.Kind.kind first.now) (covers S.Kind.kind second.now))) }
+    {
+        match self {
+            Operator::Union => first | second,
+            Operator::Intersection => first & second,
+        }
+    }
+
+    /// Returns the other operator.
+    pub fn other(self) -> Operator
+        ensures { result ≡ other_of self }
+    {
+        match self {
+            Operator::Union => Operator::Intersection,
+            Operator::Intersection => Operator::Union,
+        }
     }
 }

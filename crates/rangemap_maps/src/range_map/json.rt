@@ -112,7 +112,7 @@ where
         let stored = read(alloc, form, value, &reader)?;
         Ok(Map {
             stored,
-            lives: PhantomData,
+            borrows: PhantomData,
         })
     }
 }

@@ -13,9 +13,9 @@ use tests_support::{
 };
 
 /// Tries to make a map to texts.
-pub fn try_texts(heap: &Heap, row: &Row<'_>, left: u64) -> Answer {
+pub fn try_texts(heap: &Heap, row: &Row<'_>, granted: u64) -> Answer {
     let (first, second) = two_pairs::<HalfOpen, Range<u32>, Text<'_>, &Heap>(heap, row.given)?;
-    heap.refuse_after(left);
+    heap.refuse_after(granted);
     Texts::is_made(Texts::from(heap, [first, second]), row.outcome)
 }
 
@@ -23,32 +23,32 @@ pub fn try_texts(heap: &Heap, row: &Row<'_>, left: u64) -> Answer {
 type HalfOpenCostlyMap<'a> = RangeMap<Costly<'a>, char, &'a Heap>;
 
 /// Tries to make a map of keys whose clone takes memory.
-pub fn try_half_open_map(heap: &Heap, row: &Row<'_>, left: u64) -> Answer {
+pub fn try_half_open_map(heap: &Heap, row: &Row<'_>, granted: u64) -> Answer {
     let (first, second) = two_pairs::<HalfOpen, Range<Costly<'_>>, char, &Heap>(heap, row.given)?;
-    heap.refuse_after(left);
+    heap.refuse_after(granted);
     HalfOpenCostlyMap::is_made(HalfOpenCostlyMap::from(heap, [first, second]), row.outcome)
 }
 
 /// Tries to make a closed map.
-pub fn try_map(heap: &Heap, row: &Row<'_>, left: u64) -> Answer {
+pub fn try_map(heap: &Heap, row: &Row<'_>, granted: u64) -> Answer {
     let (first, second) = two_pairs::<Closed<Costly<'_>>, RangeInclusive<Costly<'_>>, char, &Heap>(
         heap, row.given,
     )?;
-    heap.refuse_after(left);
+    heap.refuse_after(granted);
     CostlyMap::is_made(CostlyMap::from(heap, [first, second]), row.outcome)
 }
 
 /// Tries to make a map in a tree.
-pub fn try_tree(heap: &Heap, row: &Row<'_>, left: u64) -> Answer {
+pub fn try_tree(heap: &Heap, row: &Row<'_>, granted: u64) -> Answer {
     let (first, second) = two_pairs::<HalfOpen, Range<Costly<'_>>, char, &Heap>(heap, row.given)?;
-    heap.refuse_after(left);
+    heap.refuse_after(granted);
     CostlyTree::is_made(CostlyTree::from(heap, [first, second]), row.outcome)
 }
 
 /// Tries to make a set.
-pub fn try_set(heap: &Heap, row: &Row<'_>, left: u64) -> Answer {
+pub fn try_set(heap: &Heap, row: &Row<'_>, granted: u64) -> Answer {
     let (first, second) = two_pairs::<HalfOpen, Range<Costly<'_>>, (), &Heap>(heap, row.given)?;
-    heap.refuse_after(left);
+    heap.refuse_after(granted);
     HalfOpenCostlySet::is_made(
         HalfOpenCostlySet::from(heap, [first.0, second.0]),
         row.outcome,
@@ -56,18 +56,18 @@ pub fn try_set(heap: &Heap, row: &Row<'_>, left: u64) -> Answer {
 }
 
 /// Tries to make a closed set.
-pub fn try_inclusive_set(heap: &Heap, row: &Row<'_>, left: u64) -> Answer {
+pub fn try_inclusive_set(heap: &Heap, row: &Row<'_>, granted: u64) -> Answer {
     let (first, second) = two_pairs::<Closed<Costly<'_>>, RangeInclusive<Costly<'_>>, (), &Heap>(
         heap, row.given,
     )?;
-    heap.refuse_after(left);
+    heap.refuse_after(granted);
     CostlySet::is_made(CostlySet::from(heap, [first.0, second.0]), row.outcome)
 }
 
 /// Tries to make a set in a tree.
-pub fn try_tree_set(heap: &Heap, row: &Row<'_>, left: u64) -> Answer {
+pub fn try_tree_set(heap: &Heap, row: &Row<'_>, granted: u64) -> Answer {
     let (first, second) = two_pairs::<HalfOpen, Range<Costly<'_>>, (), &Heap>(heap, row.given)?;
-    heap.refuse_after(left);
+    heap.refuse_after(granted);
     CostlyTreeSet::is_made(CostlyTreeSet::from(heap, [first.0, second.0]), row.outcome)
 }
 
@@ -95,34 +95,34 @@ type InclusiveSetInChunks<'a> = ChunkedSet<
 >;
 
 /// Tries to make a map in chunks.
-pub fn try_chunked_map(heap: &Heap, row: &Row<'_>, left: u64) -> Answer {
+pub fn try_chunked_map(heap: &Heap, row: &Row<'_>, granted: u64) -> Answer {
     let (first, second) = two_pairs::<HalfOpen, Range<Costly<'_>>, char, &Heap>(heap, row.given)?;
-    heap.refuse_after(left);
+    heap.refuse_after(granted);
     InChunks::is_made(InChunks::from(heap, [first, second]), row.outcome)
 }
 
 /// Tries to make a closed map in chunks.
-pub fn try_chunked_inclusive_map(heap: &Heap, row: &Row<'_>, left: u64) -> Answer {
+pub fn try_chunked_inclusive_map(heap: &Heap, row: &Row<'_>, granted: u64) -> Answer {
     let (first, second) = two_pairs::<Closed<Costly<'_>>, RangeInclusive<Costly<'_>>, char, &Heap>(
         heap, row.given,
     )?;
-    heap.refuse_after(left);
+    heap.refuse_after(granted);
     InclusiveInChunks::is_made(InclusiveInChunks::from(heap, [first, second]), row.outcome)
 }
 
 /// Tries to make a set in chunks.
-pub fn try_chunked_set(heap: &Heap, row: &Row<'_>, left: u64) -> Answer {
+pub fn try_chunked_set(heap: &Heap, row: &Row<'_>, granted: u64) -> Answer {
     let (first, second) = two_pairs::<HalfOpen, Range<Costly<'_>>, (), &Heap>(heap, row.given)?;
-    heap.refuse_after(left);
+    heap.refuse_after(granted);
     SetInChunks::is_made(SetInChunks::from(heap, [first.0, second.0]), row.outcome)
 }
 
 /// Tries to make a closed set in chunks.
-pub fn try_chunked_inclusive_set(heap: &Heap, row: &Row<'_>, left: u64) -> Answer {
+pub fn try_chunked_inclusive_set(heap: &Heap, row: &Row<'_>, granted: u64) -> Answer {
     let (first, second) = two_pairs::<Closed<Costly<'_>>, RangeInclusive<Costly<'_>>, (), &Heap>(
         heap, row.given,
     )?;
-    heap.refuse_after(left);
+    heap.refuse_after(granted);
     InclusiveSetInChunks::is_made(
         InclusiveSetInChunks::from(heap, [first.0, second.0]),
         row.outcome,

@@ -46,27 +46,27 @@ fn form_and_value(alloc: Global, given: &str) -> Result<(Form, Value), Fail> {
 }
 
 /// Tries to read a map of numbers.
-pub fn try_map<'a, S>(heap: &'a Heap, alloc: Global, row: &Row<'_>, left: u64) -> Answer
+pub fn try_map<'a, S>(heap: &'a Heap, alloc: Global, row: &Row<'_>, granted: u64) -> Answer
 where
     S: StoreMut<Range: FromEnds<Key = u32>, Value = u32, Alloc = &'a Heap> + Drop,
     S::Kind: Kind<S::Range, Steps = <S::Range as KeyRange>::Key>,
     Map<S>: Made,
 {
     let (form, value) = form_and_value(alloc, row.given)?;
-    heap.refuse_after(left);
+    heap.refuse_after(granted);
     let read = Map::<S>::from_value(heap, form, &value, read_number, read_number);
     Made::is_made(unless_refused(read)?, row.outcome)
 }
 
 /// Tries to read a set of numbers.
-pub fn try_set<'a, S>(heap: &'a Heap, alloc: Global, row: &Row<'_>, left: u64) -> Answer
+pub fn try_set<'a, S>(heap: &'a Heap, alloc: Global, row: &Row<'_>, granted: u64) -> Answer
 where
     S: StoreMut<Range: FromEnds<Key = u32>, Value = (), Alloc = &'a Heap> + Drop,
     S::Kind: Kind<S::Range, Steps = <S::Range as KeyRange>::Key>,
     Set<S>: Made,
 {
     let (form, value) = form_and_value(alloc, row.given)?;
-    heap.refuse_after(left);
+    heap.refuse_after(granted);
     let read = Set::<S>::from_value(heap, form, &value, read_number);
     Made::is_made(unless_refused(read)?, row.outcome)
 }
@@ -83,46 +83,46 @@ type PartsInTree<'a> = tree_map::RangeMap<Costly<'a>, Costly<'a>, &'a Heap>;
 // A closure that holds the heap can't be passed over any store, so each type has a function of its own.
 
 /// Tries to read a closed map of such parts.
-pub fn try_costly_inclusive_map(heap: &Heap, alloc: Global, row: &Row<'_>, left: u64) -> Answer {
+pub fn try_costly_inclusive_map(heap: &Heap, alloc: Global, row: &Row<'_>, granted: u64) -> Answer {
     let (form, value) = form_and_value(alloc, row.given)?;
     let read = move |part: &Value| read_costly(heap, part);
-    heap.refuse_after(left);
+    heap.refuse_after(granted);
     let read = ClosedParts::from_value(heap, form, &value, read, read);
     Made::is_made(unless_refused(read)?, row.outcome)
 }
 
 /// Tries to read a map of such parts.
-pub fn try_costly_map(heap: &Heap, alloc: Global, row: &Row<'_>, left: u64) -> Answer {
+pub fn try_costly_map(heap: &Heap, alloc: Global, row: &Row<'_>, granted: u64) -> Answer {
     let (form, value) = form_and_value(alloc, row.given)?;
     let read = move |part: &Value| read_costly(heap, part);
-    heap.refuse_after(left);
+    heap.refuse_after(granted);
     let read = Parts::from_value(heap, form, &value, read, read);
     Made::is_made(unless_refused(read)?, row.outcome)
 }
 
 /// Tries to read a map of such parts in a tree.
-pub fn try_costly_tree(heap: &Heap, alloc: Global, row: &Row<'_>, left: u64) -> Answer {
+pub fn try_costly_tree(heap: &Heap, alloc: Global, row: &Row<'_>, granted: u64) -> Answer {
     let (form, value) = form_and_value(alloc, row.given)?;
     let read = move |part: &Value| read_costly(heap, part);
-    heap.refuse_after(left);
+    heap.refuse_after(granted);
     let read = PartsInTree::from_value(heap, form, &value, read, read);
     Made::is_made(unless_refused(read)?, row.outcome)
 }
 
 /// Tries to read a set of such keys.
-pub fn try_costly_set(heap: &Heap, alloc: Global, row: &Row<'_>, left: u64) -> Answer {
+pub fn try_costly_set(heap: &Heap, alloc: Global, row: &Row<'_>, granted: u64) -> Answer {
     let (form, value) = form_and_value(alloc, row.given)?;
     let read = move |part: &Value| read_costly(heap, part);
-    heap.refuse_after(left);
+    heap.refuse_after(granted);
     let read = HalfOpenCostlySet::from_value(heap, form, &value, read);
     Made::is_made(unless_refused(read)?, row.outcome)
 }
 
 /// Tries to read a closed set of such keys.
-pub fn try_costly_inclusive_set(heap: &Heap, alloc: Global, row: &Row<'_>, left: u64) -> Answer {
+pub fn try_costly_inclusive_set(heap: &Heap, alloc: Global, row: &Row<'_>, granted: u64) -> Answer {
     let (form, value) = form_and_value(alloc, row.given)?;
     let read = move |part: &Value| read_costly(heap, part);
-    heap.refuse_after(left);
+    heap.refuse_after(granted);
     let read = CostlySet::from_value(heap, form, &value, read);
     Made::is_made(unless_refused(read)?, row.outcome)
 }

@@ -52,7 +52,9 @@ fn answer_of<M: InRows, C: CallOn<M>>(asked: Asked<'_, M::Alloc>, calls: Vec<C, 
     requires faithful_values { ValuesCloneFaithfully M.Value.is_clone M.Value.eq }
 {
     match asked {
-        Asked::Tried(heap, alloc, row, left) => try_replay::<M, C>(heap, alloc, calls, row, left),
+        Asked::Tried(heap, alloc, row, granted) => {
+            try_replay::<M, C>(heap, alloc, calls, row, granted)
+        },
         Asked::Owner(heaps, allocs, _, row) => {
             check_added::<M, C>(heaps, allocs, calls, row)?;
             Ok(true)

@@ -13,21 +13,21 @@ type SteppedMap<'a> = ChunkedMap<Closed<SignedSteps>, RangeInclusive<i8>, bool, 
 type SteppedSet<'a> = ChunkedSet<Closed<SignedSteps>, RangeInclusive<i8>, &'a Heap, 2>;
 
 /// Tries the replay of maps.
-pub fn try_maps(heap: &Heap, row: &Row<'_>, left: u64) -> Answer {
-    try_changes::<RangeInclusiveMap<i8, bool, SignedSteps, &Heap>>(heap, heap, row, left)
+pub fn try_maps(heap: &Heap, row: &Row<'_>, granted: u64) -> Answer {
+    try_changes::<RangeInclusiveMap<i8, bool, SignedSteps, &Heap>>(heap, heap, row, granted)
 }
 
 /// Tries the replay of sets.
-pub fn try_sets(heap: &Heap, row: &Row<'_>, left: u64) -> Answer {
-    try_changes::<RangeInclusiveSet<i8, SignedSteps, &Heap>>(heap, heap, row, left)
+pub fn try_sets(heap: &Heap, row: &Row<'_>, granted: u64) -> Answer {
+    try_changes::<RangeInclusiveSet<i8, SignedSteps, &Heap>>(heap, heap, row, granted)
 }
 
 /// Tries the replay of maps in chunks.
-pub fn try_chunked_maps(heap: &Heap, row: &Row<'_>, left: u64) -> Answer {
-    try_changes::<SteppedMap<'_>>(heap, heap, row, left)
+pub fn try_chunked_maps(heap: &Heap, row: &Row<'_>, granted: u64) -> Answer {
+    try_changes::<SteppedMap<'_>>(heap, heap, row, granted)
 }
 
 /// Tries the replay of sets in chunks.
-pub fn try_chunked_sets(heap: &Heap, row: &Row<'_>, left: u64) -> Answer {
-    try_changes::<SteppedSet<'_>>(heap, heap, row, left)
+pub fn try_chunked_sets(heap: &Heap, row: &Row<'_>, granted: u64) -> Answer {
+    try_changes::<SteppedSet<'_>>(heap, heap, row, granted)
 }

@@ -12,7 +12,7 @@ pub fn try_growths<S: InRows<Value = ()> + OwnCalls>(
     heap: &Heap,
     alloc: S::Alloc,
     row: &Row<'_>,
-    left: u64,
+    granted: u64,
 ) -> Answer
     requires faithful_keys { KeysCloneFaithfully S.Range.Key.is_clone S.Range.Key.cmp }
 {
@@ -20,12 +20,12 @@ pub fn try_growths<S: InRows<Value = ()> + OwnCalls>(
         heap,
         alloc,
         pairs_of::<S::Kind, S::Range, (), S::Alloc>(alloc, row.given)?,
-        left,
+        granted,
     );
-    row.end_refusal(heap, left)?;
-    let extended = extend_until::<S>(heap, alloc, items_of::<S>(alloc, row.given)?, left);
-    row.end_refusal(heap, left)?;
-    let count = kept(row.outcome, left)?.parse()?;
+    row.end_refusal(heap, granted)?;
+    let extended = extend_until::<S>(heap, alloc, items_of::<S>(alloc, row.given)?, granted);
+    row.end_refusal(heap, granted)?;
+    let count = kept(row.outcome, granted)?.parse()?;
     let first = first_of::<S>(alloc, row.given, count)?;
     check_that(
         extended == inserted && extended.0 == first && first.len() == count,

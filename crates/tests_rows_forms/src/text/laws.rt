@@ -1,7 +1,7 @@
 //! The laws of texts, which say what is written of numbers and of ASCII texts.
 
-use rangemap::laws::texts::{ascii_text, signed_text, unsigned_text};
-use rangemap::{range_inclusive_map, range_map};
+use rangemap::laws::texts::{ascii_text, signed_text, unsigned_set_text, unsigned_text};
+use rangemap::{range_inclusive_map, range_map, range_set};
 use std::test::Fail;
 use tests_support::check_same;
 
@@ -14,7 +14,9 @@ fn the_laws_of_texts_write_them(rt: HostRuntime) -> Result<(), Fail> {
     check_same(
         signed_text(alloc, &signed)?.as_str(),
         "{-128..=-1: 7, 5..=127: 8}",
-    )
+    )?;
+    let set = range_set![in alloc; 0..5u32, 7..9]?;
+    check_same(unsigned_set_text(alloc, &set)?.as_str(), "{0..5, 7..9}")
 }
 
 #[test]
