@@ -1,5 +1,5 @@
 -- What the program prints of why it stops.
-use Rattle.std.specs.Prelude.{ℕ}
+use Rattle.std.specs.Prelude.{ℕ, if◌then◌else◌, nat_eq}
 use Rattle.rangerun_library.specs.declared.fault.Cause.{Cause}
 use Rattle.rangerun_library.specs.declared.fault.Cause.TheVariants.{Arguments, Command, Number, EmptyRange, Value, Stream, Memory}
 
@@ -12,3 +12,10 @@ fault_number EmptyRange = 4
 fault_number Value = 5
 fault_number Stream = 6
 fault_number Memory = 7
+
+-- the exit status that tells of a number: of a stream 3, of memory 4, and of what the program was given 2
+abbrev pub status_of : ℕ → ℕ
+status_of number =
+    if nat_eq number (fault_number Stream) then 3
+    else if nat_eq number (fault_number Memory) then 4
+    else 2

@@ -1,7 +1,7 @@
 //! Why the program stops before the end of its input.
 ghost use Rattle.std.specs.Prelude.{◌≡◌};
 ghost use Rattle.rangerun_library.specs.declared.fault.Cause.TheVariants.{Memory};
-ghost use Rattle.rangerun_library.specs.Faults.{fault_number};
+ghost use Rattle.rangerun_library.specs.Faults.{fault_number, status_of};
 
 use std::alloc::AllocError;
 use std::fmt;
@@ -66,7 +66,9 @@ pub struct Fault {
 impl Fault {
     /// Returns the exit status that tells of this fault: 3 for a stream, 4 for memory, and 2 for what
     /// was given to the program.
-    pub fn status(self) -> u8 {
+    pub fn status(self) -> u8
+        ensures { result ≡ status_of self.number }
+    {
         match self.number {
             6 => 3,
             7 => 4,
