@@ -1,5 +1,5 @@
 //! A stretch of a vector replaced by up to three values.
-ghost use Rattle.std.specs.Prelude.{◌≡◌, ◌+◌, ◌-◌, ◌≤◌, ◌++◌, ◌∷◌, take, drop, length, IsOk, OnOk, OnErr, vec_len, vec_capacity};
+ghost use Rattle.std.specs.Prelude.{◌≡◌, ◌+◌, ◌-◌, ◌<◌, ◌≤◌, ◌++◌, take, drop, length, IsOk, OnOk, OnErr, vec_len, vec_capacity};
 ghost use Rattle.std.specs.Option.{option_to_list};
 
 use crate::splice::turn::{turn_left, turn_right};
@@ -10,7 +10,7 @@ mod turn;
 
 /// Puts the values in the place of those at `places`, in order.
 ///
-/// The values that stand behind the stretch are moved at most once, all together, and not at all
+/// The values that stand behind the stretch are moved at most once, and not at all
 /// where as many values come as go.
 ///
 /// # Errors
@@ -112,16 +112,41 @@ fn rotate_tail<T, A: Allocator>(list: &mut Vec<T, A>, from: usize, count: usize)
     turn_right(&mut list[from..], count);
 }
 
-// Takes out the values from `start` up to `end`, if there are any: those behind them are moved
-// once, all together.
+// Takes out the values from `start` up to `end`, if there are any.
 fn cut<T: Drop, A: Allocator>(list: &mut Vec<T, A>, start: usize, end: usize)
     requires start_le_end { start ≤ end }
     requires in_bounds { end ≤ vec_len list.old }
     ensures { list.new.items ≡ take start list.old.items ++ drop end list.old.items }
 {
     if start < end {
+        let count = end - start;
         let len = list.len();
-        turn_left(&mut list[start..], end - start);
-        list.truncate(len - (end - start));
+        close_gap(&mut list[start..], count);
+        list.truncate(len - count);
     }
+}
+
+// Moves the values behind the first `count` to the front, in order, each of them once: a turn does
+// so where blocks of `count` follow, and what is left then changes places with values that go.
+fn close_gap<T>(list: &mut [T], count: usize)
+    requires some { 0 < count }
+    requires in_bounds { count ≤ length list.old }
+    ensures kept { take (length list.old - count) list.new ≡ drop count list.old }
+    ensures len { length list.new ≡ length list.old }
+{
+    let left = (list.len() - count) % count;
+    let turned = list.len() - left;
+    let (blocks, last) = list.split_at_mut(turned);
+    turn_left(blocks, count);
+    swap_from(blocks, turned - count, last);
+}
+
+// Has the values from `at` on and others change places.
+fn swap_from<T>(list: &mut [T], at: usize, others: &mut [T])
+    requires { at + length others.old ≤ length list.old }
+    ensures list { list.new ≡ take at list.old ++ (others.old ++ drop (at + length others.old) list.old) }
+    ensures len { length others.new ≡ length others.old }
+{
+    let end = at + others.len();
+    list[at..end].swap_with_slice(others);
 }
