@@ -60,6 +60,10 @@ pub struct Block {
 
 impl Block {
     /// Returns how many addresses the block has.
+    ///
+    /// # Requires
+    ///
+    /// `prefix` is at most 32.
     pub fn size(&self) -> u64
         requires { self.now.prefix ≤ 32 }
         ensures { result ≡ 2 ^ (32 - self.now.prefix) }

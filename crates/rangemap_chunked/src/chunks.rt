@@ -45,6 +45,10 @@ pub const SIZE: usize = 512;
 /// A change of a wide range drops whole chunks and moves none of their pairs. No chunk is ever
 /// empty, and one that a change leaves small becomes one with a neighbour, where the two have no more
 /// than half of `N` together and memory is not refused for that.
+///
+/// The pairs are counted by a `usize`. So an `insert` beside more than `usize::MAX - 2` pairs is refused,
+/// even one that adds none, and so is a `remove` that might leave more than can be counted. Memory ends
+/// long before.
 #[derive(Drop)]
 pub struct Chunks<Q: Kind<R>, R: KeyRange, V: Eq + Clone, A: Allocator, const N: usize> {
     chunks: Vec<Chunk<R, V, A>, A>,

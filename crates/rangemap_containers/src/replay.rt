@@ -24,8 +24,15 @@ pub trait CallOn<M: Container>: Drop {
     /// What the call makes of the functions that the containers stand for, by its answer.
     ghost step: { List (M.Range.Key → Option M.Value) → Self → Bool → List (M.Range.Key → Option M.Value) → Type 0 };
 
-    /// Makes the call, with `alloc` for a container that it adds at the end, and answers whether it
-    /// was accepted. For that one there is room in the list, so that the call alone can be refused.
+    /// Makes the call, and answers whether it was accepted. A container that it adds at the end has its
+    /// memory of `alloc`, but where it is made of containers in the list: then of a clone of the
+    /// allocator of the first one named. For it there is room in the list, so that the call alone can be
+    /// refused.
+    ///
+    /// # Requires
+    ///
+    /// The list has room for one container more. No range is empty, or was iterated to its end, and
+    /// clones are faithful, as for `insert`.
     fn make(self, alloc: M::Alloc, maps: &mut Vec<M, M::Alloc>) -> bool
         requires room { vec_len maps.old < vec_capacity maps.old }
         requires non_empty { has_non_empty self }

@@ -30,6 +30,10 @@ impl<C: Cursor> Model for PairIter<C> {
 
 impl<C: Cursor> PairIter<C> {
     /// Returns the pairs of a cursor, of which there are `len`.
+    ///
+    /// # Requires
+    ///
+    /// The cursor has `len` pairs left.
     pub fn over(cursor: C, len: usize) -> Self
         requires { len ≡ length (C.left cursor) }
         ensures { result ≡ C.left cursor }

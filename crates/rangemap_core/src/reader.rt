@@ -22,6 +22,10 @@ pub trait Reader<R: KeyRange, V> {
     ghost reads: { List (R × V) → Self.State → Self.Answer → Self.State → Type 0 };
 
     /// Reads the pairs.
+    ///
+    /// # Requires
+    ///
+    /// What `may_read` says of the pairs and of the state.
     fn read<C: Cursor<Range = R, Value = V, Given: Drop, GivenValue: Drop>>(
         pairs: C,
         state: &mut Self::State,
@@ -46,6 +50,10 @@ pub trait ReaderOfBoth<R: KeyRange, V> {
     ghost reads: { List (R × V) → List (R × V) → Self.State → Self.Answer → Self.State → Type 0 };
 
     /// Reads the pairs of either.
+    ///
+    /// # Requires
+    ///
+    /// What `may_read` says of the pairs of either and of the state.
     fn read<C: Peek<Range = R, Value = V>>(
         left: C,
         right: C,

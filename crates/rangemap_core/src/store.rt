@@ -60,11 +60,19 @@ pub trait Store {
         ensures { option_map (λ pair. (pair.0.now, pair.1.now)) result ≡ slice_get (pairs self.now) (length (pairs self.now) - 1) };
 
     /// Has all pairs read, in order.
+    ///
+    /// # Requires
+    ///
+    /// What the reader asks of the pairs and of its state (`may_read`).
     fn read<U: Reader<Self::Range, Self::Value>>(&self, state: &mut U::State) -> U::Answer
         requires { U.may_read (pairs self.now) state.old }
         ensures { U.reads (pairs self.now) state.old result state.new };
 
     /// Has the pairs of this store and of another one read side by side.
+    ///
+    /// # Requires
+    ///
+    /// What the reader asks of the pairs of either and of its state (`may_read`).
     fn read_both<U: ReaderOfBoth<Self::Range, Self::Value>>(
         &self,
         other: &Self,
@@ -74,6 +82,10 @@ pub trait Store {
         ensures { U.reads (pairs self.now) (pairs other.now) state.old result state.new };
 
     /// Has the pairs read that overlap `range`, in order. Nothing is asked of `range`.
+    ///
+    /// # Requires
+    ///
+    /// What the reader asks of these pairs and of its state (`may_read`).
     fn read_overlapping<U: Reader<Self::Range, Self::Value>>(
         &self,
         range: &Self::Range,

@@ -36,7 +36,7 @@ struct Right<K, V> {
 ///
 /// # Errors
 ///
-/// The growth of the tree, a list of keys, or a clone of the allocator, of a key or of the value
+/// The growth of the tree, a list of keys, or a clone of the allocator, of a key or of a stored value
 /// was refused: then the list is as it was, and the range and the value are dropped.
 pub fn insert<K: Ord + Clone, V: Eq + Clone, A: Allocator + Clone>(
     pairs: &mut ByStart<K, V, A>,

@@ -52,6 +52,10 @@ impl<C: Peek> Intersection<C> {
     }
 
     /// Returns the intersection of the ranges of two cursors.
+    ///
+    /// # Requires
+    ///
+    /// The ranges that either cursor has left are a canonical list.
     pub fn over(left: C, right: C) -> Self
         requires left { IsCanonicalSet C.Range.read (ranges (C.left left)) }
         requires right { IsCanonicalSet C.Range.read (ranges (C.left right)) }

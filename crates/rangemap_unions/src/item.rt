@@ -23,7 +23,7 @@ pub fn compare_ends<R: KeyRange>(left: &R, right: &R) -> Ordering
     left.end().cmp(right.end())
 }
 
-/// Returns whether the second range starts before the first one ends.
+/// Returns whether the second range starts before the first one ends, or, of closed ranges, there.
 pub fn is_reached<R: KeyRange>(first: &R, second: &R) -> bool
     ensures { result ≡ reaches R.places first.now second.now }
 {
@@ -35,8 +35,8 @@ pub fn is_reached<R: KeyRange>(first: &R, second: &R) -> bool
 ///
 /// # Requires
 ///
-/// The first range starts before the last one ends, and a clone of a key compares equal to its
-/// original.
+/// The first range starts before the last one ends, or, of closed ranges, there, and a clone of a key
+/// compares equal to its original.
 ///
 /// # Errors
 ///

@@ -31,6 +31,10 @@ impl<C: Cursor<Range: KeyRange>> Model for Ranges<C> {
 
 impl<C: Cursor<Range: KeyRange>> Ranges<C> {
     /// Returns the ranges of the pairs of a cursor, of which there are `len`.
+    ///
+    /// # Requires
+    ///
+    /// The cursor has `len` pairs left, and their ranges are a canonical list.
     pub fn over(cursor: C, len: usize) -> Self
         requires canonical { IsCanonicalSet C.Range.read (ranges (C.left cursor)) }
         requires len { len ≡ length (C.left cursor) }

@@ -16,7 +16,7 @@ pub fn take<C: Peek>(pairs: &mut C) -> Option<(C::Given, C::GivenValue)>
     pairs.take_first()
 }
 
-/// Takes the first pair, if its range starts before `last` ends.
+/// Takes the first pair, if its range starts before `last` ends, or, of closed ranges, there.
 pub fn take_reached<C: Peek>(last: &C::Range, pairs: &mut C) -> Option<(C::Given, C::GivenValue)>
     ensures { MatchOption result
         ((C.left pairs.new ≡ C.left pairs.old) × IsUnreached C.Range.places last.now (ranges (C.left pairs.old)))

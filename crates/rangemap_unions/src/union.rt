@@ -59,6 +59,10 @@ impl<C: Peek> Union<C> {
     }
 
     /// Returns the union of the ranges of two cursors.
+    ///
+    /// # Requires
+    ///
+    /// The ranges that either cursor has left are a canonical list.
     pub fn over(left: C, right: C) -> Self
         requires left { IsCanonicalSet C.Range.read (ranges (C.left left)) }
         requires right { IsCanonicalSet C.Range.read (ranges (C.left right)) }

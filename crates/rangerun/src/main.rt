@@ -1,4 +1,4 @@
-//! Runs the commands of standard input over a map or a set of ranges.
+//! Runs the commands of standard input over a map, a set or a calendar of ranges.
 //!
 //! `rangerun KIND` reads commands line by line, carries each out, and prints its answer before it
 //! reads the next line. It stops at the first fault, which it prints on standard error.

@@ -9,7 +9,7 @@ use std::fmt;
 /// What went wrong. The numbers are those that the program prints.
 #[derive(Clone, Copy, Debug, PartialEq, Eq)]
 pub enum Cause {
-    /// The program was not given one word that names a kind of container.
+    /// The program was not given one word that asks for a map, a set or a calendar.
     Arguments = 1,
     /// A line begins with no command, or has too few or too many words for it.
     Command = 2,

@@ -8,8 +8,8 @@ use calendar::Calendar;
 use std::alloc::{Allocator, Global};
 use std::io::{self, BufRead, BufReader, Read, Write};
 
-/// Carries out the commands of `input` over the container that `args`, the words after the
-/// program's name, ask for, and writes each answer to `output` before it reads the next line.
+/// Carries out the commands of `input` over the map, the set or the calendar that `args`, the words
+/// after the program's name, ask for, and writes each answer to `output` before it reads the next line.
 ///
 /// # Errors
 ///
@@ -57,7 +57,7 @@ pub fn run_in<A: Allocator + Copy, R: Read + Drop, W: Write + Drop>(
     }
 }
 
-// Carries out the commands of `input` over an empty container, as `run` does.
+// Carries out the commands of `input` over an empty map, set or calendar, as `run` does.
 fn run_over<A: Allocator + Copy, T: Target<A>, R: Read + Drop, W: Write + Drop>(
     alloc: A,
     json_alloc: Global,

@@ -1,5 +1,5 @@
-//! Replays on containers in chunks and by steps of another type, arrays, macros and readings that are refused memory, each
-//! request in its turn.
+//! Replays on containers in vectors, in trees and in chunks, some by steps of another type, arrays,
+//! macros and readings that are refused memory, each request in its turn.
 
 use crate::natives::Natives;
 use std::test::Fail;

@@ -49,7 +49,8 @@ impl<B: Allocator> Refusing<B> {
         self.requests.get().has_refused
     }
 
-    /// Returns the number of blocks that were taken and not given back.
+    /// Returns the number of blocks that were asked for, were not refused here, and were not given back.
+    /// One that the other allocator refused stays counted.
     pub fn held(&self) -> u64 {
         self.requests.get().held
     }

@@ -141,7 +141,12 @@ pub enum Operator {
 }
 
 impl Operator {
-    /// Returns the set that the operator makes of the two.
+    /// Returns the set that the operator makes of the two, in memory of a clone of the first one's
+    /// allocator.
+    ///
+    /// # Requires
+    ///
+    /// A clone of a key compares equal to its original.
     ///
     /// # Errors
     ///
