@@ -64,17 +64,18 @@ impl<'a> Model<'a> {
     }
 
     /// Returns whether the call was refused, as it has to be where a request was that it can't spare,
-    /// and after which as many blocks are held as before the call.
-    pub fn answer(&self, is_accepted: bool, held: u64) -> Result<bool, Stop> {
-        let is_refused = self.told(is_accepted)?;
+    /// and after which as many blocks are held as before the call. `by_changes` says whether it is
+    /// made of inserts, as a clone is not.
+    pub fn answer(&self, is_accepted: bool, by_changes: bool, held: u64) -> Result<bool, Stop> {
+        let is_refused = self.told(is_accepted, by_changes)?;
         let are_kept = !is_refused || self.chance.heap.held() == held;
         check(are_kept, Difference::Blocks)?;
         Ok(is_refused)
     }
 
-    // Returns whether the call was refused.
-    fn told(&self, is_accepted: bool) -> Result<bool, Stop> {
-        let spares = matches!(self.profile.kept, Kept::InChunks);
+    // Returns whether the call was refused. In chunks one that is made of changes may spare a request.
+    fn told(&self, is_accepted: bool, by_changes: bool) -> Result<bool, Stop> {
+        let spares = by_changes && matches!(self.profile.kept, Kept::InChunks);
         self.chance.answer_to(is_accepted, spares)
     }
 
@@ -86,7 +87,7 @@ impl<'a> Model<'a> {
     /// Makes a change to the model, unless the container refused it. `held` is the number of blocks
     /// before the call. Answers whether it was refused.
     pub fn change(&mut self, change: &Change, is_accepted: bool, held: u64) -> Result<bool, Stop> {
-        let is_refused = self.told(is_accepted)?;
+        let is_refused = self.told(is_accepted, true)?;
         match (change, is_refused) {
             (Change::Insert(run), false) | (Change::Remove(run), false) => self.points.put(*run),
             (Change::Extend(runs), false) => self.points.put_all(runs),

@@ -8,7 +8,7 @@ mod made;
 mod replays;
 mod steps;
 
-use rangemap_chunked::Chunks;
+use rangemap_chunked::{Chunks, SIZE};
 use rangemap_core::closed::Closed;
 use rangemap_core::half_open::HalfOpen;
 use rangemap_sorted::SortedVec;
@@ -51,10 +51,10 @@ type ClosedNumbers<'a, V> = SortedVec<Closed<u32>, RangeInclusive<u32>, V, &'a H
 type Numbers<'a, V> = SortedVec<HalfOpen, Range<u32>, V, &'a Heap>;
 
 /// A store of numbers over half-open ranges, in chunks.
-type ChunkedNumbers<'a, V> = Chunks<HalfOpen, Range<u32>, V, &'a Heap, 512>;
+type ChunkedNumbers<'a, V> = Chunks<HalfOpen, Range<u32>, V, &'a Heap, SIZE>;
 
 /// A store of numbers over closed ranges, in chunks.
-type ChunkedClosedNumbers<'a, V> = Chunks<Closed<u32>, RangeInclusive<u32>, V, &'a Heap, 512>;
+type ChunkedClosedNumbers<'a, V> = Chunks<Closed<u32>, RangeInclusive<u32>, V, &'a Heap, SIZE>;
 
 impl Tried for Natives {
     type Alloc = Global;

@@ -20,8 +20,12 @@ where
     let are_tried = try_items::<R, A, I>(heap, &mut tried, row, granted);
     let are_taken = take_items::<R, A, I>(heap, &mut taken, row, granted);
     check_that(
-        are_tried == Some(expected) && are_taken == are_tried,
-        "the items are others, or their requests",
+        are_tried == Some(expected),
+        format_args!("with {granted} requests granted, `try_next` has other items or requests"),
+    )?;
+    check_that(
+        are_taken == Some(expected),
+        format_args!("with {granted} requests granted, `next` has other items or requests"),
     )?;
     Ok(expected.0)
 }

@@ -63,7 +63,10 @@ impl<'t> Row<'t> {
     pub fn end_refusal(&self, heap: &Heap, granted: u64) -> Result<(), Fail> {
         check_that(
             self.has_as_many(heap, granted),
-            format_args!("{} makes another number of requests", self.call),
+            format_args!(
+                "with {granted} requests granted, {} makes another number of them",
+                self.call
+            ),
         )
     }
 }

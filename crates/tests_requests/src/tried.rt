@@ -68,7 +68,14 @@ fn check_line<M: Tried>(heap: &Heap, alloc: M::Alloc, line: &str) -> Result<(), 
     for granted in 0..=row.all() {
         let is_accepted = M::is_accepted(heap, alloc, &row, granted)?;
         let is_enough = row.requests <= granted;
-        check_that(is_accepted == is_enough && heap.held() == 0, line)?;
+        check_that(
+            is_accepted == is_enough,
+            format_args!("answered otherwise with {granted} requests granted: {line}"),
+        )?;
+        check_that(
+            heap.held() == 0,
+            format_args!("blocks stay held with {granted} requests granted: {line}"),
+        )?;
     }
     Ok(())
 }

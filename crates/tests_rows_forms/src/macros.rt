@@ -27,6 +27,21 @@ fn a_list_makes_a_map(rt: HostRuntime) -> Result<(), Fail> {
 }
 
 #[test]
+fn a_loop_goes_over_a_map_of_a_list(rt: HostRuntime) -> Result<(), Fail> {
+    let alloc = rt.alloc();
+    let map = range_map! { in alloc; 0..100u32 => "abc", 100..200 => "def", 200..300 => "ghi" }?;
+    let mut found = Vec::new(alloc);
+    for (range, value) in map.iter() {
+        found.push((range.clone()?, *value))?;
+    }
+    check_text(
+        alloc,
+        &found,
+        r#"[(0..100, "abc"), (100..200, "def"), (200..300, "ghi")]"#,
+    )
+}
+
+#[test]
 fn a_list_may_be_empty(rt: HostRuntime) -> Result<(), Fail> {
     let alloc = rt.alloc();
     let none: RangeMap<u32, char> = range_map! { in alloc; }?;

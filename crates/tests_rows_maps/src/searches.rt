@@ -30,11 +30,12 @@ fn spread<S: StoreMut<Range: KeyRange<Key = u32>, Value = u8, Alloc = Global> + 
     Ok(map)
 }
 
-/// Looks for each key among so many ranges, and for the one behind them, with so many asks at most.
+/// Looks for each key among so many ranges, and for the one behind them, each with so many asks: which
+/// key it is makes no difference.
 fn check_asks<Q: Kind<R>, R: KeyRange<Key = u32>>(
     alloc: Global,
     end: u8,
-    (len, most): (u16, usize),
+    (len, asks): (u16, usize),
 ) -> Result<(), Fail> {
     let map = spread::<SortedVec<Q, R, u8, Global>>(alloc, len, end)?;
     let pairs = map.iter().cursor().as_slice();
@@ -44,7 +45,7 @@ fn check_asks<Q: Kind<R>, R: KeyRange<Key = u32>>(
         let (pair, asked) = covering::<Q, R, u8>(pairs, &key);
         let is_stored = key % 3 < 2 && key < behind;
         check_that(
-            asked <= most && pair.is_some() == is_stored,
+            asked == asks && pair.is_some() == is_stored,
             format_args!("{asked} asks for {key} among {len}"),
         )?;
     }

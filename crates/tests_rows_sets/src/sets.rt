@@ -148,10 +148,12 @@ pub fn check_closed<T: StepLite + Clone + Debug + Word<Global>>(
 
 /// Compares a replay on sets in chunks of up to two ranges: its calls, which of them are accepted, and
 /// what each set holds then.
-fn check_calls_in_chunks<Q: Kind<R, Steps = R::Key>, R: FromEnds<Key = u32>>(
+fn check_calls_in_chunks<Q: Kind<R, Steps = R::Key>, R: FromEnds<Key: Word<Global>>>(
     alloc: Global,
     row: &str,
-) -> Result<(), Fail> {
+) -> Result<(), Fail>
+    requires { KeysCloneFaithfully R.Key.is_clone R.Key.cmp }
+{
     let (calls, accepted, lists) = parts(row)?;
     let calls = set_calls_of::<Q, R, Global>(alloc, calls)?;
     check_replay::<ChunkedSet<Q, R, Global, 2>, _>(
@@ -174,17 +176,22 @@ pub fn check_half_open_replay(alloc: Global, row: &str) -> Result<(), Fail> {
 }
 
 /// Compares a replay on sets of closed ranges, in a sorted vector and in chunks.
-pub fn check_closed_replay(alloc: Global, row: &str) -> Result<(), Fail> {
+pub fn check_closed_replay<T: StepLite + Clone + Word<Global>>(
+    alloc: Global,
+    row: &str,
+) -> Result<(), Fail>
+    requires { KeysCloneFaithfully T.is_clone T.cmp }
+{
     let (calls, accepted, lists) = parts(row)?;
-    let calls = set_calls_of::<Closed<u32>, RangeInclusive<u32>, Global>(alloc, calls)?;
-    check_replay::<RangeInclusiveSet<u32>, _>(
+    let calls = set_calls_of::<Closed<T>, RangeInclusive<T>, Global>(alloc, calls)?;
+    check_replay::<RangeInclusiveSet<T>, _>(
         ReplayName::InclusiveSet,
         alloc,
         calls,
         accepted,
         lists,
     )?;
-    check_calls_in_chunks::<Closed<u32>, RangeInclusive<u32>>(alloc, row)
+    check_calls_in_chunks::<Closed<T>, RangeInclusive<T>>(alloc, row)
 }
 
 /// Compares a replay of changes by the steps of bytes.

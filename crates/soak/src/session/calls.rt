@@ -47,7 +47,8 @@ pub fn copy<S: Soaked>(subject: &mut S, model: &mut Model<'_>) -> Result<bool, S
     let held = model.chance.heap.held();
     model.chance.refuse_one();
     let made = subject.clone();
-    let is_refused = check_made(subject, model, &made, &model.points, held)?;
+    let is_refused = model.answer(made.is_ok(), false, held)?;
+    check_made(subject, model, &made, &model.points, held)?;
     if let Ok(copy) = made {
         *subject = copy;
         model.take_copy(subject.len());
@@ -65,7 +66,9 @@ pub fn collect<S: Soaked>(
     let items = items::<S>(subject.heap(), runs)?;
     model.chance.refuse_one();
     let made = made_from::<S>(subject.heap(), items);
-    check_made(subject, model, &made, &Points::of(runs), held)
+    let is_refused = model.answer(made.is_ok(), true, held)?;
+    check_made(subject, model, &made, &Points::of(runs), held)?;
+    Ok(is_refused)
 }
 
 /// `|` or `&` with a set that is made for it; of a map, a lookup.
@@ -85,22 +88,23 @@ pub fn combine<S: Soaked>(
         return get(subject, model, point);
     };
     let points = model.points.combined(&Points::of(runs), is_union);
-    check_made(subject, model, &made, &points, held)
+    let is_refused = model.answer(made.is_ok(), true, held)?;
+    check_made(subject, model, &made, &points, held)?;
+    Ok(is_refused)
 }
 
 /// Compares a container that was made, unless it was refused, with the points that it is to have,
-/// and with this one. Answers whether it was refused.
+/// and with this one.
 fn check_made<S: Soaked>(
     subject: &S,
     model: &Model<'_>,
     made: &Result<S, AllocError>,
     points: &Points,
     held: u64,
-) -> Result<bool, Stop> {
-    let is_refused = model.answer(made.is_ok(), held)?;
+) -> Result<(), Stop> {
     if let Ok(made) = made {
         let list = list(model.alloc, made)?;
         model.check_made(points, &list, made.len(), *made == *subject, held)?;
     }
-    Ok(is_refused)
+    Ok(())
 }

@@ -1,6 +1,7 @@
 //! Rows about sets that are made of ranges and of other sets, in a sorted vector and in
 //! chunks.
 
+use crate::lent::{In, check_in_range};
 use rangemap::range_set::Set as SetOver;
 use rangemap::{RangeInclusiveSet, range_inclusive_set};
 use rangemap_chunked::Chunks;
@@ -45,5 +46,13 @@ fn ranges_are_inserted_in_order(rt: HostRuntime) -> Result<(), Fail> {
 fn a_list_makes_a_set(rt: HostRuntime) -> Result<(), Fail> {
     let made: Set = range_inclusive_set![in rt.alloc(); 0..=100, 101..=200]?;
     let none: Set = range_inclusive_set![in rt.alloc();]?;
-    check_text(rt.alloc(), &[made, none], "[{0..=200}, {}]")
+    check_text(rt.alloc(), &[made, none], "[{0..=200}, {}]")?;
+    let apart: Set = range_inclusive_set![in rt.alloc(); 0..=100, 200..=300, 400..=500]?;
+    check_in_range(
+        rt.alloc(),
+        &apart,
+        &(0..=500),
+        &In::TwoGaps,
+        "((0, None), (Ok(Some(101..=199)), Some(Ok(301..=399))), (Ok(None), None))",
+    )
 }

@@ -5,11 +5,10 @@ use std::test::Fail;
 
 #[test]
 fn bytes_by_own_steps(rt: HostRuntime) -> Result<(), Fail> {
-    check_bytes_changes(
-        rt.alloc(),
-        "new, insert 0..=9, insert 250..=255, clone, 1: insert 10..=249 | +++++ | \
-        0..=9, 250..=255; 0..=255",
-    )
+    let row = "new, insert 0..=9, insert 250..=255, clone, 1: insert 10..=249 | +++++ | \
+        0..=9, 250..=255; 0..=255";
+    check_closed_replay::<u8>(rt.alloc(), row)?;
+    check_bytes_changes(rt.alloc(), row)
 }
 
 #[test]
@@ -23,7 +22,7 @@ fn signed_bytes_by_steps_of_another_type(rt: HostRuntime) -> Result<(), Fail> {
 
 #[test]
 fn two_sets_are_put_together(rt: HostRuntime) -> Result<(), Fail> {
-    check_closed_replay(
+    check_closed_replay::<u32>(
         rt.alloc(),
         "from 0..=4, from 5..=9, union 0 1, 1: extend 4..=4, intersection 0 1, 2: remove 3..=6, \
         clear, new, 4: insert 0..=9, 4: insert 250..=255, 4: clone, 5: insert 10..=249 | \
@@ -34,7 +33,7 @@ fn two_sets_are_put_together(rt: HostRuntime) -> Result<(), Fail> {
 // No set is at the third place.
 #[test]
 fn calls_that_name_no_closed_set_are_refused(rt: HostRuntime) -> Result<(), Fail> {
-    check_closed_replay(
+    check_closed_replay::<u32>(
         rt.alloc(),
         "new, insert 0..=9, clone, remove 3..=5, 1: clear, \
         2: insert 0..=1, 2: remove 0..=1, 2: clear, 2: clone, 2: extend 0..=1, \

@@ -1,6 +1,7 @@
 //! Rows about sets that are made of ranges and of other sets, in a sorted vector, in a tree and in
 //! chunks.
 
+use crate::lent::{In, check_in_range};
 use rangemap::range_set::Set as SetOver;
 use rangemap::{RangeSet, range_set};
 use rangemap_chunked::Chunks;
@@ -47,6 +48,13 @@ fn ranges_are_inserted_in_order(rt: HostRuntime) -> Result<(), Fail> {
 fn a_list_makes_a_set(rt: HostRuntime) -> Result<(), Fail> {
     let made: Set = range_set![in rt.alloc(); 0..100, 200..300, 400..500]?;
     let none: Set = range_set![in rt.alloc();]?;
+    check_in_range(
+        rt.alloc(),
+        &made,
+        &(0..500),
+        &In::TwoGaps,
+        "((0, None), (Ok(Some(100..200)), Some(Ok(300..400))), (Ok(None), None))",
+    )?;
     check_text(
         rt.alloc(),
         &[made, none],
