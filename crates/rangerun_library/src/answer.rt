@@ -1,7 +1,6 @@
 //! Carrying out a command on a container, and the text of its answer.
-ghost use Rattle.std.specs.Prelude.{◌≡◌, false, OnErr};
-ghost use Rattle.rangemap.specs.Clones.{KeysCloneFaithfully, ValuesCloneFaithfully};
-ghost use Rattle.rangerun_library.specs.Commands.{may_change};
+ghost use Rattle.std.specs.Prelude.{◌≡◌, OnErr, OnOk};
+ghost use Rattle.rangerun_library.specs.Commands.{IsCarriedOut};
 
 use crate::command::Command;
 use crate::container::Container;
@@ -13,7 +12,7 @@ use std::alloc::{AllocError, Allocator, Global};
 ///
 /// # Errors
 ///
-/// Memory ran out: then the container is as it was.
+/// Memory ran out: then the container is as it was, and `text` may have a part of the line.
 pub fn answer<A: Allocator, C: Container<Alloc = A>>(
     alloc: A,
     json_alloc: Global,
@@ -21,8 +20,8 @@ pub fn answer<A: Allocator, C: Container<Alloc = A>>(
     command: Command<'_, C::Range>,
     text: &mut String<A>,
 ) -> Result<(), AllocError>
+    ensures ok { OnOk result (IsCarriedOut C.Kind.kind C.Value.eq (C.pairs container.old) command.entry (C.pairs container.new)) }
     ensures err { OnErr result (C.pairs container.new ≡ C.pairs container.old) }
-    ensures asks { may_change command.entry ≡ false → C.pairs container.new ≡ C.pairs container.old }
 {
     match command {
         Command::Insert(span, value) => container.insert(span.range(), C::value(alloc, value)?),

@@ -1,4 +1,6 @@
 //! The program from what the system hands it to its exit status.
+ghost use Rattle.std.specs.Prelude.{◌≡◌, IfErr, OnOk};
+ghost use Rattle.rangerun_library.specs.Faults.{status_of};
 
 use crate::fault::{Cause, Fault};
 use crate::session::run;
@@ -29,7 +31,10 @@ pub fn arguments_fault(error: &io::Error) -> Fault {
 }
 
 /// Reports the fault that ended a run, if one did, by a line on `errors`, and returns the exit status.
-pub fn report<W: Write + Drop>(ended: Result<(), Fault>, mut errors: W) -> u8 {
+pub fn report<W: Write + Drop>(ended: Result<(), Fault>, mut errors: W) -> u8
+    ensures well { OnOk ended (result ≡ 0) }
+    ensures fault { IfErr ended (λ fault. result ≡ status_of fault.number) }
+{
     match ended {
         Ok(()) => 0,
         Err(fault) => {
