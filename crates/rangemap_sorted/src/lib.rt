@@ -13,3 +13,6 @@ mod sorted_vec;
 mod splice;
 
 pub use sorted_vec::SortedVec;
+
+#[cfg(test)]
+mod asks;

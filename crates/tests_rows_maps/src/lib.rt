@@ -24,8 +24,6 @@ mod maps;
 #[cfg(test)]
 mod noted;
 #[cfg(test)]
-mod searches;
-#[cfg(test)]
 mod segments;
 #[cfg(test)]
 mod tables;
