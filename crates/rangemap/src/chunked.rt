@@ -5,7 +5,8 @@
 //! They have every call that the containers in a sorted vector have, with the same contracts. Each
 //! chunk owns a handle of the allocator, so `A` has to be one that can be cloned, as in std's B-tree.
 
-use crate::range_set::{Set, calls as set_calls};
+pub use crate::range_set::Set;
+use crate::range_set::calls as set_calls;
 use rangemap_chunked::{Chunks, SIZE, into_iter, iter};
 use rangemap_containers::calls;
 pub use rangemap_containers::replay::{replay, replay as replay_with_step_fns};

@@ -1,6 +1,6 @@
 //! The set over closed ranges, and the runs of any calls that make or change such sets.
 
-use crate::range_set::Set;
+pub use crate::range_set::Set;
 use crate::range_set::calls::SetCall;
 use rangemap_containers::calls;
 pub use rangemap_containers::replay::{replay, replay as replay_with_step_fns};

@@ -1,7 +1,7 @@
 //! The set over half-open ranges that keeps them in a tree, and the run of any calls that make or
 //! change such sets.
 
-use crate::range_set::Set;
+pub use crate::range_set::Set;
 use crate::range_set::calls::SetCall;
 pub use rangemap_containers::replay::replay;
 use rangemap_core::gaps;

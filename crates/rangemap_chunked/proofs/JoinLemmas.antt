@@ -25,11 +25,6 @@ module _ {X : Type 0} where
     halves_are : (front_new back_new : List (List X)) → length front_new ≡ length front → length back_new ≡ length back → take all (front_new ++ back_new ++ rest) ≡ front_new ++ back_new
     halves_are front_new back_new f b = take_at (front_new ++ back_new) rest all (length-append front_new back_new ∙ omega (arith, f, b, front_length, back_length, all_is))
 
-    -- the list is as it was where the halves come back as they were
-    pub unjoined : (front_new back_new new : List (List X)) → front_new ≡ front → back_new ≡ back → new ≡ take all (front_new ++ back_new ++ rest) → new ≡ chunks
-    unjoined front_new back_new new f b new_is =
-        new_is ∙ halves_are front_new back_new (ap length f) (ap length b) ∙ (λ i. f i ++ b i) ∙ (λ i. front_is i ++ back_is i) ∙ take-append-drop (at + 1) chunks
-
     -- what is left when the pairs of the second chunk were moved, and it was taken out
     module _ (front_new back_new new : List (List X)) (to_is : front_new ≡ set front at (get_or front at [] ++ get_or back 0 [])) (from_is : back_new ≡ set back 0 [])
         (new_is : new ≡ take (at + 1) (take all (front_new ++ back_new ++ rest)) ++ drop (at + 2) (take all (front_new ++ back_new ++ rest))) where

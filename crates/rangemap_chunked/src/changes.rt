@@ -34,7 +34,7 @@ pub fn insert_into<Q: Kind<R>, R: KeyRange, V: Eq + Clone, A: Allocator + Clone,
     value: V,
 ) -> Result<Counts, AllocError>
     requires chunked { AreChunks Q.kind V.eq chunks.old.items }
-    requires fits { length (whole chunks.old.items) ≤ 18446744073709551615 }
+    requires fits { length (whole chunks.old.items) ≤ usize.MAX }
     requires non_empty { Q.kind.IsNonEmpty range }
     requires faithful_keys { KeysCloneFaithfully R.Key.is_clone R.Key.cmp }
     requires faithful_values { ValuesCloneFaithfully V.is_clone V.eq }
@@ -99,7 +99,7 @@ pub fn remove_from<Q: Kind<R>, R: KeyRange, V: Eq + Clone, A: Allocator + Clone,
     ensures filled { AreFilled chunks.new.items }
     ensures err { OnErr result (whole chunks.new.items ≡ whole chunks.old.items) }
     ensures counted { IfOk result (λ counts. IsCounted V.eq 1 (whole chunks.old.items) (whole chunks.new.items) counts.before counts.after) }
-    ensures fits { IfOk result (λ _. length (whole chunks.new.items) ≤ 18446744073709551615) }
+    ensures fits { IfOk result (λ _. length (whole chunks.new.items) ≤ usize.MAX) }
     ensures meets_nothing { overlapped Q.kind (whole chunks.old.items) range ≡ [] → IsOk result × (whole chunks.new.items ≡ whole chunks.old.items) }
 {
     if chunks.is_empty() {

@@ -185,7 +185,7 @@ pub fn may_overflow<Q: Kind<R>, R: KeyRange, V: Eq, A: Allocator>(
     requires non_empty { Q.kind.IsNonEmpty range.now }
     ensures alone { overlapped Q.kind (whole chunks.now) range.now ≡ [] → end ≤ at + 1 }
     ensures refused { result ≡ true → overlapped Q.kind (whole chunks.now) range.now ≡ [] → ⊥ }
-    ensures allowed { result ≡ false → (len < 18446744073709551615) ⊎ ((end ≤ at + 1) × (overlapped Q.kind (slice_index_or chunks.now at []) range.now ≡ [])) }
+    ensures allowed { result ≡ false → (len < usize.MAX) ⊎ ((end ≤ at + 1) × (overlapped Q.kind (slice_index_or chunks.now at []) range.now ≡ [])) }
 {
     known_ends::<Q, R>(range);
     if len < usize::MAX {

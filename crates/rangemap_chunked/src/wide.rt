@@ -34,7 +34,7 @@ pub fn change_over<Q: Kind<R>, R: KeyRange, V: Eq + Clone, A: Allocator>(
     value: Option<V>,
 ) -> Result<Counts, AllocError>
     requires chunked { AreChunks Q.kind V.eq chunks.old.items }
-    requires fits { length (whole chunks.old.items) ≤ 18446744073709551615 }
+    requires fits { length (whole chunks.old.items) ≤ usize.MAX }
     requires start { at < length chunks.old.items }
     requires end { end ≤ length chunks.old.items }
     requires before { IsClearBefore (shape_of Q.kind Q.end_place V.eq) chunks.old.items range at }
@@ -68,7 +68,7 @@ pub fn change_over<Q: Kind<R>, R: KeyRange, V: Eq + Clone, A: Allocator>(
 
 // How many pairs chunks have.
 fn count<R, V, A: Allocator>(chunks: &[Chunk<R, V, A>]) -> usize
-    requires { length (whole chunks.now) ≤ 18446744073709551615 }
+    requires { length (whole chunks.now) ≤ usize.MAX }
     ensures { result ≡ length (whole chunks.now) }
 {
     let mut count = 0;

@@ -9,7 +9,7 @@
 //! That the operators are made is read in the bodies.
 //!
 //! A clone of a key compares equal to its original, as for `insert`.
-ghost use Rattle.std.specs.Prelude.{◌≡◌, IsTrue, IfOk};
+ghost use Rattle.std.specs.Prelude.{IsTrue, IfOk};
 ghost use Rattle.rangemap.specs.Clones.{KeysCloneFaithfully};
 ghost use Rattle.rangemap.specs.Joined.{joined, other_of};
 ghost use Rattle.rangemap.specs.Ranges.{IsCanonOfPoints, covers, same_ranges};
@@ -23,14 +23,14 @@ pub use rangemap_unions::laws::closed_operations;
 use std::alloc::AllocError;
 
 /// Both sides of a law, left and right.
-pub type Sides<M> = Result<(M, M), AllocError>;
+pub type BothSides<M> = Result<(M, M), AllocError>;
 
 /// `a | b` equals `b | a`, and `a & b` equals `b & a`.
 pub fn commutes<S: StoreMut<Value = ()> + Drop>(
     operator: Operator,
     first: &Set<S>,
     second: &Set<S>,
-) -> Sides<Set<S>>
+) -> BothSides<Set<S>>
 where
     S::Alloc: Clone,
     S::Kind: Kind<S::Range, Steps = <S::Range as KeyRange>::Key>,
@@ -50,7 +50,7 @@ pub fn associates<S: StoreMut<Value = ()> + Drop>(
     first: &Set<S>,
     second: &Set<S>,
     third: &Set<S>,
-) -> Sides<Set<S>>
+) -> BothSides<Set<S>>
 where
     S::Alloc: Clone,
     S::Kind: Kind<S::Range, Steps = <S::Range as KeyRange>::Key>,
@@ -109,7 +109,7 @@ pub fn distributes<S: StoreMut<Value = ()> + Drop>(
     first: &Set<S>,
     second: &Set<S>,
     third: &Set<S>,
-) -> Sides<Set<S>>
+) -> BothSides<Set<S>>
 where
     S::Alloc: Clone,
     S::Kind: Kind<S::Range, Steps = <S::Range as KeyRange>::Key>,
