@@ -4,7 +4,7 @@
 //! numbers as values. `replay` has its theorem: the calendar keeps its days.
 #![tactic(auto)]
 
-ghost use Rattle.std.specs.Prelude.{◌≡◌, ◌≤◌, [], OnErr, OnOk, map, nat_eq};
+ghost use Rattle.std.specs.Prelude.{◌≡◌, [], OnErr, OnOk, map, nat_eq};
 ghost use Rattle.std.specs.Bool.{OnFalse, OnTrue};
 ghost use Rattle.rangemap.specs.Ranges.{AreGaps, IsCanonOf, IsCanonical};
 ghost use Rattle.std.specs.Range.{range_inclusive_end, range_inclusive_start};

@@ -1,5 +1,5 @@
 -- A list of pairs that is kept in chunks.
-use Rattle.std.specs.Prelude.{◌≡◌, ℕ, ◌+◌, ◌<◌, ◌≤◌, Bool, true, false, List, [], ◌∷◌, ◌++◌, length, take, drop, slice_get, Option, Some, None, IfSome}
+use Rattle.std.specs.Prelude.{◌≡◌, ℕ, ◌+◌, ◌<◌, ◌≤◌, Bool, true, false, List, [], ◌∷◌, ◌++◌, length, take, drop, slice_get, Option, Some, None, IfSome, option_map, unwrap_or}
 use Rattle.std.specs.declared.cmp.Ordering.TheVariants.{Less}
 use Rattle.std.specs.Ordering.{is_lt, is_gt}
 use Rattle.rangemap_core.specs.Ranges.{RangeKind, IsCanonical}
@@ -10,6 +10,10 @@ use Rattle.rangemap_core.specs.engine.Stretch.{Every}
 abbrev pub whole : {X : Type 0} → List (List X) → List X
 whole [] = []
 whole (chunk ∷ rest) = chunk ++ whole rest
+
+-- what is left of a chunk that was begun, if one was
+abbrev pub left_of : {I X : Type 0} → (I → List X) → Option I → List X
+left_of items begun = unwrap_or (option_map items begun) []
 
 -- no chunk is empty
 abbrev pub AreFilled : {X : Type 0} → List (List X) → Type 0

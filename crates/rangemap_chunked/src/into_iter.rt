@@ -1,8 +1,8 @@
 //! The pairs of chunks, handed over one after another.
-ghost use Rattle.std.specs.Prelude.{◌≡◌, [], MatchOption, option_map, unwrap_or};
+ghost use Rattle.std.specs.Prelude.{◌≡◌, [], MatchOption};
 ghost use Rattle.std.specs.Map.Iter.{TakesFirst, TakesLast};
 ghost use Rattle.std.specs.Vec.Iter.{into_iter_items};
-ghost use Rattle.rangemap_chunked.specs.Chunks.{AreFilled, whole};
+ghost use Rattle.rangemap_chunked.specs.Chunks.{AreFilled, left_of, whole};
 
 use crate::chunk::Chunk;
 use rangemap_core::cursor::Cursor;
@@ -24,13 +24,13 @@ pub struct IntoIter<R, V, A: Allocator> {
 }
 
 impl<R, V, A: Allocator> Model for IntoIter<R, V, A> {
-    ghost use Rattle.std.specs.Prelude.{List, [], ◌++◌, option_map, unwrap_or};
+    ghost use Rattle.std.specs.Prelude.{List, ◌++◌};
     ghost use Rattle.std.specs.Vec.Iter.{into_iter_items};
-    ghost use Rattle.rangemap_chunked.specs.Chunks.{AreFilled, whole};
+    ghost use Rattle.rangemap_chunked.specs.Chunks.{AreFilled, left_of, whole};
 
     ghost Value = { List (R × V) };
 
-    ghost view = { λ s. unwrap_or (option_map into_iter_items s.front) [] ++ (whole (into_iter_items s.chunks) ++ unwrap_or (option_map into_iter_items s.back) []) };
+    ghost view = { λ s. left_of into_iter_items s.front ++ (whole (into_iter_items s.chunks) ++ left_of into_iter_items s.back) };
 
     ghost invariant = { λ s. AreFilled (into_iter_items s.chunks) };
 }
@@ -91,8 +91,8 @@ fn next_pairs<R, V, A: Allocator>(
     other_end: &mut Option<vec::IntoIter<(R, V), A>>,
 ) -> Option<vec::IntoIter<(R, V), A>>
     ensures { MatchOption chunk
-        ((unwrap_or (option_map into_iter_items result) [] ≡ unwrap_or (option_map into_iter_items other_end.old) []) × (unwrap_or (option_map into_iter_items other_end.new) [] ≡ []))
-        (λ pairs. (unwrap_or (option_map into_iter_items result) [] ≡ pairs) × (unwrap_or (option_map into_iter_items other_end.new) [] ≡ unwrap_or (option_map into_iter_items other_end.old) [])) }
+        ((left_of into_iter_items result ≡ left_of into_iter_items other_end.old) × (left_of into_iter_items other_end.new ≡ []))
+        (λ pairs. (left_of into_iter_items result ≡ pairs) × (left_of into_iter_items other_end.new ≡ left_of into_iter_items other_end.old)) }
 {
     match chunk {
         Some(chunk) => Some(chunk.into_pairs()),
@@ -104,7 +104,7 @@ fn next_pairs<R, V, A: Allocator>(
 fn first_of<R: Drop, V: Drop, A: Allocator>(
     pairs: &mut Option<vec::IntoIter<(R, V), A>>,
 ) -> Option<(R, V)>
-    ensures { TakesFirst (λ pair. pair) (unwrap_or (option_map into_iter_items pairs.old) []) result (unwrap_or (option_map into_iter_items pairs.new) []) }
+    ensures { TakesFirst (λ pair. pair) (left_of into_iter_items pairs.old) result (left_of into_iter_items pairs.new) }
 {
     pairs.as_mut()?.next()
 }
@@ -113,7 +113,7 @@ fn first_of<R: Drop, V: Drop, A: Allocator>(
 fn last_of<R: Drop, V: Drop, A: Allocator>(
     pairs: &mut Option<vec::IntoIter<(R, V), A>>,
 ) -> Option<(R, V)>
-    ensures { TakesLast (λ pair. pair) (unwrap_or (option_map into_iter_items pairs.old) []) result (unwrap_or (option_map into_iter_items pairs.new) []) }
+    ensures { TakesLast (λ pair. pair) (left_of into_iter_items pairs.old) result (left_of into_iter_items pairs.new) }
 {
     pairs.as_mut()?.next_back()
 }

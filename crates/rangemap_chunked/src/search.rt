@@ -1,7 +1,7 @@
 //! Where a key or a range lies among the chunks.
 //!
 //! No chunk is empty, and their lists, one after the other, are canonical.
-ghost use Rattle.std.specs.Prelude.{◌≡◌, ◌⊎◌, Bool, List, true, false, ◌+◌, ◌<◌, ◌≤◌, [], length, slice_index_or, nat_lt, IfSome, Some as SomeWord, None as NoneWord, MatchOption};
+ghost use Rattle.std.specs.Prelude.{◌≡◌, ◌⊎◌, Bool, true, false, ◌+◌, ◌<◌, ◌≤◌, [], length, slice_index_or, nat_lt, IfSome, Some as SomeWord, None as NoneWord, MatchOption};
 ghost use Rattle.std.specs.Fn.{ComputesKey};
 ghost use Rattle.std.specs.List.{AllWithin};
 ghost use Rattle.std.specs.List.Sorted.{IsPartitionedBy};

@@ -3,7 +3,7 @@
 //! A step is asked of a key only where a greater or smaller key was seen, which is a condition of
 //! the step: so nothing here steps past the last key of a type.
 ghost use Rattle.std.specs.Prelude.{◌≡◌};
-ghost use Rattle.rangemap_core.specs.engine.Endpoints.{AtEnd, AtStart, IsAsked, IsAskedAt, endpoint_of, is_before};
+ghost use Rattle.rangemap_core.specs.engine.Endpoints.{IsAskedAt, endpoint_of, is_before};
 ghost use Rattle.rangemap_core.specs.engine.ClosedPlaces.{closed_end_place};
 ghost use Rattle.rangemap_core.specs.Ranges.{closed};
 

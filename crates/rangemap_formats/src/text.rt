@@ -2,8 +2,8 @@
 //!
 //! The plain text is written by hand, since std's `Debug` of ranges, and its builders, have no contract.
 //! Under `{:#?}` std's `debug_set` lays the pairs out, and nothing is promised of that text.
-ghost use Rattle.std.specs.Prelude.{◌≡◌, ℕ, List, Option, Some, codes, map};
-ghost use Rattle.std.specs.Fmt.{DisplaysOnOk, WritesOnOk, ◌++?◌};
+ghost use Rattle.std.specs.Prelude.{ℕ, List, Option, Some, map};
+ghost use Rattle.std.specs.Fmt.{DisplaysOnOk};
 ghost use Rattle.rangemap_formats.specs.Texts.{braced_text, items_text, map_text, others_text, pair_text, range_text, set_text};
 
 use rangemap_core::cursor::Cursor;

@@ -1,6 +1,5 @@
 //! The search for a key among stored starts, by halving.
-ghost use Rattle.std.specs.Prelude.{◌≡◌, ◌+◌, ◌*◌, ◌^◌, ◌<◌, ◌≤◌, true, false, length};
-ghost use Rattle.std.specs.List.{All};
+ghost use Rattle.std.specs.Prelude.{◌≡◌, ◌+◌, ◌*◌, ◌^◌, ◌<◌, ◌≤◌, length};
 ghost use Rattle.std.specs.List.Sorted.{IsPartitionedBy};
 ghost use Rattle.rangemap_core.specs.Ranges.{IsCanonical};
 ghost use Rattle.rangemap_core.specs.engine.Shape.{PassesUpTo, is_up_to, starts_by_key};

@@ -5,11 +5,10 @@ ghost use Rattle.std.specs.Iterator.SizeHint.{IsWithinCount};
 ghost use Rattle.rangemap_core.specs.Clones.{KeysCloneFaithfully, KeysCloneInfallibly};
 ghost use Rattle.rangemap_core.specs.MadeRanges.{GivesRange, TakesRange};
 ghost use Rattle.std.specs.Map.Iter.{TakesFirst};
-ghost use Rattle.std.specs.Option.{option_map};
 ghost use Rattle.rangemap_core.specs.Sets.{AreHulls, AreNonEmptyRanges, CoverEither, IsCanonicalSet, ranges};
 ghost use Rattle.rangemap_core.specs.Shown.{shown_range};
 ghost use Rattle.rangemap_unions.specs.Items.{items_from, items_of, merged, reaches, union_items};
-ghost use Rattle.rangemap_unions.specs.Merged.{IsUnreached, items_behind, left_first};
+ghost use Rattle.rangemap_unions.specs.Merged.{IsUnreached, items_left, left_first};
 
 use crate::item::{between, compare_ends, compare_starts};
 use crate::ranges::Ranges;
@@ -34,18 +33,15 @@ pub struct Union<C: Cursor<Range: KeyRange>> {
 }
 
 impl<C: Cursor<Range: KeyRange>> Model for Union<C> {
-    ghost use Rattle.std.specs.Prelude.{List, [], if◌then◌else◌, unwrap_or};
-    ghost use Rattle.std.specs.Option.{option_map};
-    ghost use Rattle.rangemap_core.specs.Sets.{AreNonEmptyRanges, ranges};
-    ghost use Rattle.rangemap_core.specs.Shown.{shown_range};
-    ghost use Rattle.rangemap_unions.specs.Items.{merged};
-    ghost use Rattle.rangemap_unions.specs.Merged.{items_behind};
+    ghost use Rattle.std.specs.Prelude.{List, [], if◌then◌else◌};
+    ghost use Rattle.rangemap_core.specs.Sets.{AreNonEmptyRanges};
+    ghost use Rattle.rangemap_unions.specs.Merged.{items_left};
 
     ghost Value = { List C.Range };
 
-    ghost view = { λ s. if s.is_done then [] else items_behind C.Range.places (option_map (λ first. (shown_range C.given first, shown_range C.given (unwrap_or s.sides.last first))) s.sides.first) (merged C.Range.places (ranges (C.left s.sides.left)) (ranges (C.left s.sides.right))) };
+    ghost view = { λ s. if s.is_done then [] else items_left C.Range.places C.given s.sides.first s.sides.last (C.left s.sides.left) (C.left s.sides.right) };
 
-    ghost invariant = { λ s. AreNonEmptyRanges C.Range.read (items_behind C.Range.places (option_map (λ first. (shown_range C.given first, shown_range C.given (unwrap_or s.sides.last first))) s.sides.first) (merged C.Range.places (ranges (C.left s.sides.left)) (ranges (C.left s.sides.right)))) };
+    ghost invariant = { λ s. AreNonEmptyRanges C.Range.read (items_left C.Range.places C.given s.sides.first s.sides.last (C.left s.sides.left) (C.left s.sides.right)) };
 }
 
 impl<C: Peek> Union<C> {
@@ -227,8 +223,8 @@ impl<C: Peek> Sides<C> {
     fn begin(&mut self) -> Option<((C::Given, C::GivenValue), Option<(C::Given, C::GivenValue)>)>
         ensures none_begun { self.new.first ≡ NoneWord }
         ensures begun { MatchOption result
-            ((items_behind C.Range.places (option_map (λ first. (shown_range C.given first, shown_range C.given (unwrap_or self.old.last first))) self.old.first) (merged C.Range.places (ranges (C.left self.old.left)) (ranges (C.left self.old.right))) ≡ []) × (merged C.Range.places (ranges (C.left self.new.left)) (ranges (C.left self.new.right)) ≡ []))
-            (λ begun. items_behind C.Range.places (option_map (λ first. (shown_range C.given first, shown_range C.given (unwrap_or self.old.last first))) self.old.first) (merged C.Range.places (ranges (C.left self.old.left)) (ranges (C.left self.old.right)))
+            ((items_left C.Range.places C.given self.old.first self.old.last (C.left self.old.left) (C.left self.old.right) ≡ []) × (merged C.Range.places (ranges (C.left self.new.left)) (ranges (C.left self.new.right)) ≡ []))
+            (λ begun. items_left C.Range.places C.given self.old.first self.old.last (C.left self.old.left) (C.left self.old.right)
             ≡ items_from C.Range.places (shown_range C.given begun.0) (shown_range C.given (unwrap_or begun.1 begun.0)) (merged C.Range.places (ranges (C.left self.new.left)) (ranges (C.left self.new.right)))) }
     {
         if let Some(first) = self.first.take() {
@@ -240,11 +236,11 @@ impl<C: Peek> Sides<C> {
 
     // Takes the next item, made of clones. `Err` says that a clone was refused: no item is lost then.
     fn try_next(&mut self) -> Result<Option<C::Range>, AllocError>
-        requires non_empty { AreNonEmptyRanges C.Range.read (items_behind C.Range.places (option_map (λ first. (shown_range C.given first, shown_range C.given (unwrap_or self.now.last first))) self.now.first) (merged C.Range.places (ranges (C.left self.now.left)) (ranges (C.left self.now.right)))) }
+        requires non_empty { AreNonEmptyRanges C.Range.read (items_left C.Range.places C.given self.now.first self.now.last (C.left self.now.left) (C.left self.now.right)) }
         requires faithful_keys { KeysCloneFaithfully C.Range.Key.is_clone C.Range.Key.cmp }
-        ensures ok { IfOk result (λ item. TakesRange C.Range.read (items_behind C.Range.places (option_map (λ first. (shown_range C.given first, shown_range C.given (unwrap_or self.old.last first))) self.old.first) (merged C.Range.places (ranges (C.left self.old.left)) (ranges (C.left self.old.right)))) item (items_behind C.Range.places (option_map (λ first. (shown_range C.given first, shown_range C.given (unwrap_or self.new.last first))) self.new.first) (merged C.Range.places (ranges (C.left self.new.left)) (ranges (C.left self.new.right))))) }
-        ensures err { OnErr result (items_behind C.Range.places (option_map (λ first. (shown_range C.given first, shown_range C.given (unwrap_or self.new.last first))) self.new.first) (merged C.Range.places (ranges (C.left self.new.left)) (ranges (C.left self.new.right))) ≡ items_behind C.Range.places (option_map (λ first. (shown_range C.given first, shown_range C.given (unwrap_or self.old.last first))) self.old.first) (merged C.Range.places (ranges (C.left self.old.left)) (ranges (C.left self.old.right)))) }
-        ensures refused { OnErr result (items_behind C.Range.places (option_map (λ first. (shown_range C.given first, shown_range C.given (unwrap_or self.old.last first))) self.old.first) (merged C.Range.places (ranges (C.left self.old.left)) (ranges (C.left self.old.right))) ≢ []) }
+        ensures ok { IfOk result (λ item. TakesRange C.Range.read (items_left C.Range.places C.given self.old.first self.old.last (C.left self.old.left) (C.left self.old.right)) item (items_left C.Range.places C.given self.new.first self.new.last (C.left self.new.left) (C.left self.new.right))) }
+        ensures err { OnErr result (items_left C.Range.places C.given self.new.first self.new.last (C.left self.new.left) (C.left self.new.right) ≡ items_left C.Range.places C.given self.old.first self.old.last (C.left self.old.left) (C.left self.old.right)) }
+        ensures refused { OnErr result (items_left C.Range.places C.given self.old.first self.old.last (C.left self.old.left) (C.left self.old.right) ≢ []) }
         ensures succeeds { KeysCloneInfallibly C.Range.Key.is_infallible → IsOk result }
     {
         let Some((first, mut last)) = self.begin() else {

@@ -2,7 +2,7 @@
 //!
 //! The set that is made has another store than the one that it is made of, so that it can't be that
 //! one.
-ghost use Rattle.std.specs.Prelude.{◌≡◌, IfErr, IfOk, IsTrue};
+ghost use Rattle.std.specs.Prelude.{IfErr, IfOk, IsTrue};
 ghost use Rattle.std.specs.Fn.{FnReturnsAt};
 ghost use Rattle.rangemap.specs.Clones.{KeysCloneFaithfully};
 ghost use Rattle.rangemap.specs.Json.{IsForm, IsReading, KeysReadBack, RefusesToWrite, set_reader, set_writer};

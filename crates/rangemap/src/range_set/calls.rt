@@ -1,5 +1,5 @@
 //! Calls on a list of sets, as values, each made by the public call of the set at its place.
-ghost use Rattle.std.specs.Prelude.{◌≡◌, ◌+◌, ◌<◌, ◌≤◌, vec_len, vec_capacity};
+ghost use Rattle.std.specs.Prelude.{◌+◌, ◌<◌, ◌≤◌, vec_len, vec_capacity};
 ghost use Rattle.rangemap.specs.Clones.{KeysCloneFaithfully};
 ghost use Rattle.rangemap.specs.Histories.{Makes};
 ghost use Rattle.rangemap.specs.Joined.{joining};

@@ -141,7 +141,7 @@ pub enum Operator {
 }
 
 impl Operator {
-    /// Returns the set that the operator makes of the two, in memory of a clone of the first one's
+    /// Returns the set that the operator makes of the two, in memory of a clone of the left one's
     /// allocator.
     ///
     /// # Requires
@@ -153,18 +153,18 @@ impl Operator {
     /// Memory or a clone was refused.
     pub fn apply<S: StoreMut<Value = ()> + Drop>(
         self,
-        first: &Set<S>,
-        second: &Set<S>,
+        left: &Set<S>,
+        right: &Set<S>,
     ) -> Result<Set<S>, AllocError>
     where
-        S::Alloc: Clone,
         S::Kind: Kind<S::Range, Steps = <S::Range as KeyRange>::Key>,
+        S::Alloc: Clone,
         requires faithful_keys { KeysCloneFaithfully S.Range.Key.is_clone S.Range.Key.cmp }
-        ensures { IfOk result (IsCanonOfPoints S.Kind.kind (joined self (covers S.Kind.kind first.now) (covers S.Kind.kind second.now))) }
+        ensures { IfOk result (IsCanonOfPoints S.Kind.kind (joined self (covers S.Kind.kind left.now) (covers S.Kind.kind right.now))) }
     {
         match self {
-            Operator::Union => first | second,
-            Operator::Intersection => first & second,
+            Operator::Union => left | right,
+            Operator::Intersection => left & right,
         }
     }
 

@@ -3,7 +3,7 @@ ghost use Rattle.std.specs.Prelude.{◌≡◌, ◌∷◌, [], ℕ, Some as SomeW
 ghost use Rattle.std.specs.Ordering.{nat_cmp};
 ghost use Rattle.std.specs.declared.cmp.Ordering.TheVariants.{Equal as EqualWord, Less as LessWord};
 ghost use Rattle.rangemap_core.specs.ListOrder.{pairs_cmp, ranges_cmp};
-ghost use Rattle.rangemap_core.specs.Ranges.{AreGaps, IsCanonOf, IsCanonical, closed, covering, erase, half_open, overlapped, override, value_at};
+ghost use Rattle.rangemap_core.specs.Ranges.{AreGaps, IsCanonOf, IsCanonical, covering, erase, half_open, overlapped, override, value_at};
 ghost use Rattle.rangemap_formats.specs.Json.{IsForm, IsReading, RefusesToRead, list_of, map_entry, map_reader, map_writer, set_entry, set_writer};
 ghost use Rattle.rangemap_formats.specs.Texts.{plain_map, plain_set};
 ghost use Rattle.rangemap_formats.specs.declared.json.Form.TheVariants.{Any as AnyWord, Canonical as CanonicalWord};

@@ -1,5 +1,5 @@
 //! What commands answer can't tell what a map is made of.
-ghost use Rattle.std.specs.Prelude.{◌≡◌, IsOk, IsTrue, List, Result as ResultOf};
+ghost use Rattle.std.specs.Prelude.{IsOk, IsTrue, List, Result as ResultOf};
 ghost use Rattle.std.specs.List.{AllByRecursion, AllZip};
 ghost use Rattle.std.specs.declared.alloc.AllocError.{AllocError as Refusal};
 ghost use Rattle.std.specs.declared.ops.Range.{Range as RangeOf};

@@ -1,7 +1,6 @@
 //! The map as one of the library's containers: each method but the appends is the map's own call, since
 //! `self.insert(..)` is the call of `Map`, which comes before that of a trait. The appends hand its
 //! store's pairs and gaps on.
-ghost use Rattle.std.specs.Prelude.{◌≡◌};
 
 use super::Map;
 use rangemap_containers::container::{Appending, Container};
