@@ -46,7 +46,7 @@ pub fn try_replay<M: InRows, C: CallOn<M>>(
     }
 }
 
-/// Whether all calls were accepted. Shows that as many containers are granted as accepted calls have
+/// Whether all calls were accepted. Shows that as many containers are left as accepted calls have
 /// added, and that they hold what the row has where all were accepted.
 fn check_left<M: InRows>(answers: &[bool], all: &[M], row: &Row<'_>, granted: u64) -> Answer {
     let is_accepted = !answers.contains(&false);
