@@ -11,7 +11,7 @@ mod turn;
 /// Puts the values in the place of those at `places`, in order.
 ///
 /// The values that stand behind the stretch are moved at most once, and not at all
-/// where as many values come as go.
+/// where as many values come as go, but where the vector gets other memory, which moves all.
 ///
 /// # Errors
 ///
@@ -126,9 +126,38 @@ fn cut<T: Drop, A: Allocator>(list: &mut Vec<T, A>, start: usize, end: usize)
     }
 }
 
-// Moves the values behind the first `count` to the front, in order, each of them once: a turn does
-// so where blocks of `count` follow, and what is left then changes places with values that go.
+// std's turn has the values of the shorter side wait in a room of so many bytes on its stack.
+const TURN_ROOM_BYTES: usize = 4096;
+
+// Where the room is too small, blocks change places while both sides have so many values.
+const TURN_BLOCK: usize = 32;
+
+// Moves the values behind the first `count` to the front, in order, each of them once, but for the
+// smallest, as `turn_down` says.
 fn close_gap<T>(list: &mut [T], count: usize)
+    requires some { 0 < count }
+    requires in_bounds { count ≤ length list.old }
+    ensures kept { take (length list.old - count) list.new ≡ drop count list.old }
+    ensures len { length list.new ≡ length list.old }
+{
+    if turns_by_reversals(&list[..count]) {
+        exchange_down(list, count);
+    } else {
+        turn_down(list, count);
+    }
+}
+
+// Whether std's turn of a slice that begins with these values reverses it, which moves each value
+// twice: they have no room and are too few for blocks. One value and two are moved apart from the
+// others, however large they are.
+fn turns_by_reversals<T>(first: &[T]) -> bool {
+    2 < first.len() && first.len() < TURN_BLOCK && TURN_ROOM_BYTES < size_of_val(first)
+}
+
+// As `close_gap`, by a turn where blocks of `count` follow; what is left then changes places with
+// values that go. Where these take under 16 bytes, std's turn has the others wait instead if they
+// fit its room: two long copies are quicker than one by steps that short.
+fn turn_down<T>(list: &mut [T], count: usize)
     requires some { 0 < count }
     requires in_bounds { count ≤ length list.old }
     ensures kept { take (length list.old - count) list.new ≡ drop count list.old }
@@ -139,6 +168,18 @@ fn close_gap<T>(list: &mut [T], count: usize)
     let (blocks, last) = list.split_at_mut(turned);
     turn_left(blocks, count);
     swap_from(blocks, turned - count, last);
+}
+
+// As `close_gap`, value by value, each by one exchange with a value that goes.
+fn exchange_down<T>(list: &mut [T], count: usize)
+    requires some { 0 < count }
+    requires in_bounds { count ≤ length list.old }
+    ensures kept { take (length list.old - count) list.new ≡ drop count list.old }
+    ensures len { length list.new ≡ length list.old }
+{
+    for at in count..list.len() {
+        list.swap(at - count, at);
+    }
 }
 
 // Has the values from `at` on and others change places.

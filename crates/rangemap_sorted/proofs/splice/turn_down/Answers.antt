@@ -1,6 +1,6 @@
 use Rattle.std.proofs.Common.{arith}
 use Rattle.rangemap_sorted.proofs.SpliceLemmas.{gap_closed}
-use Rattle.rangemap_sorted.proofs.splice.close_gap.Goals as goal
+use Rattle.rangemap_sorted.proofs.splice.turn_down.Goals as goal
 
 pub returns-clause-kept : goal.returns-clause-kept
 returns-clause-kept g c =
