@@ -1,2 +1,3 @@
 -- Definitions of the calendar.
 pub mod Bookings
+pub mod Faults

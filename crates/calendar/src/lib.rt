@@ -16,6 +16,8 @@ pub use history::{Call, replay};
 use rangemap::inclusive_map::{Gaps, Iter};
 use rangemap::{RangeInclusiveMap, StepLite};
 use std::alloc::{AllocError, Allocator, Global};
+use std::error::Error;
+use std::fmt;
 use std::marker::Model;
 use std::ops::RangeInclusive;
 
@@ -40,6 +42,23 @@ impl From<AllocError> for BookError {
         BookError::OutOfMemory
     }
 }
+
+impl fmt::Display for BookError {
+    ghost use Rattle.std.specs.Prelude.{Some};
+    ghost use Rattle.calendar.specs.Faults.{book_error_text};
+
+    ghost output = { λ error. Some (book_error_text error) };
+
+    fn fmt<W: fmt::Write>(&self, f: &mut fmt::Formatter<W>) -> fmt::Result {
+        match self {
+            BookError::Empty => f.write_str("there is no day to book"),
+            BookError::Taken => f.write_str("a guest holds one of the days"),
+            BookError::OutOfMemory => f.write_str("out of memory"),
+        }
+    }
+}
+
+impl Error for BookError {}
 
 /// Which guest holds which day.
 ///
@@ -115,6 +134,7 @@ impl<A: Allocator> Calendar<A> {
         ensures free { OnFalse result (AreFree (holder_of self.now) (range_inclusive_start days.now) (range_inclusive_end days.now)) }
     {
         self.days.known();
+        // The end of the days is a key, as the lemma on `overlaps` asks.
         days.end().known();
         self.days.overlaps(days)
     }

@@ -11,6 +11,7 @@ ghost use Rattle.rangemap_formats.specs.declared.json.WriteError.TheVariants as 
 use std::alloc::{AllocError, AllocFailed};
 
 mod entries;
+mod messages;
 mod reading;
 mod writing;
 

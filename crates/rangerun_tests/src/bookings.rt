@@ -6,7 +6,7 @@ use std::alloc::Allocator;
 use std::test::Fail;
 use tests_support::{MANY, Refusing, check_same};
 
-/// The stretches of days that guests hold are these.
+// The stretches of days that guests hold are these.
 fn check_held<A: Allocator, R: AllocGlobal>(
     rt: &R,
     calendar: &Calendar<A>,
@@ -51,6 +51,21 @@ fn days_come_as_a_range(rt: HostRuntime) -> Result<(), Fail> {
 }
 
 #[test]
+fn errors_print_what_is_wrong(rt: HostRuntime) -> Result<(), Fail> {
+    let alloc = rt.alloc();
+    let told = [
+        (BookError::Empty, "there is no day to book"),
+        (BookError::Taken, "a guest holds one of the days"),
+        (BookError::OutOfMemory, "out of memory"),
+    ];
+    for (error, words) in &told {
+        let written = format!(in alloc; "{error}")?;
+        check_same(written.as_str(), *words)?;
+    }
+    Ok(())
+}
+
+#[test]
 fn calls_are_made_one_by_one(rt: HostRuntime) -> Result<(), Fail> {
     let mut calendar = Calendar::new(rt.alloc());
     check_same(calendar.make(book(10, 14, 1)), Ok(()))?;
@@ -89,12 +104,12 @@ fn calls_are_replayed(rt: HostRuntime) -> Result<(), Fail> {
     check_held(&rt, &calendar, &[(10, 11, 1), (12, 13, 2), (14, 20, 1)])
 }
 
-/// A call that books days.
+// A call that books days.
 fn book(first: u32, last: u32, guest: u32) -> Call {
     Call::Book { first, last, guest }
 }
 
-/// A call that frees days.
+// A call that frees days.
 fn cancel(first: u32, last: u32) -> Call {
     Call::Cancel { first, last }
 }
@@ -113,8 +128,8 @@ fn a_booking_may_be_refused_memory(rt: HostRuntime) -> Result<(), Fail> {
     check_held(&rt, &calendar, &[(10, 14, 1)])
 }
 
-/// Whether a cancellation in the middle of the last of `count` stretches is refused memory. What is
-/// refused changes nothing.
+// Whether a cancellation in the middle of the last of `count` stretches is refused memory. What is
+// refused changes nothing.
 fn is_cancel_refused<R: AllocGlobal>(rt: &R, count: u32) -> Result<bool, Fail> {
     let heap = Refusing::new(rt.alloc(), MANY);
     let mut calendar = Calendar::new(&heap);
