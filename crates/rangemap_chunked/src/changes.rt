@@ -145,7 +145,7 @@ pub fn change_at<Q: Kind<R>, R: KeyRange, V: Eq + Clone, A: Allocator>(
     ensures count { length chunks.new.items ≡ length chunks.old.items }
     ensures err { OnErr result (chunks.new.items ≡ chunks.old.items) }
     ensures counted { IfOk result (λ counts. IsCounted V.eq (grown value) (whole chunks.old.items) (whole chunks.new.items) counts.before counts.after) }
-    ensures stays { value ≡ NoneWord → overlapped Q.kind (slice_index_or chunks.old.items at []) range ≡ [] → IsOk result × (chunks.new.items ≡ chunks.old.items) }
+    ensures meets_nothing { value ≡ NoneWord → overlapped Q.kind (slice_index_or chunks.old.items at []) range ≡ [] → IsOk result × (chunks.new.items ≡ chunks.old.items) }
 {
     known_ends::<Q, R>(&range);
     let chunk = &mut chunks[at];

@@ -16,11 +16,8 @@ use rangemap_sorted::entries::covering;
 use std::alloc::{AllocError, Allocator};
 use std::marker::{Model, PhantomData};
 
-/// How many pairs a chunk has at most, in the containers that users name.
-///
-/// A change at a random place took, with chunks of 256, 512 and 1,024 pairs: 143, 158 and 260 ns
-/// among 1,000 ranges, 235, 239 and 330 ns among 10,000, 636, 480 and 469 ns among 100,000, and
-/// 1,730, 1,581 and 1,684 ns among 1,000,000; lookups, queries and iteration go with it.
+/// How many pairs a chunk has at most, in the containers that users name. docs/SPEED.md says what
+/// other sizes cost.
 pub const SIZE: usize = 512;
 
 /// Pairs of a range and a value in chunks, each a sorted vector of up to `N` pairs, or of more where

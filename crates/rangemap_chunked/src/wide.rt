@@ -50,7 +50,7 @@ pub fn change_over<Q: Kind<R>, R: KeyRange, V: Eq + Clone, A: Allocator>(
     ensures in_bounds { at < length chunks.new.items }
     ensures err { OnErr result (chunks.new.items ≡ chunks.old.items) }
     ensures counted { IfOk result (λ counts. IsCounted V.eq (grown value) (whole chunks.old.items) (whole chunks.new.items) counts.before counts.after) }
-    ensures stays { value ≡ NoneWord → end ≤ at + 1 → overlapped Q.kind (slice_index_or chunks.old.items at []) range ≡ [] → IsOk result × (chunks.new.items ≡ chunks.old.items) }
+    ensures meets_nothing { value ≡ NoneWord → end ≤ at + 1 → overlapped Q.kind (slice_index_or chunks.old.items at []) range ≡ [] → IsOk result × (chunks.new.items ≡ chunks.old.items) }
 {
     if end <= at + 1 {
         return change_at::<Q, R, V, A>(chunks, at, range, value);

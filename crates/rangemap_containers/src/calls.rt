@@ -2,7 +2,7 @@
 
 /// A call that every container has, over ranges of type `R`. It names a container by its place in
 /// the list.
-#[derive(Drop)]
+#[derive(Debug, Drop)]
 pub enum Change<R, V> {
     /// Makes an empty container, by `new_with_step_fns`.
     New,

@@ -12,8 +12,8 @@ use Rattle.rangemap_core.specs.engine.ClosedPlaces.{After, after_le, after_le_fr
 use Rattle.rangemap_core.specs.engine.Endpoints.{EndpointOf, AtStart, AtEnd, IsAsked, IsAskedAt, is_before}
 use Rattle.rangemap_core.specs.engine.ClosedEndpoints.{closed_placed, closed_first, closed_last, closed_part}
 use Rattle.rangemap_core.specs.Touch.{IsTouch}
-use Rattle.rangemap_core.specs.declared.std_ext.Touch.{Touch}
-use Rattle.rangemap_core.specs.declared.std_ext.Touch.TheVariants.{Apart, Touching, NotBefore}
+use Rattle.rangemap_core.specs.declared.kind.Touch.{Touch}
+use Rattle.rangemap_core.specs.declared.kind.Touch.TheVariants.{Apart, Touching, NotBefore}
 
 module _ {K : Type 0} (is_key : K → Type 0) (cmp : K → K → Ordering) (o : IsTotalOrder cmp) (after before : K → Option K)
     (follows : GivesSuccessors is_key cmp after) (precedes : GivesPredecessors is_key cmp before) where

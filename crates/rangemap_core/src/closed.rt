@@ -7,8 +7,8 @@ ghost use Rattle.rangemap_core.specs.engine.Endpoints.{IsAskedAt, endpoint_of, i
 ghost use Rattle.rangemap_core.specs.engine.ClosedPlaces.{closed_end_place};
 ghost use Rattle.rangemap_core.specs.Ranges.{closed};
 
-use crate::kind::{Endpoint, Kind};
-use crate::std_ext::{StepFns, Touch};
+use crate::kind::{Endpoint, Kind, Touch};
+use crate::std_ext::StepFns;
 use std::alloc::AllocError;
 use std::cmp::Ordering;
 use std::marker::PhantomData;

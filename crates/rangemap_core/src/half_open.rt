@@ -3,8 +3,7 @@ ghost use Rattle.std.specs.Prelude.{◌≡◌};
 ghost use Rattle.rangemap_core.specs.engine.Endpoints.{endpoint_of};
 ghost use Rattle.rangemap_core.specs.engine.EndpointKinds.{half_open_key};
 
-use crate::kind::{Endpoint, Kind};
-use crate::std_ext::Touch;
+use crate::kind::{Endpoint, Kind, Touch};
 use std::alloc::AllocError;
 use std::cmp::Ordering;
 use std::ops::Range;

@@ -10,7 +10,6 @@ ghost use Rattle.rangemap_core.specs.Sets.{IsCanonicalSet};
 ghost use Rattle.rangemap_core.specs.Touch.{IsTouch};
 
 use crate::key_range::KeyRange;
-use crate::std_ext::Touch;
 use std::alloc::AllocError;
 
 /// An endpoint of a range.
@@ -31,6 +30,17 @@ impl<'a, R> Clone for Endpoint<'a, R> {
 }
 
 impl<'a, R> Copy for Endpoint<'a, R> {}
+
+/// How a range lies relative to another, as `Kind::touch_test` tells it.
+#[derive(Clone, Copy, Debug, PartialEq, Eq)]
+pub enum Touch {
+    /// It lies wholly before the other, and the two don't touch.
+    Apart,
+    /// It lies wholly before the other, and the two touch: nothing lies between.
+    Touching,
+    /// It doesn't lie wholly before the other.
+    NotBefore,
+}
 
 /// A kind of range that may be stored: what the steps of keys decide.
 pub trait Kind<R: KeyRange> {

@@ -10,7 +10,6 @@ ghost use Rattle.rangemap_core.specs.engine.Stretch.{Every, IsCut};
 use crate::key_range::KeyRange;
 use crate::kind::{Endpoint, Kind, part_between};
 use std::alloc::AllocError;
-use std::cmp::Ordering;
 
 /// Returns whether the ranges have the same ends, and the values are equal.
 pub fn is_same<Q: Kind<R>, R: KeyRange, V: Eq>(
@@ -21,8 +20,8 @@ pub fn is_same<Q: Kind<R>, R: KeyRange, V: Eq>(
 ) -> bool
     ensures { result ≡ same_pair Q.kind V.eq (range.now, value.now) (other.now, other_value.now) }
 {
-    range.start().cmp(other.start()) == Ordering::Equal
-        && range.end().cmp(other.end()) == Ordering::Equal
+    range.start().cmp(other.start()).is_eq()
+        && range.end().cmp(other.end()).is_eq()
         && *value == *other_value
 }
 

@@ -24,9 +24,12 @@ use std::{slice, vec};
 /// | `iter`, `read`, `into_pairs` | *O*(1), and *O*(*n*) for all items | none |
 /// | `overlapping`, `read_overlapping` | *O*(log *n*), and *O*(*k*) for all items | none |
 /// | `append_gaps` | *O*(log *n* + *k*) | growth, clones |
-/// | `insert`, `remove` | *O*(log *n* + *k*), and a move of the pairs behind | growth, clones |
+/// | `insert`, `remove` | *O*(*n*): a search, and a move of the pairs behind | growth, clones |
 /// | `clear` | *O*(*n*), as each drop | none |
 /// | `copy` | *O*(*n*) | the vector, clones |
+///
+/// The first pair asks for room for twelve, and a growth doubles it. It is given back where the
+/// container is dropped; a `copy` has room for the pairs that there are.
 #[derive(Drop)]
 pub struct SortedVec<Q: Kind<R>, R: KeyRange, V: Eq + Clone, A: Allocator> {
     pairs: Vec<(R, V), A>,

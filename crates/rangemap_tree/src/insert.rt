@@ -125,7 +125,8 @@ fn last_before<'a, K: Ord, V: Eq, A: Allocator>(
 }
 
 // Returns what becomes of the pair that the new range meets at its end. Of the pairs that start no
-// later than the new range ends only the last, `near`, can reach past it.
+// later than the new range ends only the last, `near`, can reach past it. The contract alone reads
+// `pairs`.
 fn right_side<K: Ord + Clone, V: Eq + Clone, A: Allocator + Clone>(
     pairs: &ByStart<K, V, A>,
     near: Option<(&Range<K>, &V)>,

@@ -62,7 +62,7 @@ fn left_rest<K: Ord + Clone, V: Eq, A: Allocator + Clone>(
 }
 
 // What is left after the range of the last pair that starts before its end, with a clone of where
-// it starts.
+// it starts. The contract alone reads `pairs`.
 fn right_rest<K: Ord + Clone, V: Eq + Clone, A: Allocator + Clone>(
     pairs: &ByStart<K, V, A>,
     range: &Range<K>,

@@ -28,12 +28,13 @@ use std::ops::Range;
 /// | `iter`, `read`, `into_pairs` | *O*(log *n*), and *O*(*n*) for all items | none |
 /// | `overlapping`, `read_overlapping` | *O*(log *n*), and *O*(*k*) for all items | none |
 /// | `append_gaps` | *O*(log *n* + *k*) | growth, clones |
-/// | `insert`, `remove` | *O*((*k* + 1) log *n*) | nodes, clones, a list of *k* keys |
+/// | `insert`, `remove` | *O*((*k* + 1) log *n*) | nodes, clones of keys and of the allocator, a list of *k* keys |
 /// | `clear` | *O*(*n*), as each drop | none |
 /// | `copy` | *O*(*n*) | the tree, clones |
 ///
-/// An `insert` makes one clone of a value at most, for a part that it cuts off. For each stored
-/// range a `copy` clones three keys and a value.
+/// An `insert` makes one clone of a value at most, for a part that it cuts off. It clones the
+/// allocator for the list of keys that go, even where there are none, and so does a `remove` that
+/// meets a stored range. For each stored range a `copy` clones three keys and a value.
 #[derive(Drop)]
 pub struct Tree<K: Ord + Clone, V: Eq + Clone, A: Allocator + Clone> {
     pairs: ByStart<K, V, A>,

@@ -1,5 +1,5 @@
-//! Unions and intersections of sets, over whatever store, and the iterators over ranges without
-//! values.
+//! The iterators of sets, over whatever store: their ranges, those that overlap a range, unions and
+//! intersections.
 //!
 //! Users name the crate `rangemap`, which has the set itself. What a list of ranges means is said in
 //! `specs/Sets.antt`, beside `specs/Ranges.antt`, of `rangemap_core`.

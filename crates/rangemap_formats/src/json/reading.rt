@@ -9,8 +9,7 @@ ghost use Rattle.rangemap_formats.specs.declared.json.Form.TheVariants.{Canonica
 
 use super::{Form, Part, ReadError};
 use rangemap_core::key_range::KeyRange;
-use rangemap_core::kind::{Kind, known_ends};
-use rangemap_core::std_ext::Touch;
+use rangemap_core::kind::{Kind, Touch, known_ends};
 use rangemap_core::store::{Store, StoreMut};
 use serde_json::Value;
 

@@ -3,7 +3,7 @@ use std::alloc::Allocator;
 use std::vec::Vec;
 
 /// A command on a map with keys of type `K`, over ranges of type `R`.
-#[derive(Drop)]
+#[derive(Debug, Drop)]
 pub enum Command<K, R, V> {
     /// Gives the keys of the range the value.
     Insert(R, V),
@@ -24,7 +24,7 @@ pub enum Command<K, R, V> {
 }
 
 /// What a command answers that was accepted: clones of what it asked for.
-#[derive(Drop)]
+#[derive(Debug, Drop)]
 pub enum Answer<R, V, A: Allocator> {
     /// The map was changed.
     Done,

@@ -11,7 +11,7 @@ use std::vec::Vec;
 
 /// A call that makes a map or changes one, over ranges of type `R`. It names a map by its place in
 /// the list.
-#[derive(Drop)]
+#[derive(Debug, Drop)]
 pub enum Call<R, V, A: Allocator> {
     /// A call that every map has, where `New` makes the map by `new`.
     Change(Change<R, V>),

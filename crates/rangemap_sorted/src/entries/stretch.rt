@@ -10,9 +10,8 @@ ghost use Rattle.rangemap_sorted.specs.Sides.{IsSide};
 
 use crate::overlapping::overlap;
 use rangemap_core::key_range::KeyRange;
-use rangemap_core::kind::{Endpoint, Kind};
+use rangemap_core::kind::{Endpoint, Kind, Touch};
 use rangemap_core::pairs::piece;
-use rangemap_core::std_ext::Touch;
 use std::alloc::AllocError;
 use std::ops::Range;
 
@@ -125,6 +124,8 @@ fn side_between<Q: Kind<R>, R: KeyRange, V: Eq + Clone>(
 
 /// Returns the range to store: the new one, from the start of the stretch's first pair if that is taken
 /// in, and up to the end of its last if that is.
+///
+/// `value` is that of the new pair, of which the contract alone speaks.
 ///
 /// # Errors
 ///

@@ -150,7 +150,7 @@ impl<K: Ord + Drop, V: Drop, A: Allocator + Clone> ByStart<K, V, A> {
 
     /// Takes out the pairs that start within the range, at `starts`, and puts what is left of the
     /// pair before them in its place, if that is cut, and what is left of the last of them, if that
-    /// is.
+    /// is. The contract alone reads `range`.
     ///
     /// # Errors
     ///

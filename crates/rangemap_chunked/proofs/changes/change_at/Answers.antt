@@ -11,13 +11,13 @@ returns-clause-ok g c =
     let stored : IsStorable g.Q.Kind.kind c.args.range = record { start_is_key = c.known_ends.ensures.start_is_key; end_is_key = c.known_ends.ensures.end_is_key; non_empty = c.requires.non_empty } in
     chunk_changed g.met.Q.Kind.placed g.met.V.Eq.laws c.args.chunks.now.items c.requires.chunked c.args.at c.requires.in_bounds c.index_mut-chunk.result.now c.change.new.self c.index_mut-chunk.ensures.value c.args.range stored c.requires.before c.args.value c.in_ok-change.ensures.ok c.requires.behind c.requires.clear
 
-pub returns-in_err-change-clause-stays : goal.returns-in_err-change-clause-stays
-returns-in_err-change-clause-stays g c = λ out none.
+pub returns-in_err-change-clause-meets_nothing : goal.returns-in_err-change-clause-meets_nothing
+returns-in_err-change-clause-meets_nothing g c = λ out none.
     let here = ap (λ (xs : List (g.row.R.Denot × g.row.V.Denot)). overlapped g.Q.Kind.kind xs c.args.range) (c.index_mut-chunk.ensures.value ∙ get_or_default c.args.chunks.now.items c.args.at c.index_mut-chunk.result.now [] c.requires.in_bounds) ∙ none in
     absurd (true≢false (sym (c.in_err-change.ensures.meets_nothing out here).0))
 
-pub returns-clause-stays : goal.returns-clause-stays
-returns-clause-stays g c = λ out none.
+pub returns-clause-meets_nothing : goal.returns-clause-meets_nothing
+returns-clause-meets_nothing g c = λ out none.
     let here = ap (λ (xs : List (g.row.R.Denot × g.row.V.Denot)). overlapped g.Q.Kind.kind xs c.args.range) (c.index_mut-chunk.ensures.value ∙ get_or_default c.args.chunks.now.items c.args.at c.index_mut-chunk.result.now [] c.requires.in_bounds) ∙ none in
     let same = c.in_ok-change.ensures.meets_nothing out here in
     (same.0, ap (λ (xs : List (g.row.R.Denot × g.row.V.Denot)). set c.args.chunks.now.items c.args.at xs) (same.1 ∙ c.index_mut-chunk.ensures.value) ∙ set_same c.args.chunks.now.items c.args.at c.index_mut-chunk.result.now c.requires.in_bounds)

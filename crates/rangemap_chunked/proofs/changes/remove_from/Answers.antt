@@ -19,7 +19,7 @@ returns-in_err-counts-clause-meets_nothing g c = λ none.
     let l : at < length xs = search rules in
     let alone = c.may_overflow.ensures.alone (subst (λ (ps : List (List (g.row.R.Denot × g.row.V.Denot))). overlapped g.Q.Kind.kind (whole ps) c.args.range ≡ []) (sym c.deref-3.ensures.value) none) in
     let here = none_in_chunk (λ (pair : g.row.R.Denot × g.row.V.Denot). g.Q.Kind.kind.meets c.args.range pair.0) xs at (get_or xs at []) l (get_or_default xs at [] (get_or xs at []) l) none in
-    absurd (true≢false (sym (c.in_err-counts.ensures.stays refl alone here).0))
+    absurd (true≢false (sym (c.in_err-counts.ensures.meets_nothing refl alone here).0))
 
 pub returns-clause-meets_nothing : goal.returns-clause-meets_nothing
 returns-clause-meets_nothing g c = λ none.
@@ -28,7 +28,7 @@ returns-clause-meets_nothing g c = λ none.
     let l : at < length xs = search rules in
     let alone = c.may_overflow.ensures.alone (subst (λ (ps : List (List (g.row.R.Denot × g.row.V.Denot))). overlapped g.Q.Kind.kind (whole ps) c.args.range ≡ []) (sym c.deref-3.ensures.value) none) in
     let here = none_in_chunk (λ (pair : g.row.R.Denot × g.row.V.Denot). g.Q.Kind.kind.meets c.args.range pair.0) xs at (get_or xs at []) l (get_or_default xs at [] (get_or xs at []) l) none in
-    (refl, c.settle.ensures.whole ∙ ap (λ (ps : List (List (g.row.R.Denot × g.row.V.Denot))). whole ps) (c.in_ok-counts.ensures.stays refl alone here).1)
+    (refl, c.settle.ensures.whole ∙ ap (λ (ps : List (List (g.row.R.Denot × g.row.V.Denot))). whole ps) (c.in_ok-counts.ensures.meets_nothing refl alone here).1)
 
 pub change_over-requires-clause-begun : goal.change_over-requires-clause-begun
 change_over-requires-clause-begun g c = λ more.
@@ -48,7 +48,7 @@ returns-clause-fits g c =
       | inl less ↦ omega (arith, less, after, c.in_ok-counts.ensures.counted.sum, c.in_ok-counts.ensures.counted.growth, c.in_ok-counts.ensures.counted.some, c.requires.chunked.1)
       | inr t ↦
           let here = subst (λ (ps : List (List (g.row.R.Denot × g.row.V.Denot))). overlapped g.Q.Kind.kind (get_or ps c.start_of-at.result []) c.args.range ≡ []) c.deref-3.ensures.value t.1 in
-          let same = ap (λ (ps : List (List (g.row.R.Denot × g.row.V.Denot))). length (whole ps)) (c.in_ok-counts.ensures.stays refl t.0 here).1 in
+          let same = ap (λ (ps : List (List (g.row.R.Denot × g.row.V.Denot))). length (whole ps)) (c.in_ok-counts.ensures.meets_nothing refl t.0 here).1 in
           omega (arith, after, same, c.requires.chunked.1, c.ranges.len.fits)
     ]
 

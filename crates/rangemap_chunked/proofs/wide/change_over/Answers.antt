@@ -190,8 +190,8 @@ change_at-requires-clause-clear g c =
     let k = g.Q.Kind.kind in
     if_some_weaker c.args.value (Every-further (λ (b : g.row.R.Denot × g.row.V.Denot). place_cmp k.cmp (g.Q.Kind.end_place c.args.range) (Some (k.start b.0)) ≡ Less) c.args.chunks.now.items c.args.end (c.args.at + 1) (omega (arith, c.if-end-at.true))) c.requires.clear
 
-pub returns-clause-stays : goal.returns-clause-stays
-returns-clause-stays g c = λ out alone none. absurd (omega (arith, c.if-end-at.false, alone))
+pub returns-clause-meets_nothing : goal.returns-clause-meets_nothing
+returns-clause-meets_nothing g c = λ out alone none. absurd (omega (arith, c.if-end-at.false, alone))
 
-pub returns-in_err-change_between-clause-stays : goal.returns-in_err-change_between-clause-stays
-returns-in_err-change_between-clause-stays g c = λ out alone none. absurd (omega (arith, c.if-end-at.false, alone))
+pub returns-in_err-change_between-clause-meets_nothing : goal.returns-in_err-change_between-clause-meets_nothing
+returns-in_err-change_between-clause-meets_nothing g c = λ out alone none. absurd (omega (arith, c.if-end-at.false, alone))
