@@ -49,9 +49,9 @@ use std::ops::{Range, RangeInclusive};
 /// allocator(&self) -> &A
 /// iter(&self) -> Iter<'_, K, V, A>
 /// into_iter(self) -> IntoIter<K, V, A>
-/// overlapping(&self, range: &Range<K>) -> Overlapping<'_, K, V, A>
+/// overlapping<'a>(&'a self, range: &'a Range<K>) -> Overlapping<'a, K, V, A>
 /// overlaps(&self, range: &Range<K>) -> bool
-/// gaps(&self, outer_range: &Range<K>) -> Gaps<'_, K, V, A>
+/// gaps<'a>(&'a self, outer_range: &'a Range<K>) -> Gaps<'a, K, V, A>
 /// to_value(&self, alloc: Global, write_key, write_value) -> Result<Value, WriteError<E>>
 /// from_value(alloc: A, form: Form, value: &Value, read_key, read_value) -> Result<Self, ReadError<E>>
 /// ```
@@ -90,9 +90,9 @@ pub type RangeMap<K, V, A = Global> = Map<Chunks<HalfOpen, Range<K>, V, A, SIZE>
 /// allocator(&self) -> &A
 /// iter(&self) -> InclusiveIter<'_, K, V, A>
 /// into_iter(self) -> InclusiveIntoIter<K, V, A>
-/// overlapping(&self, range: &RangeInclusive<K>) -> InclusiveOverlapping<'_, K, V, A>
+/// overlapping<'a>(&'a self, range: &'a RangeInclusive<K>) -> InclusiveOverlapping<'a, K, V, A>
 /// overlaps(&self, range: &RangeInclusive<K>) -> bool
-/// gaps(&self, outer_range: &RangeInclusive<K>) -> InclusiveGaps<'_, K, V, StepFnsT, A>
+/// gaps<'a>(&'a self, outer_range: &'a RangeInclusive<K>) -> InclusiveGaps<'a, K, V, StepFnsT, A>
 /// to_value(&self, alloc: Global, write_key, write_value) -> Result<Value, WriteError<E>>
 /// from_value(alloc: A, form: Form, value: &Value, read_key, read_value) -> Result<Self, ReadError<E>>
 /// ```
@@ -130,11 +130,11 @@ pub type RangeInclusiveMap<K, V, StepFnsT = K, A = Global> = Map<
 /// allocator(&self) -> &A
 /// iter(&self) -> SetIter<'_, T, A>
 /// into_iter(self) -> SetIntoIter<T, A>
-/// overlapping(&self, range: &Range<T>) -> SetOverlapping<'_, T, A>
+/// overlapping<'a>(&'a self, range: &'a Range<T>) -> SetOverlapping<'a, T, A>
 /// overlaps(&self, range: &Range<T>) -> bool
-/// gaps(&self, outer_range: &Range<T>) -> SetGaps<'_, T, A>
-/// union(&self, other: &Self) -> Union<'_, T, A>
-/// intersection(&self, other: &Self) -> Intersection<'_, T, A>
+/// gaps<'a>(&'a self, outer_range: &'a Range<T>) -> SetGaps<'a, T, A>
+/// union<'a>(&'a self, other: &'a Self) -> Union<'a, T, A>
+/// intersection<'a>(&'a self, other: &'a Self) -> Intersection<'a, T, A>
 /// &left | &right, &left & &right -> Result<Self, AllocError>
 /// to_value(&self, alloc: Global, write_key) -> Result<Value, WriteError<E>>
 /// from_value(alloc: A, form: Form, value: &Value, read_key) -> Result<Self, ReadError<E>>
@@ -173,11 +173,11 @@ pub type RangeSet<T, A = Global> = Set<Chunks<HalfOpen, Range<T>, (), A, SIZE>>;
 /// allocator(&self) -> &A
 /// iter(&self) -> InclusiveSetIter<'_, T, A>
 /// into_iter(self) -> InclusiveSetIntoIter<T, A>
-/// overlapping(&self, range: &RangeInclusive<T>) -> InclusiveSetOverlapping<'_, T, A>
+/// overlapping<'a>(&'a self, range: &'a RangeInclusive<T>) -> InclusiveSetOverlapping<'a, T, A>
 /// overlaps(&self, range: &RangeInclusive<T>) -> bool
-/// gaps(&self, outer_range: &RangeInclusive<T>) -> InclusiveSetGaps<'_, T, StepFnsT, A>
-/// union(&self, other: &Self) -> InclusiveUnion<'_, T, A>
-/// intersection(&self, other: &Self) -> InclusiveIntersection<'_, T, A>
+/// gaps<'a>(&'a self, outer_range: &'a RangeInclusive<T>) -> InclusiveSetGaps<'a, T, StepFnsT, A>
+/// union<'a>(&'a self, other: &'a Self) -> InclusiveUnion<'a, T, A>
+/// intersection<'a>(&'a self, other: &'a Self) -> InclusiveIntersection<'a, T, A>
 /// &left | &right, &left & &right -> Result<Self, AllocError>
 /// to_value(&self, alloc: Global, write_key) -> Result<Value, WriteError<E>>
 /// from_value(alloc: A, form: Form, value: &Value, read_key) -> Result<Self, ReadError<E>>
@@ -285,5 +285,12 @@ pub type InclusiveChange<K, V> = calls::Change<RangeInclusive<K>, V>;
 /// A call that makes a set over half-open ranges, or changes the one at a place of a list.
 pub type SetCall<T, A = Global> = set_calls::SetCall<Range<T>, A>;
 
+/// A call that every such set has, as a `SetCall` holds it.
+pub type SetChange<T> = calls::Change<Range<T>, ()>;
+
 /// A call that makes a set over closed ranges, or changes the one at a place of a list.
 pub type InclusiveSetCall<T, A = Global> = set_calls::SetCall<RangeInclusive<T>, A>;
+
+/// A call that such a set over any steps has: those of `InclusiveSetCall` but the two that take ranges
+/// and the operators.
+pub type InclusiveSetChange<T> = calls::Change<RangeInclusive<T>, ()>;

@@ -55,9 +55,9 @@ use std::{slice, vec};
 /// allocator(&self) -> &A
 /// iter(&self) -> Iter<'_, K, V>
 /// into_iter(self) -> IntoIter<K, V, A>
-/// overlapping(&self, range: &RangeInclusive<K>) -> Overlapping<'_, K, V>
+/// overlapping<'a>(&'a self, range: &'a RangeInclusive<K>) -> Overlapping<'a, K, V>
 /// overlaps(&self, range: &RangeInclusive<K>) -> bool
-/// gaps(&self, outer_range: &RangeInclusive<K>) -> Gaps<'_, K, V, StepFnsT>
+/// gaps<'a>(&'a self, outer_range: &'a RangeInclusive<K>) -> Gaps<'a, K, V, StepFnsT>
 /// to_value(&self, alloc: Global, write_key, write_value) -> Result<Value, WriteError<E>>
 /// from_value(alloc: A, form: Form, value: &Value, read_key, read_value) -> Result<Self, ReadError<E>>
 /// ```

@@ -52,11 +52,11 @@ use std::{slice, vec};
 /// allocator(&self) -> &A
 /// iter(&self) -> Iter<'_, T>
 /// into_iter(self) -> IntoIter<T, A>
-/// overlapping(&self, range: &RangeInclusive<T>) -> Overlapping<'_, T>
+/// overlapping<'a>(&'a self, range: &'a RangeInclusive<T>) -> Overlapping<'a, T>
 /// overlaps(&self, range: &RangeInclusive<T>) -> bool
-/// gaps(&self, outer_range: &RangeInclusive<T>) -> Gaps<'_, T, StepFnsT>
-/// union(&self, other: &Self) -> Union<'_, T>
-/// intersection(&self, other: &Self) -> Intersection<'_, T>
+/// gaps<'a>(&'a self, outer_range: &'a RangeInclusive<T>) -> Gaps<'a, T, StepFnsT>
+/// union<'a>(&'a self, other: &'a Self) -> Union<'a, T>
+/// intersection<'a>(&'a self, other: &'a Self) -> Intersection<'a, T>
 /// &left | &right, &left & &right -> Result<Self, AllocError>
 /// to_value(&self, alloc: Global, write_key) -> Result<Value, WriteError<E>>
 /// from_value(alloc: A, form: Form, value: &Value, read_key) -> Result<Self, ReadError<E>>

@@ -32,7 +32,7 @@ pub use operators::Operator;
 /// | Call | Time |
 /// |---|---|
 /// | all items of `union` and `intersection` | *O*(*n* + *m*) |
-/// | `\|`, `&` | an `insert` at the end for each item |
+/// | `\|`, `&` | *O*((*n* + *m*) log (*n* + *m*)): an `insert` at the end for each item |
 ///
 /// Memory is taken by `insert`, `remove`, `clone`, `extend`, `from`, `from_iter`, `from_value`,
 /// `to_value`, `|` and `&` alone, and by the clones of keys in the items of `gaps`, `union` and

@@ -22,7 +22,8 @@ use std::iter::IntoIterator;
 /// one that was iterated counts by its two ends.
 ///
 /// It takes *O*(log *n* + *k* log *k*), with *k* stored ranges that the query overlaps. Memory of
-/// `alloc` is for clones of these pairs, and for the answer.
+/// `alloc` is for clones of these pairs, and for the answer. For each pair up to eight keys and one
+/// value are cloned.
 ///
 /// # Requires
 ///
@@ -53,6 +54,7 @@ pub fn segments<M: Container, B: Allocator + Clone>(
     let mut found = Vec::new(alloc.clone()?);
     stored.append_overlapping(query, &mut found)?;
     let mut all = Map::new_with_step_fns(alloc);
+    // The query itself, where it has a key.
     if let Some(whole) = common::<M::Kind, M::Range>(query, query)? {
         all.insert(whole, None)?;
     }

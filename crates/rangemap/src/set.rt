@@ -2,6 +2,7 @@
 
 pub use crate::range_set::Set;
 use crate::range_set::calls::SetCall;
+use rangemap_containers::calls;
 pub use rangemap_containers::replay::replay;
 use rangemap_core::gaps;
 use rangemap_core::half_open::HalfOpen;
@@ -50,11 +51,11 @@ use std::{slice, vec};
 /// allocator(&self) -> &A
 /// iter(&self) -> Iter<'_, T>
 /// into_iter(self) -> IntoIter<T, A>
-/// overlapping(&self, range: &Range<T>) -> Overlapping<'_, T>
+/// overlapping<'a>(&'a self, range: &'a Range<T>) -> Overlapping<'a, T>
 /// overlaps(&self, range: &Range<T>) -> bool
-/// gaps(&self, outer_range: &Range<T>) -> Gaps<'_, T>
-/// union(&self, other: &Self) -> Union<'_, T>
-/// intersection(&self, other: &Self) -> Intersection<'_, T>
+/// gaps<'a>(&'a self, outer_range: &'a Range<T>) -> Gaps<'a, T>
+/// union<'a>(&'a self, other: &'a Self) -> Union<'a, T>
+/// intersection<'a>(&'a self, other: &'a Self) -> Intersection<'a, T>
 /// &left | &right, &left & &right -> Result<Self, AllocError>
 /// to_value(&self, alloc: Global, write_key) -> Result<Value, WriteError<E>>
 /// from_value(alloc: A, form: Form, value: &Value, read_key) -> Result<Self, ReadError<E>>
@@ -86,6 +87,9 @@ pub type Union<'a, T> = unions::Union<slice::Iter<'a, (Range<T>, ())>>;
 
 /// The parts that two sets have in common, in order.
 pub type Intersection<'a, T> = unions::Intersection<slice::Iter<'a, (Range<T>, ())>>;
+
+/// A call that every such set has, as a `Call` holds it.
+pub type Change<T> = calls::Change<Range<T>, ()>;
 
 /// A call that makes a set or changes the one at a place of a list.
 pub type Call<T, A = Global> = SetCall<Range<T>, A>;

@@ -55,9 +55,9 @@ use std::ops::Range;
 /// allocator(&self) -> &A
 /// iter(&self) -> Iter<'_, K, V>
 /// into_iter(self) -> IntoIter<K, V, A>
-/// overlapping(&self, range: &Range<K>) -> Overlapping<'_, K, V>
+/// overlapping<'a>(&'a self, range: &'a Range<K>) -> Overlapping<'a, K, V>
 /// overlaps(&self, range: &Range<K>) -> bool
-/// gaps(&self, outer_range: &Range<K>) -> Gaps<'_, K, V>
+/// gaps<'a>(&'a self, outer_range: &'a Range<K>) -> Gaps<'a, K, V>
 /// to_value(&self, alloc: Global, write_key, write_value) -> Result<Value, WriteError<E>>
 /// from_value(alloc: A, form: Form, value: &Value, read_key, read_value) -> Result<Self, ReadError<E>>
 /// ```

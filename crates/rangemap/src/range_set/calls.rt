@@ -19,7 +19,7 @@ use std::vec::Vec;
 /// the list.
 ///
 /// It holds no `Change`, as a map's `Call` does: a caller would have to write `value: ()`.
-#[derive(Drop)]
+#[derive(Debug, Drop)]
 pub enum SetCall<R, A: Allocator> {
     /// Makes an empty set.
     New,

@@ -132,7 +132,7 @@ where
 }
 
 /// One of the two operators.
-#[derive(Clone, Copy)]
+#[derive(Clone, Copy, Debug, PartialEq, Eq)]
 pub enum Operator {
     /// `|`, the keys of either set.
     Union,
