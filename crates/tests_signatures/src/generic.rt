@@ -6,10 +6,16 @@ use rangemap::{laws, map};
 use std::alloc::{AllocError, Global};
 use std::ops::Range;
 
-// the structs behind the aliases, and what containers have in common
+// the structs behind the aliases, under the name that each container's module gives them, and what
+// containers have in common
 pub use rangemap::container::{Container as AnyContainer, collect_gaps, insert_pairs, segments};
+pub use rangemap::inclusive_map::Map as MapOfClosedRanges;
+pub use rangemap::inclusive_set::Set as SetOfClosedRanges;
 pub use rangemap::map::Map;
-pub use rangemap::range_set::Set;
+pub use rangemap::range_set::{Operator as OperatorOfSets, Set as SetOverAnyStore};
+pub use rangemap::set::Set;
+pub use rangemap::tree_map::Map as MapInTree;
+pub use rangemap::tree_set::Set as SetInTree;
 
 // one function, under the name that each container's module gives it, and the calls that it makes
 pub use rangemap::inclusive_map::{
@@ -21,12 +27,15 @@ pub use rangemap::inclusive_set::{
     replay_with_step_fns as replay_of_sets_by_step_fns,
 };
 pub use rangemap::map::{Call as CallOfMaps, Change as ChangeOfMaps, replay as replay_of_maps};
-pub use rangemap::set::{Call as CallOfSets, replay as replay_of_sets};
+pub use rangemap::range_set::calls::SetCall;
+pub use rangemap::set::{Call as CallOfSets, Change as ChangeOfSets, replay as replay_of_sets};
 pub use rangemap::tree_map::{
     Answer, Call as CallOfTrees, Change as ChangeOfTrees, Command, Outcome,
     replay as replay_of_trees, run,
 };
-pub use rangemap::tree_set::{Call as CallOfSetsInTrees, replay as replay_of_sets_in_trees};
+pub use rangemap::tree_set::{
+    Call as CallOfSetsInTrees, Change as ChangeOfSetsInTrees, replay as replay_of_sets_in_trees,
+};
 
 // every law
 pub use rangemap::laws::comparisons::{equal_maps_hash_alike, equality_agrees_with_order};

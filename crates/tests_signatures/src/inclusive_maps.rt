@@ -148,7 +148,7 @@ pub fn write_and_read<K: StepLite + Clone, V: Eq + Clone, A: Allocator, E: Copy>
     )
 }
 
-/// Makes each call of this file once, over any keys; `keys` calls it at seven types of them.
+/// Makes each call of this file once, over any keys; `keys` calls it at six types of them.
 pub fn every<K: StepLite + Clone + Hash + Debug, const N: usize>(
     alloc: Global,
     map: &mut RangeInclusiveMap<K, u8>,

@@ -1,5 +1,5 @@
-//! Every call of each container at seven types of keys, by one function over any keys that makes them
-//! all. Texts have no steps, so no closed container has them as keys.
+//! Every call of each container at seven types of keys, of closed ranges at six, by one function over
+//! any keys that makes them all. Texts have no steps, so no closed container has them as keys.
 
 use crate::{inclusive_maps, inclusive_sets, maps, sets, tree_sets, trees};
 use rangemap::{RangeInclusiveMap, RangeInclusiveSet, RangeMap, RangeSet, tree_map, tree_set};

@@ -5,10 +5,10 @@
 //! too.
 //!
 //! The modules of one container name its calls over any keys, each once, with the type of what it
-//! answers, and end in `every`, which makes them all; `keys` calls that at seven types of keys. What a
-//! refused call answers is dropped there, since at each `?` the check asks how all that is held then is
-//! dropped. `literals` has what users write without a function over any keys, `defaults` each alias
-//! with its defaults. The crate `tests_iterators` names the iterators. Laws, replays and what code over
+//! answers, and end in `every`, which makes them all; `keys` calls that at seven types of keys, of
+//! closed ranges at six. What a refused call answers is dropped there, since at each `?` the check asks
+//! how all that is held then is dropped. `literals` has what users write without a function over any
+//! keys, `defaults` each alias with its defaults. The crate `tests_iterators` names the iterators. Laws, replays and what code over
 //! any container names are re-exports (`generic`), which cost nothing to prove.
 #![tactic(auto)]
 

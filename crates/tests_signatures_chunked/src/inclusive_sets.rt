@@ -132,7 +132,7 @@ pub fn write_and_read<T: StepLite + Clone, E: Copy>(
     )
 }
 
-/// Makes each call of this file once, over any keys; `keys` calls it at seven types of them.
+/// Makes each call of this file once, over any keys; `keys` calls it at six types of them.
 pub fn every<T: StepLite + Clone + Hash + Debug, const N: usize>(
     alloc: Global,
     set: &mut RangeInclusiveSet<T>,

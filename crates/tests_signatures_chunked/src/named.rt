@@ -8,10 +8,10 @@ use rangemap::chunked::{
 use std::alloc::{AllocError, Global};
 use std::ops::Range;
 
-// the calls of replays, and the replays
+// the structs behind the aliases, the calls of replays, and the replays
 pub use rangemap::chunked::{
-    Call, Change, InclusiveCall, InclusiveChange, InclusiveSetCall, Map, SetCall, replay,
-    replay_with_step_fns,
+    Call, Change, InclusiveCall, InclusiveChange, InclusiveSetCall, InclusiveSetChange, Map, Set,
+    SetCall, SetChange, replay, replay_with_step_fns,
 };
 
 /// A struct that names each alias.
