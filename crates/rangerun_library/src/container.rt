@@ -4,7 +4,7 @@ use crate::range::NumberRange;
 use crate::value::{Stored, text_of, write_key, write_text};
 use rangemap::container::Container as LibraryContainer;
 use rangemap::map::Map;
-use rangemap::range_set::Set;
+use rangemap::set::Set;
 use rangemap::{RangeInclusiveMap, RangeInclusiveSet, RangeMap, RangeSet, WriteError};
 use rangemap_core::key_range::KeyRange;
 use rangemap_core::kind::Kind;

@@ -40,16 +40,16 @@ pub fn run_in<A: Allocator + Copy, R: Read + Drop, W: Write + Drop>(
         return Err(Cause::Arguments.at(0));
     };
     match kind.as_str() {
-        "map" => run_over::<A, ContainerTarget<HalfOpenMap<A>>, R, W>(
+        "map" => run_over::<A, ContainerTarget<A, HalfOpenMap<A>>, R, W>(
             alloc, json_alloc, input, output,
         ),
-        "imap" => run_over::<A, ContainerTarget<ClosedMap<A>>, R, W>(
+        "imap" => run_over::<A, ContainerTarget<A, ClosedMap<A>>, R, W>(
             alloc, json_alloc, input, output,
         ),
-        "set" => run_over::<A, ContainerTarget<HalfOpenSet<A>>, R, W>(
+        "set" => run_over::<A, ContainerTarget<A, HalfOpenSet<A>>, R, W>(
             alloc, json_alloc, input, output,
         ),
-        "iset" => run_over::<A, ContainerTarget<ClosedSet<A>>, R, W>(
+        "iset" => run_over::<A, ContainerTarget<A, ClosedSet<A>>, R, W>(
             alloc, json_alloc, input, output,
         ),
         "cal" => run_over::<A, Calendar<A>, R, W>(alloc, json_alloc, input, output),
@@ -82,8 +82,6 @@ fn run_over<A: Allocator + Copy, T: Target<A>, R: Read + Drop, W: Write + Drop>(
 // What lines are carried out on, and room for a line and its answer that is used again for each line.
 #[derive(Drop)]
 struct Session<A: Allocator, T> {
-    alloc: A,
-    json_alloc: Global,
     target: T,
     line: Vec<u8, A>,
     text: String<A>,
@@ -93,9 +91,7 @@ impl<A: Allocator + Copy, T: Target<A>> Session<A, T> {
     // Returns a session over an empty target, with no line yet.
     fn new(alloc: A, json_alloc: Global) -> Session<A, T> {
         Session {
-            alloc,
-            json_alloc,
-            target: T::new(alloc),
+            target: T::new(alloc, json_alloc),
             line: Vec::new(alloc),
             text: String::new(alloc),
         }
@@ -108,8 +104,7 @@ impl<A: Allocator + Copy, T: Target<A>> Session<A, T> {
             return Ok(false);
         }
         self.text.clear();
-        self.target
-            .carry_out(self.alloc, self.json_alloc, &self.line, &mut self.text)?;
+        self.target.carry_out(&self.line, &mut self.text)?;
         if write_out(output, self.text.as_bytes()).is_err() {
             return Err(Cause::Stream);
         }

@@ -12,62 +12,55 @@ use std::alloc::{Allocator, Global};
 
 /// What lines are carried out on, in memory of an allocator `A`.
 pub trait Target<A: Allocator>: Drop {
-    /// Returns an empty one, whose memory will come from `alloc`.
-    fn new(alloc: A) -> Self;
+    /// Returns an empty one. Its memory will come from `alloc`, but that of JSON forms from
+    /// `json_alloc`.
+    fn new(alloc: A, json_alloc: Global) -> Self;
 
     /// Carries out a line, given without its newline, and appends what it prints, if anything, to
-    /// `text`. A JSON form is made in memory of `json_alloc`.
+    /// `text`.
     ///
     /// # Errors
     ///
     /// The cause for which the program stops: the line is no command, has a fault, or memory ran out.
-    fn carry_out(
-        &mut self,
-        alloc: A,
-        json_alloc: Global,
-        line: &[u8],
-        text: &mut String<A>,
-    ) -> Result<(), Cause>;
+    fn carry_out(&mut self, line: &[u8], text: &mut String<A>) -> Result<(), Cause>;
 }
 
-/// A container of the library, as a target.
+/// A container of the library, as a target, with the allocators that its answers are made by.
 #[derive(Drop)]
-pub struct ContainerTarget<C> {
+pub struct ContainerTarget<A, C> {
+    alloc: A,
+    json_alloc: Global,
     container: C,
 }
 
-impl<A: Allocator, C: Container<Alloc = A>> Target<A> for ContainerTarget<C> {
-    fn new(alloc: A) -> ContainerTarget<C> {
+impl<A: Allocator + Copy, C: Container<Alloc = A>> Target<A> for ContainerTarget<A, C> {
+    fn new(alloc: A, json_alloc: Global) -> ContainerTarget<A, C> {
         ContainerTarget {
+            alloc,
+            json_alloc,
             container: C::new_with_step_fns(alloc),
         }
     }
 
-    fn carry_out(
-        &mut self,
-        alloc: A,
-        json_alloc: Global,
-        line: &[u8],
-        text: &mut String<A>,
-    ) -> Result<(), Cause> {
+    fn carry_out(&mut self, line: &[u8], text: &mut String<A>) -> Result<(), Cause> {
         let command = Command::parse(line, C::Value::HAS_WORD)?;
-        answer(alloc, json_alloc, &mut self.container, command, text)?;
+        answer(
+            self.alloc,
+            self.json_alloc,
+            &mut self.container,
+            command,
+            text,
+        )?;
         Ok(())
     }
 }
 
 impl<A: Allocator> Target<A> for Calendar<A> {
-    fn new(alloc: A) -> Calendar<A> {
+    fn new(alloc: A, _json_alloc: Global) -> Calendar<A> {
         Calendar::new(alloc)
     }
 
-    fn carry_out(
-        &mut self,
-        _alloc: A,
-        _json_alloc: Global,
-        line: &[u8],
-        text: &mut String<A>,
-    ) -> Result<(), Cause> {
+    fn carry_out(&mut self, line: &[u8], text: &mut String<A>) -> Result<(), Cause> {
         match Booking::parse(line)? {
             Booking::Change(call) => write_refusal(self.make(call), text),
             Booking::Free(days) => Ok(write_items(text, self.free(&days))?),
