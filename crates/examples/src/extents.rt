@@ -87,7 +87,7 @@ impl Extents {
         self.shifts.remove(first..=last)
     }
 
-    /// Returns whether a logical block lies on one of the physical blocks. It looks at each extent.
+    // Returns whether a logical block lies on one of the physical blocks. It looks at each extent.
     fn is_used(&self, first: u32, last: u32) -> bool
         requires { first ≤ last }
         ensures used { result ≡ true → IsUsed self.now.shifts first last }
@@ -102,9 +102,9 @@ impl Extents {
     }
 }
 
-/// Returns whether one of the logical blocks from `start` to `end`, by their shift, lies on one of
-/// the physical blocks from `first` to `last`: of two stretches of a ring that meet, one has the
-/// start of the other.
+// Returns whether one of the logical blocks from `start` to `end`, by their shift, lies on one of
+// the physical blocks from `first` to `last`: of two stretches of a ring that meet, one has the
+// start of the other.
 fn lies_on(start: u32, end: u32, shift: u32, first: u32, last: u32) -> bool
     requires forward { start ≤ end }
     requires asked { first ≤ last }

@@ -2,7 +2,7 @@
 ghost use Rattle.std.specs.Prelude.{◌≡◌, ◌+◌, ◌<◌, ◌≤◌, ◌↔◌, ℕ, [], Err, IfNone, IfOk, IfSome, None, Ok, OnErr, OnOk, Some, false, true};
 ghost use Rattle.examples.specs.Memory.{IsBoth, IsFree, IsLowestFree, IsShown, allows, answer_at, region_at};
 
-use rangemap::RangeMap;
+use rangemap::chunked::RangeMap;
 use std::alloc::{AllocError, Global};
 
 /// What is to be done at an address.
@@ -49,7 +49,8 @@ impl Region {
     }
 }
 
-/// The regions of a process. Neighbours that are alike take the room of one range.
+/// The regions of a process. Neighbours that are alike take the room of one range. There may be
+/// thousands, which come and go at random places, so they are kept in chunks.
 #[derive(Drop)]
 pub struct MemoryMap {
     regions: RangeMap<u64, Region>,
