@@ -45,13 +45,17 @@ fn what_makes_containers_may_be_refused(rt: HostRuntime) -> Result<(), Fail> {
         0..=9 a + 3..=5 b | inclusive map from | 0..=2 a, 3..=5 b, 6..=9 a | 4
         0..10 a + 2..5 b | tree from | 0..2 a, 2..5 b, 5..10 a | 9
         0..5 + 7..10 | set from | 0..5, 7..10 | 2
+        0..5 + 5..10 | set from | 0..10 | 4
         0..=4 + 9..=255 | inclusive set from | 0..=4, 9..=255 | 2
+        0..=4 + 5..=255 | inclusive set from | 0..=255 | 4
         0..5 + 7..10 | tree set from | 0..5, 7..10 | 4
+        0..5 + 5..10 | tree set from | 0..10 | 5
         new, insert -128..=127 true, clear | replay chunked maps by steps | | 5
         new, insert -128..=127, clone | replay chunked sets by steps | -128..=127; -128..=127 | 7
         0..10 a + 3..6 b | chunked map from | 0..3 a, 3..6 b, 6..10 a | 7 + 1
         0..=9 a + 3..=5 b | chunked inclusive map from | 0..=2 a, 3..=5 b, 6..=9 a | 5 + 1
         0..5 + 7..10 | chunked set from | 0..5, 7..10 | 3
+        0..5 + 5..10 | chunked set from | 0..10 | 5
         0..=4 + 5..=255 | chunked inclusive set from | 0..=255 | 5
         | macros | | 2
         any [[[36,37],7],[[0,1],8],[[3,4],7],[[6,7],7],[[9,10],7],[[12,13],7],[[15,16],7],\
