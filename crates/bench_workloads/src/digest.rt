@@ -52,13 +52,13 @@ impl Keys for RangeInclusive<u64> {
     }
 }
 
-/// A number that tells the range and the value from others.
+// A number that tells the range and the value from others.
 #[inline(always)]
 fn of_pair<R: Keys, V: Stored>(range: &R, value: &V) -> u64 {
     of_range(range).wrapping_add(value.number())
 }
 
-/// A number that tells the range from others.
+// A number that tells the range from others.
 #[inline(always)]
 fn of_range<R: Keys>(range: &R) -> u64 {
     range.first().wrapping_add(range.behind().wrapping_mul(3))

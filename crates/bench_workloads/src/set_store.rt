@@ -2,7 +2,7 @@
 
 use crate::digest::Keys;
 use crate::store::Store;
-use rangemap::range_set::Set;
+use rangemap::set::Set;
 use rangemap_chunked::Chunks;
 use rangemap_core::kind::Kind;
 use rangemap_sorted::SortedVec;

@@ -32,7 +32,7 @@ impl Stored for u32 {
     }
 }
 
-/// The texts that are stored, each of another length.
+// The texts that are stored, each of another length.
 const TEXTS: [&str; 8] = [
     "free",
     "taken",

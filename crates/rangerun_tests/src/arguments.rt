@@ -25,7 +25,7 @@ fn other_arguments_are_refused(rt: HostRuntime) -> Result<(), AllocError> {
     )
 }
 
-/// Runs the program with the words of each case, and sees that it refuses them before it reads.
+// Runs the program with the words of each case, and sees that it refuses them before it reads.
 fn assert_refused<R: AllocGlobal + Abort>(rt: &R, cases: &[&[&str]]) -> Result<(), AllocError> {
     let alloc = rt.alloc();
     for words in cases {

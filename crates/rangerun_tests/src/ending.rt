@@ -4,7 +4,7 @@ use rangerun_library::{Cause, arguments_fault, report};
 use std::io::{Error, ErrorKind};
 use std::test::Fail;
 
-/// The status and the line that tells of each cause at a line.
+// The status and the line that tells of each cause at a line.
 const ENDS: [(Cause, u64, u8, &str); 7] = [
     (Cause::Arguments, 0, 2, "fault 1 at line 0\n"),
     (Cause::Command, 1, 2, "fault 2 at line 1\n"),

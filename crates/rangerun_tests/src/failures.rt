@@ -8,13 +8,13 @@ use std::io::ErrorKind;
 use std::process::Abort;
 use std::test::Fail;
 
-/// The words that ask for each kind of container, and for a calendar.
+// The words that ask for each kind of container, and for a calendar.
 const KINDS: [&str; 5] = ["map", "imap", "set", "iset", "cal"];
 
-/// Three lines, each of five bytes, which are answered by three bytes each.
+// Three lines, each of five bytes, which are answered by three bytes each.
 const LINES: &[u8] = b"iter\niter\niter\n";
 
-/// The answers of the lines before one.
+// The answers of the lines before one.
 fn answers_before(line: u64) -> &'static str {
     match line {
         1 => "",
@@ -43,7 +43,7 @@ fn each_read_may_fail(rt: HostRuntime) -> Result<(), Fail> {
     Ok(())
 }
 
-/// Fails each read in turn, of pieces of one size.
+// Fails each read in turn, of pieces of one size.
 fn assert_reads_may_fail<R: AllocGlobal + Abort>(
     rt: &R,
     kind: &str,
@@ -77,7 +77,7 @@ fn each_write_may_fail(rt: HostRuntime) -> Result<(), Fail> {
     Ok(())
 }
 
-/// Fails each write in turn, of at most one size.
+// Fails each write in turn, of at most one size.
 fn assert_writes_may_fail<R: AllocGlobal + Abort>(
     rt: &R,
     kind: &str,

@@ -134,7 +134,7 @@ fn bytes_that_are_no_text_are_faults(rt: HostRuntime) -> Result<(), AllocError> 
     )
 }
 
-/// Runs the line of each row over each kind, and compares the cause of the fault that it is.
+// Runs the line of each row over each kind, and compares the cause of the fault that it is.
 fn assert_bytes_are_faults<R: AllocGlobal + Abort>(
     rt: &R,
     kinds: &[&str],

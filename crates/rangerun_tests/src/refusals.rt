@@ -7,7 +7,7 @@ use std::alloc::{AllocError, Global};
 use std::process::Abort;
 use tests_support::Refusing;
 
-/// A line, and its answer.
+// A line, and its answer.
 type Row = (&'static str, &'static str);
 
 #[test]
@@ -95,7 +95,7 @@ fn each_request_may_be_refused(rt: HostRuntime) -> Result<(), AllocError> {
     Ok(())
 }
 
-/// Runs a script with each request refused in its turn, until there is none to refuse.
+// Runs a script with each request refused in its turn, until there is none to refuse.
 fn assert_each_may_be_refused<R: AllocGlobal + Abort>(
     rt: &R,
     kind: &str,
@@ -119,9 +119,9 @@ fn assert_each_may_be_refused<R: AllocGlobal + Abort>(
     Ok(())
 }
 
-/// Runs a script with the request refused that comes after `granted` others, and compares how it ends
-/// and what it prints. Returns the line at which the request fell, or none where there are no more
-/// than `granted`.
+// Runs a script with the request refused that comes after `granted` others, and compares how it ends
+// and what it prints. Returns the line at which the request fell, or none where there are no more
+// than `granted`.
 fn refused_line<R: AllocGlobal + Abort>(
     rt: &R,
     words: &[String],
@@ -151,12 +151,12 @@ fn refused_line<R: AllocGlobal + Abort>(
     }
 }
 
-/// The number of lines before the first that has an answer.
+// The number of lines before the first that has an answer.
 fn silent(rows: &[Row]) -> u64 {
     rows.iter().take_while(|row| row.1.is_empty()).count() as u64
 }
 
-/// Whether the bytes are the answers of so many lines of a script.
+// Whether the bytes are the answers of so many lines of a script.
 fn are_answers(bytes: &[u8], rows: &[Row], count: usize) -> bool {
     let mut rest = bytes;
     for (_, answer) in rows.iter().take(count) {
@@ -168,7 +168,7 @@ fn are_answers(bytes: &[u8], rows: &[Row], count: usize) -> bool {
     rest.is_empty()
 }
 
-/// The lines of a script.
+// The lines of a script.
 fn lines(alloc: Global, rows: &[Row]) -> Result<String, AllocError> {
     let mut lines = String::new(alloc);
     for (line, _) in rows {

@@ -117,7 +117,7 @@ impl Failure {
         Failure { left, kind }
     }
 
-    /// Counts a call, and fails it if its turn has come.
+    // Counts a call, and fails it if its turn has come.
     fn pass(&mut self) -> io::Result<()> {
         let left = self.left;
         self.left = left.wrapping_sub(1);

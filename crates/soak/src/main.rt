@@ -28,7 +28,7 @@ use std::process::ExitCode;
 use std::{env, io};
 use tests_support::Refusing;
 
-/// The seed and the number of calls that the program was given, if it was given just these.
+// The seed and the number of calls that the program was given, if it was given just these.
 fn arguments(rt: &HostRuntime) -> io::Result<Option<(u64, u64)>> {
     let words: Vec<String> = env::args(rt)?.skip(1).collect(rt.alloc())?;
     match words.as_slice() {
@@ -37,8 +37,8 @@ fn arguments(rt: &HostRuntime) -> io::Result<Option<(u64, u64)>> {
     }
 }
 
-/// Prints how the calls on a container went, all blocks of which are to be given back by now.
-/// Answers whether nothing differed.
+// Prints how the calls on a container went, all blocks of which are to be given back by now.
+// Answers whether nothing differed.
 fn tell(rt: &HostRuntime, heap: &Heap, name: &str, report: Report) -> io::Result<bool> {
     let (calls, refused) = (report.calls, report.refused);
     match report.difference(heap)? {
@@ -54,12 +54,12 @@ fn tell(rt: &HostRuntime, heap: &Heap, name: &str, report: Report) -> io::Result
     }
 }
 
-/// The model of a container, of which nothing was called yet.
+// The model of a container, of which nothing was called yet.
 fn model_of<'a>(rt: &HostRuntime, heap: &'a Heap, profile: Profile, seed: u64) -> Model<'a> {
     Model::new(rt.alloc(), Chance::new(heap, seed), profile)
 }
 
-/// Makes the calls on every map, until one differs. Answers whether none did.
+// Makes the calls on every map, until one differs. Answers whether none did.
 fn soak_maps(rt: &HostRuntime, heap: &Heap, seed: u64, calls: u64) -> io::Result<bool> {
     let map = Profile {
         has_marks: true,
@@ -87,7 +87,7 @@ fn soak_maps(rt: &HostRuntime, heap: &Heap, seed: u64, calls: u64) -> io::Result
     tell(rt, heap, "tree_map", report)
 }
 
-/// Makes the calls on every set, until one differs. Answers whether none did.
+// Makes the calls on every set, until one differs. Answers whether none did.
 fn soak_sets(rt: &HostRuntime, heap: &Heap, seed: u64, calls: u64) -> io::Result<bool> {
     let set = Profile {
         has_marks: false,
@@ -115,7 +115,7 @@ fn soak_sets(rt: &HostRuntime, heap: &Heap, seed: u64, calls: u64) -> io::Result
     tell(rt, heap, "tree_set", report)
 }
 
-/// Makes the calls on every map in chunks, until one differs. Answers whether none did.
+// Makes the calls on every map in chunks, until one differs. Answers whether none did.
 fn soak_chunked_maps(rt: &HostRuntime, heap: &Heap, seed: u64, calls: u64) -> io::Result<bool> {
     let map = Profile {
         has_marks: true,
@@ -138,7 +138,7 @@ fn soak_chunked_maps(rt: &HostRuntime, heap: &Heap, seed: u64, calls: u64) -> io
     tell(rt, heap, "chunked inclusive_map", report)
 }
 
-/// Makes the calls on every set in chunks, until one differs. Answers whether none did.
+// Makes the calls on every set in chunks, until one differs. Answers whether none did.
 fn soak_chunked_sets(rt: &HostRuntime, heap: &Heap, seed: u64, calls: u64) -> io::Result<bool> {
     let set = Profile {
         has_marks: false,
@@ -161,7 +161,7 @@ fn soak_chunked_sets(rt: &HostRuntime, heap: &Heap, seed: u64, calls: u64) -> io
     tell(rt, heap, "chunked inclusive_set", report)
 }
 
-/// Makes the calls on every container, until one differs. Answers whether none did.
+// Makes the calls on every container, until one differs. Answers whether none did.
 fn soak_all(rt: &HostRuntime, heap: &Heap, seed: u64, calls: u64) -> io::Result<bool> {
     let more = calls.saturating_add(calls / 2);
     Ok(
@@ -172,7 +172,7 @@ fn soak_all(rt: &HostRuntime, heap: &Heap, seed: u64, calls: u64) -> io::Result<
     )
 }
 
-/// Makes the calls that the arguments ask for, and answers the status.
+// Makes the calls that the arguments ask for, and answers the status.
 fn serve(rt: &HostRuntime) -> io::Result<ExitCode> {
     let Some((seed, calls)) = arguments(rt)? else {
         eprintln!(rt; "soak SEED CALLS: both are numbers")?;

@@ -114,8 +114,8 @@ impl<'a> Model<'a> {
         check(is_needed, Difference::Blocks)
     }
 
-    /// Gives the model the shortest beginning of what a refused extend was given that explains the
-    /// list. It is not all of it.
+    // Gives the model the shortest beginning of what a refused extend was given that explains the
+    // list. It is not all of it.
     fn take_beginning(&mut self, runs: &[Run; 3], list: &[Piece]) -> Result<(), Stop> {
         for run in runs {
             if list == self.points.pieces(self.alloc)?.as_slice() {

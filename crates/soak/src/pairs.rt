@@ -35,7 +35,7 @@ pub fn items<S: Soaked>(
     Ok(items)
 }
 
-/// Makes the item of what is to be inserted.
+// Makes the item of what is to be inserted.
 fn item<S: Soaked>(heap: S::Alloc, put: Run) -> Result<S::Item, AllocError>
     ensures { IfOk result S.takes }
 {

@@ -125,8 +125,8 @@ impl Points {
     }
 }
 
-/// Adds the point behind those of the pieces: to the last piece where it has the same mark, or as a
-/// piece of its own.
+// Adds the point behind those of the pieces: to the last piece where it has the same mark, or as a
+// piece of its own.
 fn add_point(pieces: &mut Vec<Piece>, point: u8, mark: u8) -> Result<(), AllocError> {
     if mark == 0 {
         return Ok(());

@@ -14,7 +14,7 @@ use crate::soaked::{Heap, LendsGaps, Mark, PointRange, Soaked};
 use answers::{ends, gaps, get, list, overlapping};
 use calls::{change, collect, combine, copy};
 use rangemap::map::Map;
-use rangemap::range_set::Set;
+use rangemap::set::Set;
 use rangemap_core::key_range::KeyRange;
 use rangemap_core::kind::Kind;
 use rangemap_core::store::StoreMut;
@@ -32,7 +32,7 @@ pub struct Report {
 }
 
 impl Report {
-    /// Counts a call that was refused.
+    // Counts a call that was refused.
     fn count(&mut self, is_refused: bool) {
         if is_refused {
             self.refused = self.refused.saturating_add(1);
@@ -73,8 +73,8 @@ where
     soak::<Set<S>>(heap, model, calls)
 }
 
-/// Makes so many calls on a container whose memory comes from `heap`, of which nothing else holds
-/// memory. Stops at the first difference.
+// Makes so many calls on a container whose memory comes from `heap`, of which nothing else holds
+// memory. Stops at the first difference.
 fn soak<S: Soaked>(heap: S::Alloc, mut model: Model<'_>, calls: u64) -> Report {
     let mut subject = S::new(heap);
     let mut report = Report {
@@ -95,7 +95,7 @@ fn soak<S: Soaked>(heap: S::Alloc, mut model: Model<'_>, calls: u64) -> Report {
     report
 }
 
-/// Makes a call, and compares what it leaves. Answers whether it was refused.
+// Makes a call, and compares what it leaves. Answers whether it was refused.
 fn step<S: Soaked>(subject: &mut S, model: &mut Model<'_>) -> Result<bool, Stop> {
     let answer = match model.call() {
         Call::Change(asked) => change(subject, model, &asked),

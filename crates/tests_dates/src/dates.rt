@@ -8,10 +8,10 @@ use std::cmp::Ord;
 use std::process::Abort;
 use std::test::Fail;
 
-/// Dates to persons.
+// Dates to persons.
 type Roster = RangeMap<Date, &'static str>;
 
-/// Gives a person the week that starts on a date, and answers the date after it.
+// Gives a person the week that starts on a date, and answers the date after it.
 fn add_week(roster: &mut Roster, start: Date, person: &'static str) -> Result<Date, Fail> {
     let end = start.checked_add(7i64.days())?;
     if !start.cmp(&end).is_lt() {
@@ -21,7 +21,7 @@ fn add_week(roster: &mut Roster, start: Date, person: &'static str) -> Result<Da
     Ok(end)
 }
 
-/// Three weeks for each of three persons, of which Bob takes one more.
+// Three weeks for each of three persons, of which Bob takes one more.
 fn make_roster(alloc: Global) -> Result<Roster, Fail> {
     let mut roster: Roster = RangeMap::new(alloc);
     let mut start = Date::new(2019, 1, 7)?;
@@ -32,14 +32,14 @@ fn make_roster(alloc: Global) -> Result<Roster, Fail> {
     Ok(roster)
 }
 
-/// Gives each person a week, the first of which starts on a date. Answers the date after the last.
+// Gives each person a week, the first of which starts on a date. Answers the date after the last.
 fn add_round(roster: &mut Roster, start: Date) -> Result<Date, Fail> {
     let second = add_week(roster, start, "Alice")?;
     let third = add_week(roster, second, "Bob")?;
     add_week(roster, third, "Carol")
 }
 
-/// A line for each person's days.
+// A line for each person's days.
 fn lines(roster: &Roster, alloc: Global) -> Result<Vec<String>, Fail> {
     let mut lines = Vec::new(alloc);
     for (range, person) in roster.iter() {
@@ -49,7 +49,7 @@ fn lines(roster: &Roster, alloc: Global) -> Result<Vec<String>, Fail> {
     Ok(lines)
 }
 
-/// Compares lines with those that are expected.
+// Compares lines with those that are expected.
 fn check_lines<R: Abort>(rt: &R, lines: &[String], expected: &[&str]) -> Result<(), Fail> {
     assert_eq!(rt; lines.len(), expected.len());
     for (line, wanted) in lines.iter().zip(expected) {

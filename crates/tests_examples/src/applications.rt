@@ -107,7 +107,7 @@ fn blocks_are_mapped_once(rt: HostRuntime) -> Result<(), Fail> {
     Ok(())
 }
 
-/// The numbers of the addresses 10.0.0.0 and 10.0.0.15.
+// The numbers of the addresses 10.0.0.0 and 10.0.0.15.
 const FIRST: u32 = 167772160;
 
 const LAST: u32 = 167772175;
@@ -181,7 +181,7 @@ fn addresses_are_blocked(rt: HostRuntime) -> Result<(), Fail> {
     Ok(())
 }
 
-/// A block of a row.
+// A block of a row.
 fn block(first: u32, prefix: u32) -> Block
     ensures { (result.first ≡ first) × (result.prefix ≡ prefix) }
 {

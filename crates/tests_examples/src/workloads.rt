@@ -38,7 +38,7 @@ const SECOND: u64 = 110;
 
 const ACROSS: [Query; 1] = [Query { start: 5, end: 25 }];
 
-/// The numbers of the two values.
+// The numbers of the two values.
 type Values = (u32, u32);
 
 // The map's values are the numbers of the entries.
@@ -83,7 +83,7 @@ fn assert_queries<S: Store, R: AllocGlobal + Abort>(rt: &R, values: Values) -> R
     Ok(())
 }
 
-/// What is asked of a map.
+// What is asked of a map.
 #[derive(Clone, Copy)]
 enum Asked {
     /// What it is as a whole.

@@ -16,7 +16,7 @@ fn the_second_request_is_refused(rt: HostRuntime) -> Result<(), Fail> {
     check_that(!heap.has_refused(), "a refusal is still told")
 }
 
-/// Whether the second request alone is refused, and the blocks of the others are counted.
+// Whether the second request alone is refused, and the blocks of the others are counted.
 fn is_counted(heap: &Heap) -> Result<bool, AllocError> {
     let mut first = Vec::new(heap);
     first.push(1u8)?;

@@ -44,7 +44,7 @@ fn each_container_lies_where_it_belongs(rt: HostRuntime) -> Result<(), Fail> {
     check_rows::<SetsInTree<'_, u32>>(heaps, allocs, &own, SETS)
 }
 
-/// Makes the calls of each row of a table, in `own`, and compares where what they add lies.
+// Makes the calls of each row of a table, in `own`, and compares where what they add lies.
 fn check_rows<'a, C: Replayed<'a>>(
     heaps: Heaps<'_>,
     allocs: Allocs<&'a Heap>,
@@ -66,7 +66,7 @@ fn a_result_has_the_allocator_of_the_left_set(rt: HostRuntime) -> Result<(), Fai
     check_results(&one, &other)
 }
 
-/// Puts a set of each allocator together, and clones the second.
+// Puts a set of each allocator together, and clones the second.
 fn check_results<'a>(one: &'a Heap, other: &'a Heap) -> Result<(), Fail> {
     let left: RangeSet<u32, &Heap> = made_of(one, "0..5")?;
     let right: RangeSet<u32, &Heap> = made_of(other, "3..10")?;
@@ -79,8 +79,8 @@ fn check_results<'a>(one: &'a Heap, other: &'a Heap) -> Result<(), Fail> {
     )
 }
 
-/// Whether a set of one range was made, whose block is the second of an allocator. The other
-/// allocator has one.
+// Whether a set of one range was made, whose block is the second of an allocator. The other
+// allocator has one.
 fn is_held<'a>(
     made: Result<RangeSet<u32, &'a Heap>, AllocError>,
     own: &Heap,

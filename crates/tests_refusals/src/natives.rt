@@ -44,16 +44,16 @@ pub type SetsInTree<'a, K> = Sets<Tree<K, (), &'a Heap>>;
 /// or what is made), and the number of requests.
 pub struct Natives;
 
-/// A store of numbers over closed ranges.
+// A store of numbers over closed ranges.
 type ClosedNumbers<'a, V> = SortedVec<Closed<u32>, RangeInclusive<u32>, V, &'a Heap>;
 
-/// A store of numbers over half-open ranges.
+// A store of numbers over half-open ranges.
 type Numbers<'a, V> = SortedVec<HalfOpen, Range<u32>, V, &'a Heap>;
 
-/// A store of numbers over half-open ranges, in chunks.
+// A store of numbers over half-open ranges, in chunks.
 type ChunkedNumbers<'a, V> = Chunks<HalfOpen, Range<u32>, V, &'a Heap, SIZE>;
 
-/// A store of numbers over closed ranges, in chunks.
+// A store of numbers over closed ranges, in chunks.
 type ChunkedClosedNumbers<'a, V> = Chunks<Closed<u32>, RangeInclusive<u32>, V, &'a Heap, SIZE>;
 
 impl Tried for Natives {
@@ -117,7 +117,7 @@ impl Tried for Natives {
     }
 }
 
-/// Tries a replay of any calls.
+// Tries a replay of any calls.
 fn try_replay(heap: &Heap, row: &Row<'_>, granted: u64) -> Answer {
     let asked = Asked::Tried(heap, heap, row, granted);
     match row.call {

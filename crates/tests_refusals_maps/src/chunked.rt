@@ -137,7 +137,7 @@ fn each_clone_of_a_text_as_key_may_be_refused(rt: HostRuntime) -> Result<(), Fai
     chunked_map::<Text<'_>, char, 4>(&heap, row)
 }
 
-/// A map in chunks of up to 128 pairs.
+// A map in chunks of up to 128 pairs.
 type LongChunks<'a> = Map<Chunks<HalfOpen, Range<u32>, char, &'a Heap, 128>>;
 
 // A hundred pairs, twenty and twenty lie in three chunks. The two small ones would become one, for

@@ -78,7 +78,7 @@ impl<'a, K: Ord + Clone + Word<&'a Heap>, V: Eq + Clone + Word<&'a Heap>> Tried
     }
 }
 
-/// How far a call is tried before a map is lent.
+// How far a call is tried before a map is lent.
 enum Step<M, R> {
     /// The call was tried, and was accepted or not.
     Tried(bool),
@@ -86,7 +86,7 @@ enum Step<M, R> {
     Asks(M, R),
 }
 
-/// Tries the call of a row, or makes what it is tried on.
+// Tries the call of a row, or makes what it is tried on.
 fn try_or_make<M: InRows + OwnCalls>(
     heap: &Heap,
     alloc: M::Alloc,
@@ -112,7 +112,7 @@ fn try_or_make<M: InRows + OwnCalls>(
     Ok(Step::Tried(is_accepted?))
 }
 
-/// Asks a map for its gaps in a range.
+// Asks a map for its gaps in a range.
 fn try_gaps<'a, S>(
     heap: &Heap,
     map: &'a Map<S>,

@@ -1,7 +1,7 @@
 //! Rows about calls on sets in chunks that are refused memory.
 
 use crate::containers::{chunked_inclusive_set, chunked_set};
-use rangemap::range_set::Set;
+use rangemap::set::Set;
 use rangemap_chunked::Chunks;
 use rangemap_core::half_open::HalfOpen;
 use std::ops::Range;
@@ -147,7 +147,7 @@ fn each_clone_of_a_gap_may_be_refused(rt: HostRuntime) -> Result<(), Fail> {
     chunked_set::<Text<'_>, 4>(&heap, "b..d | gaps a..f | a..b, d..f | 2 + 2")
 }
 
-/// A set in chunks of up to 128 ranges.
+// A set in chunks of up to 128 ranges.
 type LongChunks<'a> = Set<Chunks<HalfOpen, Range<u32>, (), &'a Heap, 128>>;
 
 // A hundred ranges, twenty and twenty lie in three chunks. The two small ones would become one, for

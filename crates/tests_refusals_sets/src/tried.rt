@@ -1,7 +1,7 @@
 //! What is tried on sets, in a vector, in chunks and in a tree.
 ghost use Rattle.rangemap.specs.Clones.{KeysCloneFaithfully};
 
-use rangemap::range_set::Set;
+use rangemap::set::Set;
 use rangemap_chunked::Chunks;
 use rangemap_core::cursor::Peek;
 use rangemap_core::key_range::KeyRange;
@@ -72,7 +72,7 @@ impl<'a, T: Ord + Clone + Word<&'a Heap>> Tried for Sets<Tree<T, (), &'a Heap>> 
     }
 }
 
-/// How far a call is tried before its sets are lent.
+// How far a call is tried before its sets are lent.
 enum Step<S> {
     /// The call was tried, and was accepted or not.
     Tried(bool),
@@ -82,7 +82,7 @@ enum Step<S> {
     Joins(S, S),
 }
 
-/// Tries the call of a row, or makes the two sets that it is tried on.
+// Tries the call of a row, or makes the two sets that it is tried on.
 fn try_or_make<S: InRows<Value = ()> + OwnCalls>(
     heap: &Heap,
     alloc: S::Alloc,
@@ -106,7 +106,7 @@ fn try_or_make<S: InRows<Value = ()> + OwnCalls>(
     }
 }
 
-/// Asks a set for its gaps in the one range of another.
+// Asks a set for its gaps in the one range of another.
 fn try_gaps<'a, S>(
     heap: &Heap,
     set: &'a Set<S>,
@@ -123,7 +123,7 @@ where
     try_both::<S::Range, S::Alloc, _>(heap, gaps, row, granted)
 }
 
-/// Puts two sets together.
+// Puts two sets together.
 fn try_joined<'a, S>(
     heap: &Heap,
     one: &'a Set<S>,

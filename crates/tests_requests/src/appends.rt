@@ -22,7 +22,7 @@ pub fn try_appends<M: InRows>(heap: &Heap, alloc: M::Alloc, row: &Row<'_>, grant
     }
 }
 
-/// Tries to append pairs.
+// Tries to append pairs.
 fn try_pairs<M: InRows>(
     heap: &Heap,
     alloc: M::Alloc,
@@ -53,8 +53,8 @@ fn try_pairs<M: InRows>(
     Ok(is_appended)
 }
 
-/// Tries to append gaps. The operands are the range that they are asked for in, and the ranges of the
-/// list.
+// Tries to append gaps. The operands are the range that they are asked for in, and the ranges of the
+// list.
 fn try_gaps<M: InRows>(
     heap: &Heap,
     alloc: M::Alloc,
@@ -79,8 +79,8 @@ fn try_gaps<M: InRows>(
     Ok(is_appended)
 }
 
-/// The items of a list, and what stands between them: those of the row's outcome where they were
-/// appended, else those that the call names.
+// The items of a list, and what stands between them: those of the row's outcome where they were
+// appended, else those that the call names.
 fn expected<'t>(row: &Row<'t>, list: &'t str, is_appended: bool) -> (&'t str, &'t str) {
     if is_appended {
         (row.outcome, ", ")

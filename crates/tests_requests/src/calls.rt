@@ -18,7 +18,7 @@ pub fn try_call<M: InRows>(heap: &Heap, alloc: M::Alloc, row: &Row<'_>, granted:
     try_on(heap, alloc, &mut map, row, granted)
 }
 
-/// Tries the call on a container that holds what the row has.
+// Tries the call on a container that holds what the row has.
 fn try_on<M: InRows>(
     heap: &Heap,
     alloc: M::Alloc,
@@ -40,8 +40,8 @@ fn try_on<M: InRows>(
     Ok(is_accepted)
 }
 
-/// Makes the call of a row. Once it has what it is to be given, the request that comes after `granted`
-/// others is refused.
+// Makes the call of a row. Once it has what it is to be given, the request that comes after `granted`
+// others is refused.
 fn call_until<M: InRows>(
     heap: &Heap,
     alloc: M::Alloc,

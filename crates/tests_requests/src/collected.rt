@@ -15,7 +15,7 @@ use tests_support::{
     tell_pairs,
 };
 
-/// The word of a segment that has no value.
+// The word of a segment that has no value.
 const NONE: &str = "none";
 
 /// Tries to collect the gaps in the range that the call names.
@@ -66,7 +66,7 @@ pub fn try_segments<M: InRows>(heap: &Heap, alloc: M::Alloc, row: &Row<'_>, gran
     }
 }
 
-/// Whether a map holds the segments of a list.
+// Whether a map holds the segments of a list.
 fn has_segments<'a, S, V, A>(map: &'a Map<S>, list: &str) -> bool
 where
     S: Lends<'a, Range: KeyRange<Key: Word<A>> + 'a, Value = Option<V>>,
@@ -81,7 +81,7 @@ where
     tell_pairs(map.iter(), &mut listed).is_ok() && listed.are_equal && listed.rest.is_empty()
 }
 
-/// Segments, compared with those of a list, one after another.
+// Segments, compared with those of a list, one after another.
 #[derive(Drop)]
 struct Listed<'t, A> {
     // The segments that are still to come.
@@ -101,7 +101,7 @@ impl<'t, R: KeyRange<Key: Word<A>>, V: Word<A>, A: Drop> ReadsPairs<R, Option<V>
     }
 }
 
-/// Whether a segment is the one that a text names.
+// Whether a segment is the one that a text names.
 fn is_segment<R: KeyRange<Key: Word<A>>, V: Word<A>, A: Drop>(
     range: &R,
     value: &Option<V>,

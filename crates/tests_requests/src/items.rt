@@ -30,8 +30,8 @@ where
     Ok(expected.0)
 }
 
-/// Whether the first item comes by `try_next` at once, and whether both do. One that is refused can
-/// be asked for again. `None` says that the items are others, or their requests.
+// Whether the first item comes by `try_next` at once, and whether both do. One that is refused can
+// be asked for again. `None` says that the items are others, or their requests.
 fn try_items<R, A, I>(
     heap: &Heap,
     items: &mut I,
@@ -56,8 +56,8 @@ where
     }
 }
 
-/// Whether the next item comes at once, or is refused, and then comes. `None` says that it is not the
-/// one that a text names.
+// Whether the next item comes at once, or is refused, and then comes. `None` says that it is not the
+// one that a text names.
 fn is_at_once<R: KeyRange<Key: Word<A>>, A: Drop, I: Tries<Range = R>>(
     items: &mut I,
     text: &str,
@@ -72,8 +72,8 @@ fn is_at_once<R: KeyRange<Key: Word<A>>, A: Drop, I: Tries<Range = R>>(
     if is_same { Some(is_at_once) } else { None }
 }
 
-/// Whether the first item comes by `next`, and whether both do. One that is refused says so, and no
-/// item comes after that. `None` says that the items are others, or their requests.
+// Whether the first item comes by `next`, and whether both do. One that is refused says so, and no
+// item comes after that. `None` says that the items are others, or their requests.
 fn take_items<R, A, I>(
     heap: &Heap,
     items: &mut I,
@@ -98,8 +98,8 @@ where
     }
 }
 
-/// Whether the next item comes by `next`, or is refused. `None` says that it is not the one that a
-/// text names.
+// Whether the next item comes by `next`, or is refused. `None` says that it is not the one that a
+// text names.
 fn is_taken<R, A, I>(items: &mut I, text: &str) -> Option<bool>
 where
     R: KeyRange<Key: Word<A>>,
@@ -119,8 +119,8 @@ where
     }
 }
 
-/// Whether the next item is made, and is the one that a text names, which is empty where none is to
-/// come.
+// Whether the next item is made, and is the one that a text names, which is empty where none is to
+// come.
 fn is_next<R: KeyRange<Key: Word<A>>, A: Drop, I: Tries<Range = R>>(
     items: &mut I,
     text: &str,
@@ -134,7 +134,7 @@ fn is_next<R: KeyRange<Key: Word<A>>, A: Drop, I: Tries<Range = R>>(
     }
 }
 
-/// Whether an item is the one that a text names.
+// Whether an item is the one that a text names.
 fn is_item<R: KeyRange<Key: Word<A>>, A: Drop>(item: Option<R>, text: &str) -> bool {
     match item {
         Some(range) => is_range::<R, A>(&range, text),

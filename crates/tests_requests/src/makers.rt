@@ -20,7 +20,7 @@ mod growths;
 
 pub use growths::try_growths;
 
-/// Two pairs, each of a range and a value.
+// Two pairs, each of a range and a value.
 type TwoPairs<R, V> = ((R, V), (R, V));
 
 /// Makes the two pairs that a text names, of a container's kind.
@@ -36,8 +36,8 @@ pub fn two_pairs<Q: Kind<R>, R: KeyRange<Key: Word<A>>, V: Word<A>, A: Allocator
     Ok((first, pair_of::<Q, R, V, A>(alloc, second)?))
 }
 
-/// Inserts the pairs into an empty container, until the request is refused that comes after `granted`
-/// others. Tells whether all were inserted. The caller ends the refusal.
+// Inserts the pairs into an empty container, until the request is refused that comes after `granted`
+// others. Tells whether all were inserted. The caller ends the refusal.
 fn insert_until<M: InRows>(
     heap: &Heap,
     alloc: M::Alloc,
@@ -54,7 +54,7 @@ fn insert_until<M: InRows>(
     (map, answer.is_ok())
 }
 
-/// Extends an empty container by the items, in the same way.
+// Extends an empty container by the items, in the same way.
 fn extend_until<M: OwnCalls>(
     heap: &Heap,
     alloc: M::Alloc,
@@ -71,8 +71,8 @@ fn extend_until<M: OwnCalls>(
     (map, answer.is_ok())
 }
 
-/// Makes a container of the items by `from_iter`, unless the request that comes after `granted` others
-/// is made, which is refused.
+// Makes a container of the items by `from_iter`, unless the request that comes after `granted` others
+// is made, which is refused.
 fn collect_until<M: OwnCalls>(
     heap: &Heap,
     alloc: M::Alloc,
@@ -87,8 +87,8 @@ fn collect_until<M: OwnCalls>(
     made_from(alloc, items)
 }
 
-/// The list that is kept where so many requests are granted. There is one for each number of these,
-/// and semicolons between them.
+// The list that is kept where so many requests are granted. There is one for each number of these,
+// and semicolons between them.
 fn kept(lists: &str, granted: u64) -> Result<&str, Fail> {
     let mut rest = lists;
     for _ in 0..granted {
@@ -122,8 +122,8 @@ pub fn try_makers<M: InRows + OwnCalls>(
     check_kept(inserted, extended, made, kept(row.outcome, granted)?)
 }
 
-/// Compares what inserts and an `extend` kept, and what `from_iter` made, with a list. Answers
-/// whether all items were inserted.
+// Compares what inserts and an `extend` kept, and what `from_iter` made, with a list. Answers
+// whether all items were inserted.
 fn check_kept<M: InRows>(
     inserted: (M, bool),
     extended: (M, bool),

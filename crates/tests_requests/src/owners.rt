@@ -20,7 +20,7 @@ pub struct Heaps<'a> {
 /// The same three, as what containers take their memory from.
 pub type Allocs<A> = (A, A, A);
 
-/// How many blocks are held of each heap.
+// How many blocks are held of each heap.
 type Held = (u64, u64, u64);
 
 impl<'a> Heaps<'a> {
@@ -63,7 +63,7 @@ pub fn check_added<M: InRows, C: CallOn<M>>(
     check_that(are_accepted && heaps.grown(held) == owner, row)
 }
 
-/// Makes the two containers that a row names, each in its heap.
+// Makes the two containers that a row names, each in its heap.
 fn both_of<M: InRows>(allocs: Allocs<M::Alloc>, pairs: &str) -> Result<Vec<M, M::Alloc>, Fail>
     requires faithful_keys { KeysCloneFaithfully M.Range.Key.is_clone M.Range.Key.cmp }
     requires faithful_values { ValuesCloneFaithfully M.Value.is_clone M.Value.eq }

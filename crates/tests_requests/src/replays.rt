@@ -9,7 +9,7 @@ use std::alloc::AllocError;
 use std::test::Fail;
 use tests_support::{Heap, InRows, changes_of, check_row, check_same, check_that, first_word};
 
-/// The lists that a replay makes before its first call.
+// The lists that a replay makes before its first call.
 const LISTS: u64 = 3;
 
 /// Tries the replay of a row's calls that containers have over any steps.
@@ -46,8 +46,8 @@ pub fn try_replay<M: InRows, C: CallOn<M>>(
     }
 }
 
-/// Whether all calls were accepted. Shows that as many containers are left as accepted calls have
-/// added, and that they hold what the row has where all were accepted.
+// Whether all calls were accepted. Shows that as many containers are left as accepted calls have
+// added, and that they hold what the row has where all were accepted.
 fn check_left<M: InRows>(answers: &[bool], all: &[M], row: &Row<'_>, granted: u64) -> Answer {
     let is_accepted = !answers.contains(&false);
     check_that(granted >= LISTS, "there was room without a list")?;
@@ -61,8 +61,8 @@ fn check_left<M: InRows>(answers: &[bool], all: &[M], row: &Row<'_>, granted: u6
     Ok(is_accepted)
 }
 
-/// Compares containers with lists, which have a semicolon between them. It takes no memory, which is
-/// still to be refused.
+// Compares containers with lists, which have a semicolon between them. It takes no memory, which is
+// still to be refused.
 fn check_lists<M: InRows>(all: &[M], lists: &str) -> Result<(), Fail> {
     check_same(all.len(), lists.split(';').count())?;
     for (map, list) in all.iter().zip(lists.split(';')) {
@@ -71,7 +71,7 @@ fn check_lists<M: InRows>(all: &[M], lists: &str) -> Result<(), Fail> {
     Ok(())
 }
 
-/// How many of the calls of a text add a container and were accepted.
+// How many of the calls of a text add a container and were accepted.
 fn added(calls: &str, answers: &[bool]) -> usize {
     let mut count = 0usize;
     for (is_accepted, call) in answers.iter().zip(calls.split(", ")) {
@@ -82,7 +82,7 @@ fn added(calls: &str, answers: &[bool]) -> usize {
     count
 }
 
-/// Whether a call adds a container where it is accepted.
+// Whether a call adds a container where it is accepted.
 fn adds(call: &str) -> bool {
     let (_, named) = call.split_once(": ").unwrap_or(("", call));
     matches!(
@@ -91,7 +91,7 @@ fn adds(call: &str) -> bool {
     )
 }
 
-/// Shows that a replay that had no room for its lists made no container.
+// Shows that a replay that had no room for its lists made no container.
 fn check_none(count: usize) -> Answer {
     check_that(count == 0, "a replay without room makes a container")?;
     Ok(false)

@@ -14,7 +14,7 @@ use std::alloc::AllocError;
 use std::test::Fail;
 use tests_support::{Heap, InRows, check_row, check_that};
 
-/// Commands on a container, in its memory.
+// Commands on a container, in its memory.
 type Commands<M> = Vec<
     Command<
         <<M as Container>::Range as KeyRange>::Key,
@@ -24,14 +24,14 @@ type Commands<M> = Vec<
     <M as Container>::Alloc,
 >;
 
-/// What comes of a command on a container.
+// What comes of a command on a container.
 type OutcomeOf<M> = Outcome<
     <M as Container>::Range,
     <M as Container>::Value,
     <M as Container>::Alloc,
 >;
 
-/// Inserts of two pairs, and two questions.
+// Inserts of two pairs, and two questions.
 #[tactic(auto, using(tests_words::proofs::OneMore::all_and_one))]
 fn commands<M: InRows>(
     alloc: M::Alloc,
@@ -78,13 +78,13 @@ pub fn try_run<M: InRows>(heap: &Heap, alloc: M::Alloc, row: &Row<'_>, granted: 
     }
 }
 
-/// Whether so many requests are granted that the first insert is accepted: the list of all takes the
-/// last request, and that insert those before it.
+// Whether so many requests are granted that the first insert is accepted: the list of all takes the
+// last request, and that insert those before it.
 fn is_inserted(row: &Row<'_>, granted: u64) -> bool {
     row.requests.saturating_sub(1) <= granted
 }
 
-/// The pairs that the container holds then: both, or the second alone.
+// The pairs that the container holds then: both, or the second alone.
 fn kept<'t>(row: &Row<'t>, granted: u64) -> Result<&'t str, Fail> {
     let (_, second) = row.outcome.split_once(", ").ok_or("there are two pairs")?;
     Ok(if is_inserted(row, granted) {
@@ -94,7 +94,7 @@ fn kept<'t>(row: &Row<'t>, granted: u64) -> Result<&'t str, Fail> {
     })
 }
 
-/// Whether all commands were accepted. One is refused, if any, and those behind it are run.
+// Whether all commands were accepted. One is refused, if any, and those behind it are run.
 fn are_accepted<M: InRows>(
     answers: &[OutcomeOf<M>],
     pairs: &str,
@@ -117,7 +117,7 @@ fn are_accepted<M: InRows>(
     Ok(accepted == (true, true, true, true))
 }
 
-/// Whether the list of all pairs was made. One that was has the pairs.
+// Whether the list of all pairs was made. One that was has the pairs.
 fn is_listed<M: InRows>(answer: &OutcomeOf<M>, pairs: &str) -> Answer {
     match answer {
         Ok(Answered::Pairs(found)) => {

@@ -59,8 +59,8 @@ pub fn check<M: Tried>(heap: &Heap, alloc: M::Alloc, text: &str) -> Result<(), F
     Ok(())
 }
 
-/// Tries the call of a line with each of its requests refused in its turn, and compares how many it
-/// makes. No block may stay held.
+// Tries the call of a line with each of its requests refused in its turn, and compares how many it
+// makes. No block may stay held.
 fn check_line<M: Tried>(heap: &Heap, alloc: M::Alloc, line: &str) -> Result<(), Fail>
     requires { M.clones_are_faithful }
 {

@@ -35,7 +35,7 @@ pub fn check_three<I: DoubleEndedIterator<Item: Debug + Drop>>(
     check_same(items.size_hint(), hint(0, is_counted))
 }
 
-/// What `size_hint` says where so many items are left.
+// What `size_hint` says where so many items are left.
 fn hint(left: usize, is_counted: bool) -> (usize, Option<usize>) {
     if is_counted {
         (left, Some(left))

@@ -31,7 +31,7 @@ pub(crate) fn keeps_law<M: InRows>(
     }
 }
 
-/// An insert leaves the other pairs.
+// An insert leaves the other pairs.
 fn keeps_insert<M: InRows>(
     alloc: M::Alloc,
     mut map: M,
@@ -46,7 +46,7 @@ fn keeps_insert<M: InRows>(
     Ok(holds(&map, pairs)?)
 }
 
-/// A remove leaves the other pairs.
+// A remove leaves the other pairs.
 fn keeps_remove<M: InRows>(
     alloc: M::Alloc,
     mut map: M,
@@ -63,7 +63,7 @@ fn keeps_remove<M: InRows>(
     Ok(holds(&map, pairs)?)
 }
 
-/// Gaps and covered keys make up a range, and the gaps are those that the container itself gives.
+// Gaps and covered keys make up a range, and the gaps are those that the container itself gives.
 fn is_parted<M: InRows>(
     alloc: M::Alloc,
     map: &M,
@@ -81,7 +81,7 @@ fn is_parted<M: InRows>(
     )
 }
 
-/// Whether some key of a range is covered is what `overlaps` answers.
+// Whether some key of a range is covered is what `overlaps` answers.
 fn is_covered<M: InRows>(
     alloc: M::Alloc,
     map: &M,
@@ -92,8 +92,8 @@ fn is_covered<M: InRows>(
     Ok(answer.parse() == Ok(overlaps_exactly_where_covered(map, &range)))
 }
 
-/// Two inserts leave the pairs, in either order. The range of the first ends before that of the
-/// second starts, so that they have no key in common.
+// Two inserts leave the pairs, in either order. The range of the first ends before that of the
+// second starts, so that they have no key in common.
 #[tactic(auto, using(crate::proofs::NoCommonKey::no_common_key))]
 fn commute<M: InRows>(
     alloc: M::Alloc,
@@ -123,9 +123,9 @@ fn commute<M: InRows>(
     Ok(holds(&forth, pairs)? && holds(&back, pairs)?)
 }
 
-/// Equal maps are alike, and are no more after an insert into one of them, which leaves the pairs. An
-/// insert into both leaves them, made once or `twice`; so does a remove from both, whether or not its
-/// range was inserted before and is `back` out.
+// Equal maps are alike, and are no more after an insert into one of them, which leaves the pairs. An
+// insert into both leaves them, made once or `twice`; so does a remove from both, whether or not its
+// range was inserted before and is `back` out.
 fn are_alike<M: InRows>(
     alloc: M::Alloc,
     mut one: M,

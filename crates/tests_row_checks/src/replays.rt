@@ -34,7 +34,7 @@ pub enum ReplayName {
     ChunkedWithStepFns,
 }
 
-/// Makes calls by the replay of this name, and answers which are accepted.
+// Makes calls by the replay of this name, and answers which are accepted.
 fn replay<M: InRows, C: CallOn<M>>(
     name: ReplayName,
     alloc: M::Alloc,
@@ -88,7 +88,7 @@ pub fn check_replay<M: InRows, C: CallOn<M>>(
     Ok(())
 }
 
-/// Whether a call was accepted where there is a plus, and no other.
+// Whether a call was accepted where there is a plus, and no other.
 fn are_accepted(answers: &[bool], accepted: &str) -> bool {
     for (answer, sign) in answers.iter().zip(accepted.bytes()) {
         if *answer != (sign == b'+') {

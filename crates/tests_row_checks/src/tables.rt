@@ -28,7 +28,7 @@ pub fn check_rows<M: InRows>(alloc: M::Alloc, table: &str) -> Result<(), Fail>
     Ok(())
 }
 
-/// Whether a container answers as a row says. Another is made for what it is compared with.
+// Whether a container answers as a row says. Another is made for what it is compared with.
 fn is_answered<M: InRows>(alloc: M::Alloc, row: &str) -> Result<bool, Fail>
     requires faithful_keys { KeysCloneFaithfully M.Range.Key.is_clone M.Range.Key.cmp }
     requires faithful_values { ValuesCloneFaithfully M.Value.is_clone M.Value.eq }

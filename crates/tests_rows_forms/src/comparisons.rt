@@ -21,7 +21,7 @@ mod maps;
 mod sets;
 mod tallied;
 
-/// Compares the containers of each row of a table.
+// Compares the containers of each row of a table.
 fn check_rows<M: Made + Ord + Hash + Drop>(alloc: Global, table: &str) -> Result<(), Fail>
     requires { M.clones_are_faithful }
 {
@@ -32,7 +32,7 @@ fn check_rows<M: Made + Ord + Hash + Drop>(alloc: Global, table: &str) -> Result
     Ok(())
 }
 
-/// Whether containers are as a row says.
+// Whether containers are as a row says.
 fn is_so<M: Made + Ord + Hash + Drop>(alloc: Global, row: &str) -> Result<bool, Fail>
     requires { M.clones_are_faithful }
 {
@@ -46,7 +46,7 @@ fn is_so<M: Made + Ord + Hash + Drop>(alloc: Global, row: &str) -> Result<bool, 
     }
 }
 
-/// Makes the containers of a row.
+// Makes the containers of a row.
 fn made_all<M: Made + Drop>(alloc: Global, part: &str) -> Result<Vec<M>, Fail>
     requires { M.clones_are_faithful }
 {
@@ -57,8 +57,8 @@ fn made_all<M: Made + Drop>(alloc: Global, part: &str) -> Result<Vec<M>, Fail>
     Ok(made)
 }
 
-/// Whether containers lie in ascending order, and so do the same ones made again: each of the first
-/// is compared with all of the others.
+// Whether containers lie in ascending order, and so do the same ones made again: each of the first
+// is compared with all of the others.
 fn are_ascending<M: Ord>(made: &[M], again: &[M]) -> bool {
     for (place, one) in made.iter().enumerate() {
         if !is_at(place, one, again) {
@@ -68,7 +68,7 @@ fn are_ascending<M: Ord>(made: &[M], again: &[M]) -> bool {
     true
 }
 
-/// Whether one is equal to that at this place of a list in ascending order.
+// Whether one is equal to that at this place of a list in ascending order.
 fn is_at<M: Ord>(place: usize, one: &M, all: &[M]) -> bool {
     for (at, other) in all.iter().enumerate() {
         if !lies(one, other, place.cmp(&at)) {
@@ -78,7 +78,7 @@ fn is_at<M: Ord>(place: usize, one: &M, all: &[M]) -> bool {
     true
 }
 
-/// Whether one lies so to the other, by `cmp`, by `partial_cmp`, by the operators and by `==`.
+// Whether one lies so to the other, by `cmp`, by `partial_cmp`, by the operators and by `==`.
 fn lies<M: Ord>(one: &M, other: &M, order: Ordering) -> bool {
     let by_operators = (one < other, one == other, one > other);
     one.cmp(other) == order
@@ -86,7 +86,7 @@ fn lies<M: Ord>(one: &M, other: &M, order: Ordering) -> bool {
         && by_operators == (order.is_lt(), order.is_eq(), order.is_gt())
 }
 
-/// Whether the first two are equal and hash alike, and no other is equal to them or hashes so.
+// Whether the first two are equal and hash alike, and no other is equal to them or hashes so.
 fn are_hashed<M: Ord + Hash>(made: &[M]) -> bool {
     let Some(first) = made.first() else {
         return false;
@@ -101,7 +101,7 @@ fn are_hashed<M: Ord + Hash>(made: &[M]) -> bool {
     made.len() > 2
 }
 
-/// What the folding hasher makes of a container.
+// What the folding hasher makes of a container.
 fn hash_of<M: Hash>(container: &M) -> u64 {
     let mut state = Folding::new();
     container.hash(&mut state);

@@ -39,7 +39,7 @@ pub enum Fault {
     NoMemory,
 }
 
-/// A container that rows write and read.
+// A container that rows write and read.
 trait InJson: Debug + Drop {
     /// `to_value`, with `write_key` and `write_text`.
     fn write(&self, alloc: Global) -> Result<Value, WriteError<Fault>>;
@@ -48,7 +48,7 @@ trait InJson: Debug + Drop {
     fn read(alloc: Global, form: Form, value: &Value) -> Result<Self, ReadError<Fault>>;
 }
 
-/// Writes a key.
+// Writes a key.
 fn write_number(key: &u32) -> Result<Value, Fault>
     ensures in_range { key.now < 2 ^ 32 }
     ensures value { IfOk result (λ part. view part ≡ number (unsigned key.now)) }
@@ -56,7 +56,7 @@ fn write_number(key: &u32) -> Result<Value, Fault>
     Ok(Value::from(*key))
 }
 
-/// Writes a key, unless it is 13 or 15.
+// Writes a key, unless it is 13 or 15.
 fn write_key(key: &u32) -> Result<Value, Fault> {
     match *key {
         13 => Err(Fault::UnwritableKey),
@@ -65,7 +65,7 @@ fn write_key(key: &u32) -> Result<Value, Fault> {
     }
 }
 
-/// Reads a key.
+// Reads a key.
 fn read_number(part: &Value) -> Result<u32, Fault>
     ensures { (key : ℕ) → key < 2 ^ 32 → view part.now ≡ number (unsigned key) → result ≡ OkWord key }
 {
@@ -78,7 +78,7 @@ fn read_number(part: &Value) -> Result<u32, Fault>
     }
 }
 
-/// Writes a value, unless it is `?`.
+// Writes a value, unless it is `?`.
 fn write_text(text: &String) -> Result<Value, Fault> {
     if text.as_str() == "?" {
         return Err(Fault::Unwritable);
@@ -89,7 +89,7 @@ fn write_text(text: &String) -> Result<Value, Fault> {
     }
 }
 
-/// Reads a value.
+// Reads a value.
 fn read_text(part: &Value) -> Result<String, Fault> {
     let Value::String(text) = part else {
         return Err(Fault::NoText);
@@ -100,7 +100,7 @@ fn read_text(part: &Value) -> Result<String, Fault> {
     }
 }
 
-/// Compares the answer of each row of a table.
+// Compares the answer of each row of a table.
 fn check_rows<M: Made + InJson>(alloc: Global, table: &str) -> Result<(), Fail>
     requires { M.clones_are_faithful }
 {
@@ -112,7 +112,7 @@ fn check_rows<M: Made + InJson>(alloc: Global, table: &str) -> Result<(), Fail>
     Ok(())
 }
 
-/// What a question is answered.
+// What a question is answered.
 fn answer_to<M: Made + InJson>(alloc: Global, question: &str) -> Result<String, Fail>
     requires { M.clones_are_faithful }
 {
@@ -125,7 +125,7 @@ fn answer_to<M: Made + InJson>(alloc: Global, question: &str) -> Result<String, 
     }
 }
 
-/// The pairs of what is read of a text.
+// The pairs of what is read of a text.
 fn pairs_read<M: InJson>(alloc: Global, form: Form, text: &str) -> Result<String, Fail> {
     let value = Value::from_str(alloc, text)?;
     match M::read(alloc, form, &value) {
@@ -134,7 +134,7 @@ fn pairs_read<M: InJson>(alloc: Global, form: Form, text: &str) -> Result<String
     }
 }
 
-/// What is written of a container.
+// What is written of a container.
 fn written<M: InJson>(alloc: Global, all: &M) -> Result<String, Fail> {
     match all.write(alloc) {
         Ok(value) => Ok(value.to_string(alloc)?),
@@ -142,7 +142,7 @@ fn written<M: InJson>(alloc: Global, all: &M) -> Result<String, Fail> {
     }
 }
 
-/// The debug text of a container or an error.
+// The debug text of a container or an error.
 fn debug_text<T: Debug>(alloc: Global, value: &T) -> Result<String, Fail> {
     Ok(format!(in alloc; "{value:?}")?)
 }

@@ -1,7 +1,7 @@
 //! Containers that the text of a row names.
 
 use rangemap::map::Map;
-use rangemap::range_set::Set;
+use rangemap::set::Set;
 use rangemap_core::key_range::KeyRange;
 use rangemap_core::store::StoreMut;
 use std::alloc::Global;

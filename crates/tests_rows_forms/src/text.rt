@@ -5,7 +5,7 @@ ghost use Rattle.rangemap.specs.Ranges.{AreNonEmpty};
 ghost use Rattle.rangemap.specs.Sets.{AreNonEmptyRanges};
 
 use rangemap::map::Map;
-use rangemap::range_set::Set;
+use rangemap::set::Set;
 use rangemap_chunked::Chunks;
 use rangemap_core::closed::Closed;
 use rangemap_core::half_open::HalfOpen;
@@ -22,10 +22,10 @@ use tests_support::check_same;
 
 mod laws;
 
-/// The pairs of a map in a tree.
+// The pairs of a map in a tree.
 type InTree<K, V> = Tree<K, V, Global>;
 
-/// Those of a map in chunks of up to two pairs.
+// Those of a map in chunks of up to two pairs.
 type InChunks<Q, R, V> = Chunks<Q, R, V, Global, 2>;
 
 /// Compares what is written of a container.
@@ -36,7 +36,7 @@ pub fn check_texts<M: Debug>(alloc: Global, all: &M, text: &str, lines: &str) ->
     check_same((short.as_str(), long.as_str()), (text, lines))
 }
 
-/// Compares what is written of a map of some pairs.
+// Compares what is written of a map of some pairs.
 fn check_pairs<S, const N: usize>(
     alloc: Global,
     pairs: [(S::Range, S::Value); N],
@@ -54,7 +54,7 @@ where
     check_texts(alloc, &map, text, lines)
 }
 
-/// The same of a map in a sorted vector.
+// The same of a map in a sorted vector.
 fn check_sorted<Q, R, V, const N: usize>(
     alloc: Global,
     pairs: [(R, V); N],
@@ -150,7 +150,7 @@ fn maps_in_chunks_are_written_in_braces(rt: HostRuntime) -> Result<(), Fail> {
     )
 }
 
-/// Compares what is written of a set of some ranges.
+// Compares what is written of a set of some ranges.
 fn check_ranges<S, const N: usize>(
     alloc: Global,
     ranges: [S::Range; N],

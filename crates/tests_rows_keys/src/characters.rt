@@ -8,13 +8,13 @@ use std::test::Fail;
 use tests_row_checks::check_rows;
 use tests_support::ChunkedSet;
 
-/// A set of characters.
+// A set of characters.
 type Chars = RangeInclusiveSet<char>;
 
-/// A set of characters in chunks of one range.
+// A set of characters in chunks of one range.
 type ChunkedChars = ChunkedSet<Closed<char>, RangeInclusive<char>, Global, 1>;
 
-/// Compares a table for sets of characters, in a sorted vector and in chunks.
+// Compares a table for sets of characters, in a sorted vector and in chunks.
 fn check_characters(alloc: Global, table: &str) -> Result<(), Fail> {
     check_rows::<Chars>(alloc, table)?;
     check_rows::<ChunkedChars>(alloc, table)

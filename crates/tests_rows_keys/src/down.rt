@@ -79,10 +79,10 @@ impl StepLite for Down {
     }
 }
 
-/// Bytes in this order.
+// Bytes in this order.
 type Set = RangeInclusiveSet<Down>;
 
-/// Letters at such bytes.
+// Letters at such bytes.
 type Map = RangeInclusiveMap<Down, char>;
 
 #[test]

@@ -9,7 +9,7 @@ use std::ops::RangeInclusive;
 use std::test::Fail;
 use tests_support::{check_same, filled};
 
-/// A type's least key and the next, and its greatest and the one before.
+// A type's least key and the next, and its greatest and the one before.
 #[derive(Drop)]
 struct Ends<K> {
     min: K,
@@ -18,11 +18,11 @@ struct Ends<K> {
     max: K,
 }
 
-/// A set of keys that have steps of their own.
+// A set of keys that have steps of their own.
 type Set<K> = RangeInclusiveSet<K>;
 
-/// From its least key to its greatest a type is one range, from which the ends are taken and to
-/// which they are given back.
+// From its least key to its greatest a type is one range, from which the ends are taken and to
+// which they are given back.
 fn goes_to_its_ends<K: StepLite + Clone + Copy + Debug>(
     alloc: Global,
     ends: [K; 4],
@@ -42,7 +42,7 @@ fn goes_to_its_ends<K: StepLite + Clone + Copy + Debug>(
     give_back_ends(&mut set, &ends)
 }
 
-/// Inserts all keys, which leaves no gap.
+// Inserts all keys, which leaves no gap.
 fn fill<K: StepLite + Clone + Copy + Debug>(set: &mut Set<K>, ends: &Ends<K>) -> Result<(), Fail>
     requires { KeysCloneFaithfully K.is_clone K.cmp }
 {
@@ -53,7 +53,7 @@ fn fill<K: StepLite + Clone + Copy + Debug>(set: &mut Set<K>, ends: &Ends<K>) ->
     check_same(set.gaps(&whole).try_next()?, None)
 }
 
-/// Takes the least and the greatest key out, which leaves two gaps.
+// Takes the least and the greatest key out, which leaves two gaps.
 fn take_ends<K: StepLite + Clone + Copy + Debug>(
     set: &mut Set<K>,
     ends: &Ends<K>,
@@ -68,7 +68,7 @@ fn take_ends<K: StepLite + Clone + Copy + Debug>(
     check_end_gaps(set, ends)
 }
 
-/// The gaps are the least key and the greatest.
+// The gaps are the least key and the greatest.
 fn check_end_gaps<K: StepLite + Clone + Copy + Debug>(
     set: &Set<K>,
     ends: &Ends<K>,
@@ -82,7 +82,7 @@ fn check_end_gaps<K: StepLite + Clone + Copy + Debug>(
     check_same(gaps.try_next()?, None)
 }
 
-/// Inserts the least and the greatest key again.
+// Inserts the least and the greatest key again.
 fn give_back_ends<K: StepLite + Clone + Copy + Debug>(
     set: &mut Set<K>,
     ends: &Ends<K>,
@@ -96,7 +96,7 @@ fn give_back_ends<K: StepLite + Clone + Copy + Debug>(
     check_whole(set, &(ends.min..=ends.max))
 }
 
-/// The set has this one range.
+// The set has this one range.
 fn check_whole<K: StepLite + Clone + Copy + Debug>(
     set: &Set<K>,
     range: &RangeInclusive<K>,

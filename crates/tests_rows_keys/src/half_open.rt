@@ -8,15 +8,15 @@ use std::test::Fail;
 use tests_row_checks::check_rows;
 use tests_support::{ChunkedMap, check_same, filled};
 
-/// A text of its own.
+// A text of its own.
 fn text(text: &str, alloc: Global) -> Result<String, AllocError> {
     String::from_str(alloc, text)
 }
 
-/// Numbers at texts.
+// Numbers at texts.
 type Texts = RangeMap<String, u32>;
 
-/// Gives the texts between two ends a value.
+// Gives the texts between two ends a value.
 #[tactic(auto, using(rangemap::proofs::TextKeys::clones_tie))]
 fn insert_texts(
     map: &mut Texts,
@@ -29,7 +29,7 @@ fn insert_texts(
     Ok(())
 }
 
-/// The value at a text.
+// The value at a text.
 fn at_text(map: &Texts, alloc: Global, key: &str) -> Result<Option<u32>, AllocError> {
     Ok(map.get(&text(key, alloc)?).copied())
 }
@@ -40,7 +40,7 @@ fn texts_are_keys(rt: HostRuntime) -> Result<(), Fail> {
     check_texts(rt.alloc(), &mut map)
 }
 
-/// Inserts texts into an empty map, and looks them up.
+// Inserts texts into an empty map, and looks them up.
 fn check_texts(alloc: Global, map: &mut Texts) -> Result<(), Fail> {
     insert_texts(map, alloc, ("a", "m"), 1)?;
     insert_texts(map, alloc, ("m", "z"), 1)?;
@@ -52,7 +52,7 @@ fn check_texts(alloc: Global, map: &mut Texts) -> Result<(), Fail> {
     check_same((inner, outer), ((Some(1), Some(2)), (Some(1), None)))
 }
 
-/// Rows of numbers at texts.
+// Rows of numbers at texts.
 const TEXT_ROWS: &str = "
         insert a..m 1, insert m..z 1 | holds | a..z 1
         insert a..m 1, insert m..z 1, insert fig..figs 2 | holds | a..fig 1, fig..figs 2, figs..z 1
@@ -74,13 +74,13 @@ fn texts_are_keys_in_chunks(rt: HostRuntime) -> Result<(), Fail> {
     check_rows::<ChunkedMap<HalfOpen, Range<String>, u32, Global, 2>>(rt.alloc(), TEXT_ROWS)
 }
 
-/// Letters at pairs of a text and a number.
+// Letters at pairs of a text and a number.
 type Pairs = RangeMap<(String, u32), char>;
 
-/// A pair as it stands in a test.
+// A pair as it stands in a test.
 type Pair<'a> = (&'a str, u32);
 
-/// Gives the pairs between two ends a value.
+// Gives the pairs between two ends a value.
 fn insert_pairs(
     map: &mut Pairs,
     alloc: Global,
@@ -92,7 +92,7 @@ fn insert_pairs(
     Ok(())
 }
 
-/// Takes the pairs between two ends out.
+// Takes the pairs between two ends out.
 fn remove_pairs(
     map: &mut Pairs,
     alloc: Global,
@@ -103,7 +103,7 @@ fn remove_pairs(
     Ok(())
 }
 
-/// The value at a pair.
+// The value at a pair.
 fn at_pair(map: &Pairs, alloc: Global, key: Pair<'_>) -> Result<Option<char>, AllocError> {
     Ok(map.get(&(text(key.0, alloc)?, key.1)).copied())
 }
@@ -114,7 +114,7 @@ fn pairs_of_a_text_and_a_number_are_keys(rt: HostRuntime) -> Result<(), Fail> {
     check_pairs(rt.alloc(), &mut map)
 }
 
-/// Inserts pairs into an empty map, removes one, and looks them up.
+// Inserts pairs into an empty map, removes one, and looks them up.
 fn check_pairs(alloc: Global, map: &mut Pairs) -> Result<(), Fail> {
     insert_pairs(map, alloc, (("a", 5), ("b", 0)), 'x')?;
     insert_pairs(map, alloc, (("b", 0), ("b", 7)), 'x')?;

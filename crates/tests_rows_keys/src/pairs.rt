@@ -46,25 +46,25 @@ impl StepFns<(u8, u8)> for PairSteps {
     }
 }
 
-/// Letters at pairs of bytes.
+// Letters at pairs of bytes.
 type Letters = RangeInclusiveMap<(u8, u8), char, PairSteps>;
 
-/// Pairs of bytes.
+// Pairs of bytes.
 type Pairs = RangeInclusiveSet<(u8, u8), PairSteps>;
 
-/// Pairs of bytes, in chunks of one range.
+// Pairs of bytes, in chunks of one range.
 type ChunkedPairs = ChunkedSet<Closed<PairSteps>, RangeInclusive<(u8, u8)>, Global, 1>;
 
-/// Letters at pairs of bytes, in chunks of up to two pairs.
+// Letters at pairs of bytes, in chunks of up to two pairs.
 type ChunkedLetters = ChunkedMap<Closed<PairSteps>, RangeInclusive<(u8, u8)>, char, Global, 2>;
 
-/// Compares a table for sets of pairs, in a sorted vector and in chunks.
+// Compares a table for sets of pairs, in a sorted vector and in chunks.
 fn check_pairs(alloc: Global, table: &str) -> Result<(), Fail> {
     check_rows::<Pairs>(alloc, table)?;
     check_rows::<ChunkedPairs>(alloc, table)
 }
 
-/// Compares a table for maps of pairs, in a sorted vector and in chunks.
+// Compares a table for maps of pairs, in a sorted vector and in chunks.
 fn check_letters(alloc: Global, table: &str) -> Result<(), Fail> {
     check_rows::<Letters>(alloc, table)?;
     check_rows::<ChunkedLetters>(alloc, table)

@@ -16,7 +16,7 @@ pub fn step_up<K: StepLite>(key: &K, greater: &K) -> K
     key.add_one()
 }
 
-/// The key before one that has a smaller.
+// The key before one that has a smaller.
 fn step_down<K: StepLite>(key: &K, smaller: &K) -> K
     requires { K.cmp smaller.now key.now ≡ Less }
     ensures { K.before key.now ≡ Some result }
@@ -25,7 +25,7 @@ fn step_down<K: StepLite>(key: &K, smaller: &K) -> K
     key.sub_one()
 }
 
-/// One more, by the step of bytes: at a type that is known its contract says so.
+// One more, by the step of bytes: at a type that is known its contract says so.
 fn next_byte(key: u8, greater: u8) -> u8
     requires { key < greater }
     ensures { result ≡ key + 1 }
@@ -33,7 +33,7 @@ fn next_byte(key: u8, greater: u8) -> u8
     step_up(&key, &greater)
 }
 
-/// One less, by the step of signed bytes.
+// One less, by the step of signed bytes.
 fn previous_signed_byte(key: i8, smaller: i8) -> i8
     requires { smaller <ℤ key }
     ensures { result ≡ key -ℤ pos 1 }
@@ -41,8 +41,8 @@ fn previous_signed_byte(key: i8, smaller: i8) -> i8
     step_down(&key, &smaller)
 }
 
-/// Whether, in each pair, one step up leads from the first key to the second, and one step down
-/// leads back.
+// Whether, in each pair, one step up leads from the first key to the second, and one step down
+// leads back.
 fn are_neighbours<K: StepLite + Drop>(pairs: &[(K, K)]) -> bool {
     for (lower, upper) in pairs {
         if !lower.cmp(upper).is_lt() {
@@ -55,7 +55,7 @@ fn are_neighbours<K: StepLite + Drop>(pairs: &[(K, K)]) -> bool {
     true
 }
 
-/// The same, by steps that the type `S` brings.
+// The same, by steps that the type `S` brings.
 fn are_neighbours_by<K: Ord + Drop, S: StepFns<K>>(pairs: &[(K, K)]) -> bool {
     for (lower, upper) in pairs {
         if !lower.cmp(upper).is_lt() {
@@ -70,7 +70,7 @@ fn are_neighbours_by<K: Ord + Drop, S: StepFns<K>>(pairs: &[(K, K)]) -> bool {
     true
 }
 
-/// Steps of bytes, brought by a type of its own.
+// Steps of bytes, brought by a type of its own.
 struct ByteSteps;
 
 impl StepFns<u8> for ByteSteps {

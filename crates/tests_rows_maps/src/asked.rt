@@ -77,7 +77,7 @@ where
     }
 }
 
-/// Compares the three pairs that a map hands over: to a loop, and from both ends.
+// Compares the three pairs that a map hands over: to a loop, and from both ends.
 fn check_handed_over<S: HandsOver<Range: Debug, Value: Debug, Alloc = Global> + StoreMut + Drop>(
     alloc: Global,
     pairs: &str,
@@ -97,7 +97,7 @@ where
     check_three_handed(alloc, map.into_iter(), copy.into_iter(), texts)
 }
 
-/// Compares the three pairs over which a loop goes.
+// Compares the three pairs over which a loop goes.
 fn check_loop<S: HandsOver<Range: Debug, Value: Debug>>(
     alloc: Global,
     map: Map<S>,
@@ -115,7 +115,7 @@ where
     check_text(alloc, &handed, text.as_str())
 }
 
-/// Compares the three pairs that two iterators hand over which are alike, from both ends.
+// Compares the three pairs that two iterators hand over which are alike, from both ends.
 fn check_three_handed<I: DoubleEndedIterator<Item: Debug + Drop>>(
     alloc: Global,
     pairs: I,

@@ -18,7 +18,7 @@ use std::test::Fail;
 use tests_row_checks::iterated_to_its_end;
 use tests_support::{FromEnds, Word, check_same, check_text, map_of};
 
-/// Compares the three pairs of a map in a sorted vector: as it lends them, and as it hands them over.
+// Compares the three pairs of a map in a sorted vector: as it lends them, and as it hands them over.
 fn check_all<Q: Kind<R, Steps = R::Key>, R: FromEnds<Key: Word<Global> + Debug> + Debug>(
     alloc: Global,
     inserted: &str,

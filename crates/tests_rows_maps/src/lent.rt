@@ -86,7 +86,7 @@ where
     }
 }
 
-/// Compares the three pairs that are lent.
+// Compares the three pairs that are lent.
 fn check_three_pairs<I: DoubleEndedIterator<Item: Debug + Drop>>(
     alloc: Global,
     pairs: I,
@@ -99,7 +99,7 @@ fn check_three_pairs<I: DoubleEndedIterator<Item: Debug + Drop>>(
     check_three(alloc, pairs, [first, middle, last], is_counted)
 }
 
-/// Compares the one gap of three iterators that are alike, and asks on.
+// Compares the one gap of three iterators that are alike, and asks on.
 fn check_gap<'a, Q: Kind<R>, R: KeyRange + Debug + 'a, C: LentCursor<'a, R, GivenValue: Drop>>(
     alloc: Global,
     gaps: (Gaps<'a, Q, R, C>, Gaps<'a, Q, R, C>, Gaps<'a, Q, R, C>),

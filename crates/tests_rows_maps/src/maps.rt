@@ -89,7 +89,7 @@ pub fn rows_of_tree<V: Eq + Clone + Word<Global>>(
     check_answers::<Map<Tree<u32, V, Global>>>(alloc, asked)
 }
 
-/// Asks maps in chunks of up to `N` pairs.
+// Asks maps in chunks of up to `N` pairs.
 fn rows_of_chunks_of<
     Q: Kind<R>,
     R: FromEnds<Key: Word<Global>>,

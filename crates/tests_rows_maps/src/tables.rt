@@ -23,7 +23,7 @@ pub fn check_half_open<V: Eq + Clone + Word<Global>>(alloc: Global, table: &str)
     rows_of_chunks::<HalfOpen, Range<u32>, V>(alloc, &table)
 }
 
-/// Compares rows for maps of closed ranges by the steps that `S` has, in a sorted vector and in chunks.
+// Compares rows for maps of closed ranges by the steps that `S` has, in a sorted vector and in chunks.
 fn check_by_steps<K: Ord + Clone + Word<Global>, V: Eq + Clone + Word<Global>, S: StepFns<K>>(
     alloc: Global,
     in_vector: &Rows<'_>,

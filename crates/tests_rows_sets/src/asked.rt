@@ -2,7 +2,7 @@
 ghost use Rattle.rangemap.specs.Clones.{KeysCloneFaithfully};
 
 use crate::laws::{Laws, check_laws};
-use rangemap::range_set::Set;
+use rangemap::set::Set;
 use rangemap_core::key_range::KeyRange;
 use rangemap_core::kind::Kind;
 use rangemap_core::store::{HandsOver, StoreMut};
@@ -87,7 +87,7 @@ pub fn check_changes<M: InRows<Value = (), Alloc = Global>>(
     check_replay::<M, _>(name, alloc, changes, accepted, lists)
 }
 
-/// Compares the three ranges that a set hands over, and its clone.
+// Compares the three ranges that a set hands over, and its clone.
 fn check_handed_over<S: HandsOver<Range: Debug, Value = (), Alloc = Global> + StoreMut + Drop>(
     alloc: Global,
     ranges: &str,
@@ -106,7 +106,7 @@ where
     check_counted_back(alloc, set.into_iter(), three)
 }
 
-/// Compares what the operators make of two sets.
+// Compares what the operators make of two sets.
 fn check_joined<S: HandsOver<Range: FromEnds, Value = (), Alloc = Global> + StoreMut + Drop>(
     alloc: Global,
     sets: &str,

@@ -4,7 +4,7 @@ ghost use Rattle.rangemap.specs.Clones.{KeysCloneFaithfully};
 use crate::asked::Asked;
 use crate::sets::{ask_chunks, ask_tree, ask_vector};
 use rangemap::laws::sets::{Operator, absorbs, associates, commutes, distributes, is_idempotent};
-use rangemap::range_set::Set;
+use rangemap::set::Set;
 use rangemap_core::closed::Closed;
 use rangemap_core::half_open::HalfOpen;
 use rangemap_core::key_range::KeyRange;
@@ -29,7 +29,7 @@ pub struct Laws<'t> {
     pub first: &'t str,
 }
 
-/// Three sets: the second goes on where the first ends, and the third has keys of both.
+// Three sets: the second goes on where the first ends, and the third has keys of both.
 #[derive(Drop)]
 struct Three<'a, S> {
     first: &'a S,
@@ -37,8 +37,8 @@ struct Three<'a, S> {
     third: &'a S,
 }
 
-/// Runs the laws of an operator that give two sets, and compares their texts. How it distributes is
-/// run on sets of its own.
+// Runs the laws of an operator that give two sets, and compares their texts. How it distributes is
+// run on sets of its own.
 fn check_sides<S: StoreMut<Range: Debug, Value = (), Alloc = Global> + Drop>(
     alloc: Global,
     operator: Operator,
@@ -65,7 +65,7 @@ where
     check_made(alloc, distributes(operator, first, second, third), made)
 }
 
-/// Runs the laws that give the first set again, for `|` and for `&`, and compares its text.
+// Runs the laws that give the first set again, for `|` and for `&`, and compares its text.
 fn check_first<S: StoreMut<Range: Debug, Value = (), Alloc = Global> + Drop>(
     alloc: Global,
     sets: &Three<'_, Set<S>>,

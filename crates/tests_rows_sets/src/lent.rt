@@ -2,7 +2,7 @@
 ghost use Rattle.std.specs.Iterator.{IsFinite};
 ghost use Rattle.rangemap.specs.Clones.{KeysCloneFaithfully};
 
-use rangemap::range_set::Set;
+use rangemap::set::Set;
 use rangemap_core::cursor::{LentCursor, Peek};
 use rangemap_core::gaps::Gaps;
 use rangemap_core::key_range::KeyRange;
@@ -109,7 +109,7 @@ where
     }
 }
 
-/// Compares what two sets lend of both.
+// Compares what two sets lend of both.
 fn check_of_both<'a, S: Lends<'a, Range: Debug, Value = (), Iter: Peek>>(
     alloc: Global,
     left: &'a Set<S>,
@@ -141,7 +141,7 @@ where
     }
 }
 
-/// Compares the three ranges that are lent.
+// Compares the three ranges that are lent.
 fn check_three_ranges<I: DoubleEndedIterator<Item: Debug + Drop>>(
     alloc: Global,
     ranges: I,
@@ -154,7 +154,7 @@ fn check_three_ranges<I: DoubleEndedIterator<Item: Debug + Drop>>(
     check_three(alloc, ranges, [first, middle, last], is_counted)
 }
 
-/// Compares the one gap of three iterators that are alike, and asks on.
+// Compares the one gap of three iterators that are alike, and asks on.
 fn check_gap<'a, Q: Kind<R>, R: KeyRange + Debug + 'a, C: LentCursor<'a, R, GivenValue: Drop>>(
     alloc: Global,
     gaps: (Gaps<'a, Q, R, C>, Gaps<'a, Q, R, C>, Gaps<'a, Q, R, C>),
@@ -165,7 +165,7 @@ fn check_gap<'a, Q: Kind<R>, R: KeyRange + Debug + 'a, C: LentCursor<'a, R, Give
     check_tries(alloc, gaps, Gaps::try_next, gap)
 }
 
-/// Takes two gaps by calls in turn, asks on, and compares the text of what is answered behind the hint.
+// Takes two gaps by calls in turn, asks on, and compares the text of what is answered behind the hint.
 fn check_two_gaps<'a, Q: Kind<R>, R: KeyRange + Debug + 'a, C: LentCursor<'a, R, GivenValue: Drop>>(
     alloc: Global,
     mut gaps: Gaps<'a, Q, R, C>,
@@ -179,10 +179,10 @@ fn check_two_gaps<'a, Q: Kind<R>, R: KeyRange + Debug + 'a, C: LentCursor<'a, R,
     check_text(alloc, &(hint, first, second), text)
 }
 
-/// Three iterators that are alike.
+// Three iterators that are alike.
 type Three<I> = (I, I, I);
 
-/// Compares the one item of a union, and that of an intersection, and asks on.
+// Compares the one item of a union, and that of an intersection, and asks on.
 fn check_item<C: Peek<Range: Debug>>(
     alloc: Global,
     unions: Three<Union<C>>,
@@ -196,7 +196,7 @@ fn check_item<C: Peek<Range: Debug>>(
     check_tries(alloc, intersections, Intersection::try_next, common)
 }
 
-/// Compares the items of a union, and those of an intersection.
+// Compares the items of a union, and those of an intersection.
 fn check_items<C: Peek<Range: Debug>>(
     alloc: Global,
     union: Union<C>,
@@ -210,7 +210,7 @@ fn check_items<C: Peek<Range: Debug>>(
     check_listed(alloc, intersection, common)
 }
 
-/// Compares the debug texts of an iterator's items, parted by commas.
+// Compares the debug texts of an iterator's items, parted by commas.
 fn check_listed<T: Debug + Drop, I: Iterator<Item = Result<T, AllocError>> + Drop>(
     alloc: Global,
     items: I,
@@ -227,8 +227,8 @@ fn check_listed<T: Debug + Drop, I: Iterator<Item = Result<T, AllocError>> + Dro
     check_same(written.as_str(), list)
 }
 
-/// Compares the first range of two iterators, or the last; and what a union with the rest of one and
-/// an intersection with that of the other make.
+// Compares the first range of two iterators, or the last; and what a union with the rest of one and
+// an intersection with that of the other make.
 fn check_rests<C: Peek<Range: Debug, Given: Debug>>(
     alloc: Global,
     left: (Ranges<C>, Ranges<C>),
@@ -246,7 +246,7 @@ fn check_rests<C: Peek<Range: Debug, Given: Debug>>(
     check_listed(alloc, Intersection::new(other, right.1), common)
 }
 
-/// Takes the first range, or else the last.
+// Takes the first range, or else the last.
 fn take<C: Peek>(ranges: &mut Ranges<C>, from_front: bool) -> Option<C::Given> {
     if from_front {
         ranges.next()

@@ -17,7 +17,7 @@ use std::ops::{Range, RangeInclusive};
 use std::test::Fail;
 use tests_support::{FromEnds, SignedSteps, Word, parts, rows, two_lists};
 
-/// What is asked of two sets: what both lend, and what the operators make.
+// What is asked of two sets: what both lend, and what the operators make.
 #[derive(Drop)]
 struct Row<'t> {
     lists: (&'t str, &'t str),
@@ -25,7 +25,7 @@ struct Row<'t> {
     joined: Asked<'t>,
 }
 
-/// Reads a row.
+// Reads a row.
 fn read_row<'t>(alloc: Global, row: &'t str) -> Result<Row<'t>, Fail> {
     let (sets, either, common) = parts(row)?;
     let (either, common) = (two_lists(either)?, two_lists(common)?);
@@ -40,12 +40,12 @@ fn read_row<'t>(alloc: Global, row: &'t str) -> Result<Row<'t>, Fail> {
     })
 }
 
-/// The question for the items of both sets.
+// The question for the items of both sets.
 fn items_of_both<R>() -> Lent<R> {
     Lent::All(All::OfBoth(OfBoth::Items))
 }
 
-/// Compares what the two sets of each row make, in a sorted vector and in chunks.
+// Compares what the two sets of each row make, in a sorted vector and in chunks.
 fn check_operations<Q: Kind<R, Steps = R::Key>, R: FromEnds<Key: Word<Global> + Debug> + Debug>(
     alloc: Global,
     table: &str,
@@ -62,7 +62,7 @@ fn check_operations<Q: Kind<R, Steps = R::Key>, R: FromEnds<Key: Word<Global> + 
     Ok(())
 }
 
-/// Compares what the two sets of each row make, of half-open ranges, in a tree too.
+// Compares what the two sets of each row make, of half-open ranges, in a tree too.
 fn check_half_open(alloc: Global, table: &str) -> Result<(), Fail> {
     for row in rows(alloc, table)? {
         let row = read_row(alloc, row)?;
@@ -121,7 +121,7 @@ fn closed_sets_over_any_steps_have_unions(rt: HostRuntime) -> Result<(), Fail> {
     )
 }
 
-/// Compares what two sets make of which a range was taken, in a sorted vector and in chunks.
+// Compares what two sets make of which a range was taken, in a sorted vector and in chunks.
 fn check_in_part<Q: Kind<R>, R: KeyRange<Key: Word<Global>> + Debug>(
     alloc: Global,
     lists: (&str, &str),
@@ -144,7 +144,7 @@ fn check_in_part<Q: Kind<R>, R: KeyRange<Key: Word<Global>> + Debug>(
     )
 }
 
-/// The same of sets of half-open ranges, in a tree too.
+// The same of sets of half-open ranges, in a tree too.
 fn check_half_open_in_part(
     alloc: Global,
     lists: (&str, &str),

@@ -85,7 +85,7 @@ pub fn ask_tree(alloc: Global, asked: &Asked<'_>) -> Result<(), Fail> {
     check_asked::<Tree<u32, (), Global>>(alloc, asked)
 }
 
-/// Asks sets in chunks of up to `N` ranges.
+// Asks sets in chunks of up to `N` ranges.
 fn ask_chunks_of<
     Q: Kind<R, Steps = R::Key>,
     R: FromEnds<Key: Word<Global> + Debug> + Debug,
@@ -116,7 +116,7 @@ pub fn ask_half_open(alloc: Global, asked: &Asked<'_>) -> Result<(), Fail> {
     ask_chunks::<HalfOpen, Range<u32>>(alloc, asked)
 }
 
-/// Asks sets of closed ranges, in a sorted vector and in chunks.
+// Asks sets of closed ranges, in a sorted vector and in chunks.
 fn ask_closed<T: StepLite + Clone + Debug + Word<Global>>(
     alloc: Global,
     in_vector: &Asked<'_>,
@@ -146,8 +146,8 @@ pub fn check_closed<T: StepLite + Clone + Debug + Word<Global>>(
 
 // The sets of replays are named once more: over any store the checker refuses the list of calls.
 
-/// Compares a replay on sets in chunks of up to two ranges: its calls, which of them are accepted, and
-/// what each set holds then.
+// Compares a replay on sets in chunks of up to two ranges: its calls, which of them are accepted, and
+// what each set holds then.
 fn check_calls_in_chunks<Q: Kind<R, Steps = R::Key>, R: FromEnds<Key: Word<Global>>>(
     alloc: Global,
     row: &str,

@@ -3,7 +3,7 @@ ghost use Rattle.rangemap.specs.Clones.{KeysCloneFaithfully, ValuesCloneFaithful
 
 use crate::in_rows::InRows;
 use rangemap::map::Map;
-use rangemap::range_set::Set;
+use rangemap::set::Set;
 use rangemap_containers::calls::Change;
 use rangemap_core::key_range::KeyRange;
 use rangemap_core::store::StoreMut;

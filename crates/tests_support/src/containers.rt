@@ -2,7 +2,7 @@
 //! cross from chunk to chunk, and of keys and values that take memory.
 
 use rangemap::map::Map;
-use rangemap::range_set::Set;
+use rangemap::set::Set;
 use rangemap::{RangeInclusiveMap, RangeInclusiveSet, RangeMap, RangeSet, tree_map, tree_set};
 use rangemap_chunked::Chunks;
 use tests_words::{Costly, Heap, Text};

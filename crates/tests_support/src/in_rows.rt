@@ -8,7 +8,7 @@ use crate::told::{
 };
 use rangemap::container::Container;
 use rangemap::map::Map;
-use rangemap::range_set::Set;
+use rangemap::set::Set;
 use rangemap::{tree_map, tree_set};
 use rangemap_core::kind::Kind;
 use rangemap_sorted::SortedVec;

@@ -7,7 +7,7 @@ ghost use Rattle.rangemap.specs.Clones.{KeysCloneFaithfully, ValuesCloneFaithful
 
 use rangemap::container::Container;
 use rangemap::map::Map;
-use rangemap::range_set::Set;
+use rangemap::set::Set;
 use rangemap_core::key_range::KeyRange;
 use rangemap_core::kind::Kind;
 use rangemap_core::store::StoreMut;

@@ -48,7 +48,7 @@ pub fn set_calls_of<Q: Kind<R>, R: KeyRange<Key: Word<A>>, A: Allocator + Copy>(
     Ok(all)
 }
 
-/// Makes the call on sets that a text names.
+// Makes the call on sets that a text names.
 fn read_set_call<Q: Kind<R>, R: KeyRange<Key: Word<A>>, A: Allocator + Copy>(
     alloc: A,
     call: &str,
@@ -78,13 +78,13 @@ fn read_set_call<Q: Kind<R>, R: KeyRange<Key: Word<A>>, A: Allocator + Copy>(
     }
 }
 
-/// The two places that an operator takes its sets from.
+// The two places that an operator takes its sets from.
 fn places(operands: &str) -> Result<(usize, usize), Fail> {
     let (left, right) = first_word(operands);
     Ok((left.parse()?, right.parse()?))
 }
 
-/// The call on a set that a change is.
+// The call on a set that a change is.
 fn set_call<Q: Kind<R>, R: KeyRange, A: Allocator>(change: Change<R, ()>) -> SetCall<R, A>
     requires { HasNonEmptyRange Q.kind change }
     ensures { SetHasNonEmptyRanges Q.kind result }

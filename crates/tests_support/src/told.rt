@@ -2,7 +2,7 @@
 ghost use Rattle.rangemap.specs.Clones.{KeysCloneFaithfully};
 
 use rangemap::map::Map;
-use rangemap::range_set::Set;
+use rangemap::set::Set;
 use rangemap_core::store::Lends;
 use std::alloc::AllocError;
 use tests_words::{ReadsGaps, ReadsPairs, tell_gaps, tell_pairs, tell_ranges};

@@ -82,7 +82,7 @@ pub fn calls_of<Q: Kind<R>, R: KeyRange<Key: Word<A>>, V: Word<A>, A: Allocator 
     Ok(all)
 }
 
-/// Makes the call on maps that a text names.
+// Makes the call on maps that a text names.
 fn read_call<Q: Kind<R>, R: KeyRange<Key: Word<A>>, V: Word<A>, A: Allocator + Copy>(
     alloc: A,
     call: &str,

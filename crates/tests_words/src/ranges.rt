@@ -7,7 +7,7 @@ use rangemap_core::kind::Kind;
 use std::ops::{Range, RangeInclusive};
 use std::test::Fail;
 
-/// Why a text names no range of a container.
+// Why a text names no range of a container.
 const OTHER_KIND: &str = "a range of a row is of the other kind";
 
 /// A range of any two ends.
@@ -35,7 +35,7 @@ pub fn filled<R: KeyRange>(start: R::Key, end: R::Key) -> Result<R, &'static str
     R::between(start, end).ok_or("a range of a row is empty")
 }
 
-/// The words between which a text has a range, unless it is one of the other kind.
+// The words between which a text has a range, unless it is one of the other kind.
 fn ends<R: KeyRange>(text: &str) -> Option<(&str, &str)> {
     let (start, end) = text.split_once(R::dots())?;
     if end.starts_with('=') {

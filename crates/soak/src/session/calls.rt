@@ -93,8 +93,8 @@ pub fn combine<S: Soaked>(
     Ok(is_refused)
 }
 
-/// Compares a container that was made, unless it was refused, with the points that it is to have,
-/// and with this one.
+// Compares a container that was made, unless it was refused, with the points that it is to have,
+// and with this one.
 fn check_made<S: Soaked>(
     subject: &S,
     model: &Model<'_>,

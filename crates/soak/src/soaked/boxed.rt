@@ -16,7 +16,7 @@ pub struct Boxed<A: Allocator> {
 }
 
 impl<A: Allocator> Boxed<A> {
-    /// Returns the number in a block of its own.
+    // Returns the number in a block of its own.
     fn new(alloc: A, number: u16) -> Result<Boxed<A>, AllocError>
         ensures { IfOk result (λ key. key.number.value ≡ number) }
     {

@@ -7,8 +7,8 @@ use crate::points::Piece;
 use std::alloc::AllocError;
 use tests_support::Tries;
 
-/// Asks for the next gap: by `next`, after a refusal of which none comes, or by `try_next`, after a
-/// refusal of which the same gap comes. The points of a gap have the mark 1.
+// Asks for the next gap: by `next`, after a refusal of which none comes, or by `try_next`, after a
+// refusal of which the same gap comes. The points of a gap have the mark 1.
 fn ask<R: Told, G: Tries<Range = R, Item = Result<R, AllocError>>>(
     gaps: &mut G,
     by_next: bool,

@@ -68,7 +68,7 @@ where
     }
 }
 
-/// Asks a map for its gaps.
+// Asks a map for its gaps.
 fn ask<'b, S: Lends<'b, Range: Told>>(
     map: &'b Map<S>,
     outer: &'b S::Range,

@@ -7,7 +7,7 @@ use super::{Heap, LendsGaps, PointRange, Soaked, Told};
 use crate::chance::Chance;
 use crate::difference::Stop;
 use crate::points::Piece;
-use rangemap::range_set::Set;
+use rangemap::set::Set;
 use rangemap_chunked::Chunks;
 use rangemap_core::closed::Closed;
 use rangemap_core::half_open::HalfOpen;
@@ -68,7 +68,7 @@ where
     }
 }
 
-/// Makes `one | other` or `one & other`.
+// Makes `one | other` or `one & other`.
 fn combined<S: StoreMut<Value = ()> + Drop>(
     one: &Set<S>,
     other: &Set<S>,
@@ -82,7 +82,7 @@ where
     if is_union { one | other } else { one & other }
 }
 
-/// Asks a set for its gaps.
+// Asks a set for its gaps.
 fn ask<'b, S: Lends<'b, Range: Told, Value = ()>>(
     set: &'b Set<S>,
     outer: &'b S::Range,

@@ -19,7 +19,7 @@ pub fn try_texts(heap: &Heap, row: &Row<'_>, granted: u64) -> Answer {
     Texts::is_made(Texts::from(heap, [first, second]), row.outcome)
 }
 
-/// A map of keys whose clone takes memory.
+// A map of keys whose clone takes memory.
 type HalfOpenCostlyMap<'a> = RangeMap<Costly<'a>, char, &'a Heap>;
 
 /// Tries to make a map of keys whose clone takes memory.
@@ -71,10 +71,10 @@ pub fn try_tree_set(heap: &Heap, row: &Row<'_>, granted: u64) -> Answer {
     CostlyTreeSet::is_made(CostlyTreeSet::from(heap, [first.0, second.0]), row.outcome)
 }
 
-/// A map in chunks of up to two pairs.
+// A map in chunks of up to two pairs.
 type InChunks<'a> = ChunkedMap<HalfOpen, Range<Costly<'a>>, char, &'a Heap, 2>;
 
-/// A closed map in chunks of up to two pairs.
+// A closed map in chunks of up to two pairs.
 type InclusiveInChunks<'a> = ChunkedMap<
     Closed<Costly<'a>>,
     RangeInclusive<Costly<'a>>,
@@ -83,10 +83,10 @@ type InclusiveInChunks<'a> = ChunkedMap<
     2,
 >;
 
-/// A set in chunks of up to two ranges.
+// A set in chunks of up to two ranges.
 type SetInChunks<'a> = ChunkedSet<HalfOpen, Range<Costly<'a>>, &'a Heap, 2>;
 
-/// A closed set in chunks of up to two ranges.
+// A closed set in chunks of up to two ranges.
 type InclusiveSetInChunks<'a> = ChunkedSet<
     Closed<Costly<'a>>,
     RangeInclusive<Costly<'a>>,

@@ -4,7 +4,7 @@ ghost use Rattle.rangemap.specs.Clones.{KeysCloneFaithfully, ValuesCloneFaithful
 
 use super::made::Made;
 use rangemap::map::Map;
-use rangemap::range_set::Set;
+use rangemap::set::Set;
 use rangemap::{Form, RangeInclusiveMap, RangeMap, ReadError, tree_map};
 use rangemap_core::key_range::KeyRange;
 use rangemap_core::kind::Kind;
@@ -15,17 +15,17 @@ use std::test::Fail;
 use tests_requests::{Answer, Row};
 use tests_support::{Costly, CostlySet, FromEnds, HalfOpenCostlySet, Heap};
 
-/// A part is no whole number of the size that is read.
+// A part is no whole number of the size that is read.
 #[derive(Drop)]
 struct NoNumber;
 
-/// Reads a key or a value.
+// Reads a key or a value.
 fn read_number(part: &Value) -> Result<u32, NoNumber> {
     let number = part.as_u64().ok_or(NoNumber)?;
     u32::try_from(number).ok().ok_or(NoNumber)
 }
 
-/// Reads a key or a value whose clones take memory.
+// Reads a key or a value whose clones take memory.
 fn read_costly<'a>(heap: &'a Heap, part: &Value) -> Result<Costly<'a>, NoNumber> {
     let number = part.as_u64().ok_or(NoNumber)?;
     match u8::try_from(number) {
@@ -34,7 +34,7 @@ fn read_costly<'a>(heap: &'a Heap, part: &Value) -> Result<Costly<'a>, NoNumber>
     }
 }
 
-/// The form that a row reads in, and the value that it reads.
+// The form that a row reads in, and the value that it reads.
 fn form_and_value(alloc: Global, given: &str) -> Result<(Form, Value), Fail> {
     let (form, text) = given.split_once(' ').ok_or("a row names a form")?;
     let form = if form == "canonical" {
@@ -71,13 +71,13 @@ where
     Made::is_made(unless_refused(read)?, row.outcome)
 }
 
-/// A map over closed ranges, of parts whose clones take memory.
+// A map over closed ranges, of parts whose clones take memory.
 type ClosedParts<'a> = RangeInclusiveMap<Costly<'a>, Costly<'a>, Costly<'a>, &'a Heap>;
 
-/// The same over half-open ranges.
+// The same over half-open ranges.
 type Parts<'a> = RangeMap<Costly<'a>, Costly<'a>, &'a Heap>;
 
-/// The same in a tree.
+// The same in a tree.
 type PartsInTree<'a> = tree_map::RangeMap<Costly<'a>, Costly<'a>, &'a Heap>;
 
 // A closure that holds the heap can't be passed over any store, so each type has a function of its own.
@@ -127,7 +127,7 @@ pub fn try_costly_inclusive_set(heap: &Heap, alloc: Global, row: &Row<'_>, grant
     Made::is_made(unless_refused(read)?, row.outcome)
 }
 
-/// What was read. What rows name is refused for want of memory alone.
+// What was read. What rows name is refused for want of memory alone.
 fn unless_refused<M: Drop>(
     read: Result<M, ReadError<NoNumber>>,
 ) -> Result<Result<M, AllocError>, Fail> {

@@ -22,27 +22,27 @@ pub fn try_lists(heap: &Heap, row: &Row<'_>, granted: u64) -> Answer {
     Ok(is_map)
 }
 
-/// Tries the list of a map.
+// Tries the list of a map.
 fn try_map(heap: &Heap, granted: u64) -> Answer {
     heap.refuse_after(granted);
     let map = range_map! { in heap; 0..5u32 => 'a', 7..9 => 'b' };
     Made::is_made(map, "0..5 a, 7..9 b")
 }
 
-/// Tries the list of a closed map.
+// Tries the list of a closed map.
 fn try_inclusive_map(heap: &Heap, granted: u64) -> Answer {
     heap.refuse_after(granted);
     let map = range_inclusive_map! { in heap; 0..=5u32 => 'a', 7..=9 => 'b' };
     Made::is_made(map, "0..=5 a, 7..=9 b")
 }
 
-/// Tries the list of a set.
+// Tries the list of a set.
 fn try_set(heap: &Heap, granted: u64) -> Answer {
     heap.refuse_after(granted);
     Made::is_made(range_set![in heap; 0..5u32, 7..9], "0..5, 7..9")
 }
 
-/// Tries the list of a closed set.
+// Tries the list of a closed set.
 fn try_inclusive_set(heap: &Heap, granted: u64) -> Answer {
     heap.refuse_after(granted);
     Made::is_made(

@@ -1,7 +1,7 @@
 //! What makes a container, compared with what a row says is made.
 
 use rangemap::map::Map;
-use rangemap::range_set::Set;
+use rangemap::set::Set;
 use rangemap_chunked::Chunks;
 use rangemap_core::kind::Kind;
 use rangemap_sorted::SortedVec;

@@ -3,7 +3,7 @@ ghost use Rattle.std.specs.List.{AllByRecursion};
 ghost use Rattle.rangemap.specs.Clones.{KeysCloneFaithfully, ValuesCloneFaithfully};
 
 use rangemap::map::Map;
-use rangemap::range_set::Set;
+use rangemap::set::Set;
 use rangemap_chunked::Chunks;
 use rangemap_containers::replay::CallOn;
 use rangemap_core::half_open::HalfOpen;
@@ -28,7 +28,7 @@ pub enum Asked<'t, A> {
 }
 
 impl<'t, A: Copy> Asked<'t, A> {
-    /// What the calls have their memory of.
+    // What the calls have their memory of.
     fn memory(&self) -> A {
         match self {
             Asked::Tried(_, alloc, _, _) => *alloc,
@@ -36,7 +36,7 @@ impl<'t, A: Copy> Asked<'t, A> {
         }
     }
 
-    /// The calls, as the row has them.
+    // The calls, as the row has them.
     fn calls(&self) -> Result<&'t str, Fail> {
         match self {
             Asked::Tried(_, _, row, _) => Ok(row.given),
@@ -45,7 +45,7 @@ impl<'t, A: Copy> Asked<'t, A> {
     }
 }
 
-/// Answers what is asked, of calls on a container.
+// Answers what is asked, of calls on a container.
 fn answer_of<M: InRows, C: CallOn<M>>(asked: Asked<'_, M::Alloc>, calls: Vec<C, M::Alloc>) -> Answer
     requires non_empty { AllByRecursion C.has_non_empty calls.items }
     requires faithful_keys { KeysCloneFaithfully M.Range.Key.is_clone M.Range.Key.cmp }

@@ -6,10 +6,10 @@ use std::ops::RangeInclusive;
 use tests_requests::{Answer, Row, try_changes};
 use tests_support::{ChunkedMap, ChunkedSet, Heap, SignedSteps};
 
-/// A map over other steps in chunks of up to two pairs.
+// A map over other steps in chunks of up to two pairs.
 type SteppedMap<'a> = ChunkedMap<Closed<SignedSteps>, RangeInclusive<i8>, bool, &'a Heap, 2>;
 
-/// A set over other steps in chunks of up to two ranges.
+// A set over other steps in chunks of up to two ranges.
 type SteppedSet<'a> = ChunkedSet<Closed<SignedSteps>, RangeInclusive<i8>, &'a Heap, 2>;
 
 /// Tries the replay of maps.

@@ -34,7 +34,7 @@ pub fn try_growths<S: InRows<Value = ()> + OwnCalls>(
     Ok(extended.1)
 }
 
-/// Makes a set of the first ranges, of which there are so many.
+// Makes a set of the first ranges, of which there are so many.
 fn first_of<S: InRows<Value = ()>>(alloc: S::Alloc, given: &str, count: usize) -> Result<S, Fail>
     requires faithful_keys { KeysCloneFaithfully S.Range.Key.is_clone S.Range.Key.cmp }
 {

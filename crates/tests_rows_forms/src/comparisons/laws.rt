@@ -12,31 +12,31 @@ use std::hash::Hasher;
 use std::test::Fail;
 use tests_support::check_that;
 
-/// A map to values that count.
+// A map to values that count.
 type Map<'a> = RangeMap<u32, Tallied<'a>>;
 
-/// Where the values of two maps count.
+// Where the values of two maps count.
 type Tallies<'a> = (&'a Tally, &'a Tally);
 
-/// A map with one value.
+// A map with one value.
 fn map_to<'a>(alloc: Global, letter: char, tally: &'a Tally) -> Result<Map<'a>, AllocError> {
     let mut map = RangeMap::new(alloc);
     map.insert(0..5, Tallied { letter, tally })?;
     Ok(map)
 }
 
-/// Whether so much was counted for each of two maps.
+// Whether so much was counted for each of two maps.
 fn are_counted((ours, theirs): Tallies<'_>, counts: Counts) -> bool {
     (ours.taken(), theirs.taken()) == (counts, counts)
 }
 
-/// Whether a map lies so to another by the law, for which it was compared by `==` and by `cmp`.
+// Whether a map lies so to another by the law, for which it was compared by `==` and by `cmp`.
 fn lies<'a>(one: &Map<'a>, other: &Map<'a>, tallies: Tallies<'a>, order: Ordering) -> bool {
     equality_agrees_with_order(one, other) == (order.is_eq(), order)
         && are_counted(tallies, (1, 1, 0))
 }
 
-/// Whether two maps hash alike by the law, if they are equal, for which each was fed once.
+// Whether two maps hash alike by the law, if they are equal, for which each was fed once.
 fn are_alike<'a>(one: &Map<'a>, same: &Map<'a>, tallies: Tallies<'a>) -> bool {
     let hash = hash_of(one);
     if one != same {
@@ -48,7 +48,7 @@ fn are_alike<'a>(one: &Map<'a>, same: &Map<'a>, tallies: Tallies<'a>) -> bool {
     (left.finish(), right.finish()) == (hash, hash) && are_counted(tallies, (0, 0, 1))
 }
 
-/// Whether the laws make their calls, and no others, on maps that count for one of the two.
+// Whether the laws make their calls, and no others, on maps that count for one of the two.
 fn make_their_calls<'a>(alloc: Global, tallies: Tallies<'a>) -> Result<bool, AllocError> {
     let one = map_to(alloc, 'a', tallies.0)?;
     let same = map_to(alloc, 'a', tallies.1)?;

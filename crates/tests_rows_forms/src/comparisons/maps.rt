@@ -18,7 +18,7 @@ use std::ops::{Range, RangeInclusive};
 use std::test::Fail;
 use tests_support::{SignedSteps, Word};
 
-/// Compares a table for maps over a store.
+// Compares a table for maps over a store.
 fn check_maps<S>(alloc: Global, table: &str) -> Result<(), Fail>
 where
     S: StoreMut<
@@ -33,7 +33,7 @@ where
     check_rows::<Map<S>>(alloc, table)
 }
 
-/// Compares a table for maps in a sorted vector and in chunks of up to two pairs.
+// Compares a table for maps in a sorted vector and in chunks of up to two pairs.
 fn check_kind<Q, R, V>(alloc: Global, table: &str) -> Result<(), Fail>
 where
     Q: Kind<R>,
@@ -46,18 +46,18 @@ where
     check_maps::<Chunks<Q, R, V, Global, 2>>(alloc, table)
 }
 
-/// Compares a table for maps of half-open ranges, in a sorted vector, in chunks and in a tree.
+// Compares a table for maps of half-open ranges, in a sorted vector, in chunks and in a tree.
 fn check_half_open(alloc: Global, table: &str) -> Result<(), Fail> {
     check_kind::<HalfOpen, Range<u32>, char>(alloc, table)?;
     check_maps::<Tree<u32, char, Global>>(alloc, table)
 }
 
-/// Compares a table for maps of closed ranges.
+// Compares a table for maps of closed ranges.
 fn check_closed(alloc: Global, table: &str) -> Result<(), Fail> {
     check_kind::<Closed<u32>, RangeInclusive<u32>, char>(alloc, table)
 }
 
-/// Compares a table for maps over the steps of another type.
+// Compares a table for maps over the steps of another type.
 fn check_stepped(alloc: Global, table: &str) -> Result<(), Fail> {
     check_kind::<Closed<SignedSteps>, RangeInclusive<i8>, bool>(alloc, table)
 }

@@ -2,7 +2,7 @@
 ghost use Rattle.rangemap.specs.Clones.{KeysCloneFaithfully};
 
 use super::check_rows;
-use rangemap::range_set::Set;
+use rangemap::set::Set;
 use rangemap_chunked::Chunks;
 use rangemap_core::closed::Closed;
 use rangemap_core::half_open::HalfOpen;
@@ -17,7 +17,7 @@ use std::ops::{Range, RangeInclusive};
 use std::test::Fail;
 use tests_support::{SignedSteps, Word};
 
-/// Compares a table for sets over a store.
+// Compares a table for sets over a store.
 fn check_sets<S>(alloc: Global, table: &str) -> Result<(), Fail>
 where
     S: StoreMut<Range: KeyRange<Key: Word<Global> + Hash>, Value = (), Alloc = Global> + Drop,
@@ -26,7 +26,7 @@ where
     check_rows::<Set<S>>(alloc, table)
 }
 
-/// Compares a table for sets in a sorted vector and in chunks of up to two ranges.
+// Compares a table for sets in a sorted vector and in chunks of up to two ranges.
 fn check_kind<Q, R>(alloc: Global, table: &str) -> Result<(), Fail>
 where
     Q: Kind<R>,
@@ -37,13 +37,13 @@ where
     check_sets::<Chunks<Q, R, (), Global, 2>>(alloc, table)
 }
 
-/// Compares a table for sets of half-open ranges, in a sorted vector, in chunks and in a tree.
+// Compares a table for sets of half-open ranges, in a sorted vector, in chunks and in a tree.
 fn check_half_open(alloc: Global, table: &str) -> Result<(), Fail> {
     check_kind::<HalfOpen, Range<u32>>(alloc, table)?;
     check_sets::<Tree<u32, (), Global>>(alloc, table)
 }
 
-/// Compares a table for sets of closed ranges.
+// Compares a table for sets of closed ranges.
 fn check_closed(alloc: Global, table: &str) -> Result<(), Fail> {
     check_kind::<Closed<u32>, RangeInclusive<u32>>(alloc, table)
 }

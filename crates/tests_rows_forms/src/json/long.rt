@@ -8,7 +8,7 @@ use std::fmt::Write;
 use std::test::Fail;
 use tests_support::check_same;
 
-/// So many entries in order, each with a key between it and the next.
+// So many entries in order, each with a key between it and the next.
 fn spread(alloc: Global, count: u32) -> Result<Value, Fail> {
     let mut text = String::from_str(alloc, "[[[0,2],7]")?;
     for at in 1..count {
@@ -19,7 +19,7 @@ fn spread(alloc: Global, count: u32) -> Result<Value, Fail> {
     Ok(Value::from_str(alloc, text.as_str())?)
 }
 
-/// How many pairs a map of numbers is read to have, or why it is refused.
+// How many pairs a map of numbers is read to have, or why it is refused.
 fn len_or_error(alloc: Global, form: Form, value: &Value) -> Result<String, Fail> {
     match RangeMap::from_value(alloc, form, value, read_number, read_number) {
         Ok(map) => debug_text(alloc, &map.len()),
@@ -27,7 +27,7 @@ fn len_or_error(alloc: Global, form: Form, value: &Value) -> Result<String, Fail
     }
 }
 
-/// The same of a map in chunks.
+// The same of a map in chunks.
 fn chunked_len_or_error(alloc: Global, form: Form, value: &Value) -> Result<String, Fail> {
     match chunked::RangeMap::from_value(alloc, form, value, read_number, read_number) {
         Ok(map) => debug_text(alloc, &map.len()),
@@ -35,7 +35,7 @@ fn chunked_len_or_error(alloc: Global, form: Form, value: &Value) -> Result<Stri
     }
 }
 
-/// Compares what a value is read to in either form.
+// Compares what a value is read to in either form.
 fn check_read(alloc: Global, value: &Value, answer: &str) -> Result<(), Fail> {
     for form in [Form::Any, Form::Canonical] {
         let found = len_or_error(alloc, form, value)?;
@@ -70,7 +70,7 @@ fn a_long_list_is_read(rt: HostRuntime) -> Result<(), Fail> {
     )
 }
 
-/// A list in a list in a list, and so on.
+// A list in a list in a list, and so on.
 fn deep(alloc: Global) -> Result<Value, AllocError> {
     let mut deep = Value::Null;
     for _ in 0..1000u32 {
@@ -79,7 +79,7 @@ fn deep(alloc: Global) -> Result<Value, AllocError> {
     Ok(deep)
 }
 
-/// The list of one entry, whose value is this one.
+// The list of one entry, whose value is this one.
 fn one_entry(alloc: Global, value: Value) -> Result<Value, Fail> {
     let range = Value::from_str(alloc, "[0,1]")?;
     let entry = Value::Array(vec![in alloc; range, value]?);

@@ -31,7 +31,7 @@ where
     }
 }
 
-/// Compares a table for maps of numbers to texts over a store.
+// Compares a table for maps of numbers to texts over a store.
 fn check_maps<S>(alloc: Global, table: &str) -> Result<(), Fail>
 where
     S: StoreMut<Value = String, Alloc = Global, Range: KeyRange<Key = u32> + Debug> + Drop,
@@ -40,7 +40,7 @@ where
     check_rows::<Map<S>>(alloc, table)
 }
 
-/// Compares a table for maps in a sorted vector and in chunks of up to two pairs.
+// Compares a table for maps in a sorted vector and in chunks of up to two pairs.
 fn check_kind<Q: Kind<R, Steps = R::Key>, R: KeyRange<Key = u32> + Debug>(
     alloc: Global,
     table: &str,
@@ -49,13 +49,13 @@ fn check_kind<Q: Kind<R, Steps = R::Key>, R: KeyRange<Key = u32> + Debug>(
     check_maps::<Chunks<Q, R, String, Global, 2>>(alloc, table)
 }
 
-/// Compares a table for maps over half-open ranges, in a sorted vector, in chunks and in a tree.
+// Compares a table for maps over half-open ranges, in a sorted vector, in chunks and in a tree.
 fn check_half_open(alloc: Global, table: &str) -> Result<(), Fail> {
     check_kind::<HalfOpen, Range<u32>>(alloc, table)?;
     check_maps::<Tree<u32, String, Global>>(alloc, table)
 }
 
-/// Compares a table for maps over closed ranges.
+// Compares a table for maps over closed ranges.
 fn check_closed(alloc: Global, table: &str) -> Result<(), Fail> {
     check_kind::<Closed<u32>, RangeInclusive<u32>>(alloc, table)
 }

@@ -5,7 +5,7 @@ use crate::made::Made;
 use rangemap::Form;
 use rangemap::laws::{round_trips, set_round_trips};
 use rangemap::map::Map;
-use rangemap::range_set::Set;
+use rangemap::set::Set;
 use rangemap_chunked::Chunks;
 use rangemap_core::closed::Closed;
 use rangemap_core::half_open::HalfOpen;
@@ -20,7 +20,7 @@ use std::ops::{Range, RangeInclusive};
 use std::test::Fail;
 use tests_support::{check_text, check_that};
 
-/// Reads a map again in either form, makes one again of its pairs, and compares the texts of these.
+// Reads a map again in either form, makes one again of its pairs, and compares the texts of these.
 fn check_map<S>(alloc: Global, pairs: &str, text: &str) -> Result<(), Fail>
 where
     S: HandsOver<Range: KeyRange<Key = u32> + Debug, Value = u32, Alloc = Global> + StoreMut + Drop,
@@ -45,7 +45,7 @@ where
     check_map_again(alloc, &again, text)
 }
 
-/// Compares the text of how many pairs a map has, of the first and the last of them, and of all.
+// Compares the text of how many pairs a map has, of the first and the last of them, and of all.
 fn check_map_again<S>(alloc: Global, map: &Map<S>, text: &str) -> Result<(), Fail>
 where
     S: StoreMut<Range: KeyRange<Key = u32> + Debug, Value = u32>,
@@ -55,7 +55,7 @@ where
     check_text(alloc, &(map.len(), ends, map), text)
 }
 
-/// The same of a set.
+// The same of a set.
 fn check_set<S>(alloc: Global, ranges: &str, text: &str) -> Result<(), Fail>
 where
     S: HandsOver<Range: KeyRange<Key = u32> + Debug, Value = (), Alloc = Global> + StoreMut + Drop,
@@ -78,7 +78,7 @@ where
     check_set_again(alloc, &again, text)
 }
 
-/// Compares the text of how many ranges a set has, of the first and the last of them, and of all.
+// Compares the text of how many ranges a set has, of the first and the last of them, and of all.
 fn check_set_again<S>(alloc: Global, set: &Set<S>, text: &str) -> Result<(), Fail>
 where
     S: StoreMut<Range: KeyRange<Key = u32> + Debug, Value = ()>,
@@ -88,7 +88,7 @@ where
     check_text(alloc, &(set.len(), ends, set), text)
 }
 
-/// Makes maps again, in a sorted vector and in chunks of up to two pairs.
+// Makes maps again, in a sorted vector and in chunks of up to two pairs.
 fn check_maps<Q: Kind<R, Steps = R::Key>, R: KeyRange<Key = u32> + Debug>(
     alloc: Global,
     pairs: &str,
@@ -98,7 +98,7 @@ fn check_maps<Q: Kind<R, Steps = R::Key>, R: KeyRange<Key = u32> + Debug>(
     check_map::<Chunks<Q, R, u32, Global, 2>>(alloc, pairs, text)
 }
 
-/// Makes sets again, in a sorted vector and in chunks of up to two ranges.
+// Makes sets again, in a sorted vector and in chunks of up to two ranges.
 fn check_sets<Q: Kind<R, Steps = R::Key>, R: KeyRange<Key = u32> + Debug>(
     alloc: Global,
     ranges: &str,

@@ -1,7 +1,7 @@
 //! Rows about sets over both kinds of range.
 
 use super::{Fault, InJson, check_rows, read_number, write_key};
-use rangemap::range_set::Set;
+use rangemap::set::Set;
 use rangemap::{Form, ReadError, WriteError};
 use rangemap_chunked::Chunks;
 use rangemap_core::closed::Closed;
@@ -31,7 +31,7 @@ where
     }
 }
 
-/// Compares a table for sets of numbers over a store.
+// Compares a table for sets of numbers over a store.
 fn check_sets<S>(alloc: Global, table: &str) -> Result<(), Fail>
 where
     S: StoreMut<Value = (), Alloc = Global, Range: KeyRange<Key = u32> + Debug> + Drop,
@@ -40,7 +40,7 @@ where
     check_rows::<Set<S>>(alloc, table)
 }
 
-/// Compares a table for sets in a sorted vector and in chunks of up to two ranges.
+// Compares a table for sets in a sorted vector and in chunks of up to two ranges.
 fn check_kind<Q: Kind<R, Steps = R::Key>, R: KeyRange<Key = u32> + Debug>(
     alloc: Global,
     table: &str,
@@ -49,13 +49,13 @@ fn check_kind<Q: Kind<R, Steps = R::Key>, R: KeyRange<Key = u32> + Debug>(
     check_sets::<Chunks<Q, R, (), Global, 2>>(alloc, table)
 }
 
-/// Compares a table for sets over half-open ranges, in a sorted vector, in chunks and in a tree.
+// Compares a table for sets over half-open ranges, in a sorted vector, in chunks and in a tree.
 fn check_half_open(alloc: Global, table: &str) -> Result<(), Fail> {
     check_kind::<HalfOpen, Range<u32>>(alloc, table)?;
     check_sets::<Tree<u32, (), Global>>(alloc, table)
 }
 
-/// Compares a table for sets over closed ranges.
+// Compares a table for sets over closed ranges.
 fn check_closed(alloc: Global, table: &str) -> Result<(), Fail> {
     check_kind::<Closed<u32>, RangeInclusive<u32>>(alloc, table)
 }

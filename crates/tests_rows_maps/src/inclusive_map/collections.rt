@@ -12,7 +12,7 @@ use std::ops::RangeInclusive;
 use std::test::Fail;
 use tests_support::{check_same, check_text};
 
-/// Compares a map that a chain extends, one that a chain makes, and one that an array makes.
+// Compares a map that a chain extends, one that a chain makes, and one that an array makes.
 fn check_made<S>(alloc: Global) -> Result<(), Fail>
 where
     S: StoreMut<Kind = Closed<u32>, Range = RangeInclusive<u32>, Value = char, Alloc = Global>
@@ -29,7 +29,7 @@ where
     )
 }
 
-/// The value of the pair at this place of a chain.
+// The value of the pair at this place of a chain.
 fn value_of(place: u32) -> Noted {
     with_note(match place {
         0 | 3 => 'x',
@@ -38,8 +38,8 @@ fn value_of(place: u32) -> Noted {
     })
 }
 
-/// Compares which of equal values stay: the last one of those that are joined, in maps that an array
-/// makes, a chain makes and a chain extends.
+// Compares which of equal values stay: the last one of those that are joined, in maps that an array
+// makes, a chain makes and a chain extends.
 fn check_notes<S>(alloc: Global) -> Result<(), Fail>
 where
     S: StoreMut<Kind = Closed<u32>, Range = RangeInclusive<u32>, Value = Noted, Alloc = Global>

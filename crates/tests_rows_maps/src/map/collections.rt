@@ -14,7 +14,7 @@ use std::ops::Range;
 use std::test::Fail;
 use tests_support::{check_same, check_text};
 
-/// Extends a map by the pairs of a chain, which start at 10, 20 and so on.
+// Extends a map by the pairs of a chain, which start at 10, 20 and so on.
 fn extend_by_chain<S>(map: &mut Map<S>, end: u8) -> Result<(), AllocError>
 where
     S: StoreMut<Kind = HalfOpen, Range = Range<u32>, Value = char> + Drop,

@@ -17,10 +17,10 @@ use std::ops::Range;
 use std::test::Fail;
 use tests_support::check_same;
 
-/// Commands over numbers.
+// Commands over numbers.
 type Commands = Vec<Command<u32, Range<u32>, char>, Global>;
 
-/// The commands, which are run on an empty map.
+// The commands, which are run on an empty map.
 fn commands(alloc: Global) -> Result<Commands, AllocError>
     ensures { IfOk result (λ commands. AllByRecursion (IsAllowed (half_open nat_cmp)) commands.items) }
 {
@@ -40,11 +40,11 @@ fn commands(alloc: Global) -> Result<Commands, AllocError>
     Ok(Vec::from_array(alloc, commands)?)
 }
 
-/// What they answer.
+// What they answer.
 const ANSWERS: &str = "done done done 3 Some('a') None Some((10..20, 'b')) \
     [(0..3, 'a'), (6..10, 'a'), (10..20, 'b')] [(6..10, 'a'), (10..20, 'b')] done 0 ";
 
-/// Writes an answer.
+// Writes an answer.
 fn write_answer(
     text: &mut String,
     answer: &Outcome<Range<u32>, char, Global>,

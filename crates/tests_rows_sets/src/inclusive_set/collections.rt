@@ -2,7 +2,7 @@
 //! chunks.
 
 use crate::lent::{In, check_in_range};
-use rangemap::range_set::Set as SetOver;
+use rangemap::set::Set as SetOver;
 use rangemap::{RangeInclusiveSet, range_inclusive_set};
 use rangemap_chunked::Chunks;
 use rangemap_core::closed::Closed;
@@ -13,10 +13,10 @@ use std::ops::RangeInclusive;
 use std::test::Fail;
 use tests_support::check_text;
 
-/// A set of numbers.
+// A set of numbers.
 type Set = RangeInclusiveSet<u32>;
 
-/// Compares a set of two ranges that a chain extends, a clone made before, and one that a chain makes.
+// Compares a set of two ranges that a chain extends, a clone made before, and one that a chain makes.
 fn check_made<S>(alloc: Global) -> Result<(), Fail>
 where
     S: StoreMut<Kind = Closed<u32>, Range = RangeInclusive<u32>, Value = (), Alloc = Global> + Drop,

@@ -2,7 +2,7 @@
 //! chunks.
 
 use crate::lent::{In, check_in_range};
-use rangemap::range_set::Set as SetOver;
+use rangemap::set::Set as SetOver;
 use rangemap::{RangeSet, range_set};
 use rangemap_chunked::Chunks;
 use rangemap_core::half_open::HalfOpen;
@@ -14,10 +14,10 @@ use std::ops::Range;
 use std::test::Fail;
 use tests_support::check_text;
 
-/// A set of numbers.
+// A set of numbers.
 type Set = RangeSet<u32>;
 
-/// Compares a set of two ranges that a chain extends, a clone made before, and one that a chain makes.
+// Compares a set of two ranges that a chain extends, a clone made before, and one that a chain makes.
 fn check_made<S>(alloc: Global) -> Result<(), Fail>
 where
     S: StoreMut<Kind = HalfOpen, Range = Range<u32>, Value = (), Alloc = Global> + Drop,
