@@ -1,10 +1,12 @@
 //! The commands, and how a line is read as one.
-ghost use Rattle.std.specs.Prelude.{◌≡◌, ◌≢◌, ◌↔◌, false, IsOk, IfOk, IfErr, IsErrOf};
-ghost use Rattle.rangerun_library.specs.Words.{AreEnds, IsNumber, IsValue, holds_key, number_of};
+ghost use Rattle.std.specs.Prelude.{◌≡◌, ◌≢◌, ◌↔◌, Bool, [], ◌∷◌, false, true, IsOk, IfOk, IfErr, IsErrOf};
+ghost use Rattle.rangerun_library.specs.Words.{AreEnds, IsNumber, IsValue, holds_key, number_of, words_of};
+ghost use Rattle.rangerun_library.specs.Readings.{IsReading};
 
 use crate::fault::Cause;
 use crate::range::{NumberRange, Span};
 use crate::words::{self, Operands};
+use std::str;
 
 /// What a line asks for, of a container of ranges `R`.
 #[derive(Debug, Drop)]
@@ -43,32 +45,89 @@ impl<'a, R: NumberRange> Command<'a, R> {
     ///
     /// Of several faults in a line the one whose cause has the least number is told: `Cause::Command`,
     /// `Cause::Number`, `Cause::EmptyRange` or `Cause::Value`.
-    pub fn parse(line: &'a [u8], has_value: bool) -> Result<Command<'a, R>, Cause> {
-        match words::divide(line) {
-            (b"clear", Operands::None) => Ok(Command::Clear),
-            (b"first", Operands::None) => Ok(Command::First),
-            (b"last", Operands::None) => Ok(Command::Last),
-            (b"iter", Operands::None) => Ok(Command::Iter),
-            (b"len", Operands::None) => Ok(Command::Len),
-            (b"json", Operands::None) => Ok(Command::Json),
-            (b"get", Operands::One(key)) => Ok(Command::Get(words::number(key)?)),
-            (b"insert", Operands::Two(start, end)) if !has_value => {
-                Ok(Command::Insert(parse_span(start, end)?, None))
+    pub fn parse(line: &'a [u8], has_value: bool) -> Result<Command<'a, R>, Cause>
+        ensures { IsReading has_value (words_of line.now) result }
+    {
+        let (name, operands) = words::divide(line);
+        let Ok(name) = str::from_utf8(name) else {
+            return Err(Cause::Command);
+        };
+        match operands {
+            Operands::None => parse_bare(name),
+            Operands::One(key) => parse_get(name, key),
+            Operands::Two(start, end) => parse_ends(name, start, end, has_value),
+            Operands::Three(start, end, value) if has_value => {
+                parse_valued(name, start, end, value)
             }
-            (b"insert", Operands::Three(start, end, value)) if has_value => {
-                let (span, value) = parse_pair(start, end, value)?;
-                Ok(Command::Insert(span, Some(value)))
-            }
-            (b"remove", Operands::Two(start, end)) => Ok(Command::Remove(parse_span(start, end)?)),
-            (b"overlapping", Operands::Two(start, end)) => {
-                Ok(Command::Overlapping(parse_query(start, end)?))
-            }
-            (b"overlaps", Operands::Two(start, end)) => {
-                Ok(Command::Overlaps(parse_query(start, end)?))
-            }
-            (b"gaps", Operands::Two(start, end)) => Ok(Command::Gaps(parse_query(start, end)?)),
             _ => Err(Cause::Command),
         }
+    }
+}
+
+// The command that a name alone is.
+fn parse_bare<'a, R: NumberRange>(name: &str) -> Result<Command<'a, R>, Cause>
+    ensures { (has_value : Bool) → IsReading has_value (name.now ∷ []) result }
+{
+    match name {
+        "clear" => Ok(Command::Clear),
+        "first" => Ok(Command::First),
+        "last" => Ok(Command::Last),
+        "iter" => Ok(Command::Iter),
+        "len" => Ok(Command::Len),
+        "json" => Ok(Command::Json),
+        _ => Err(Cause::Command),
+    }
+}
+
+// The command that a name and one operand are.
+fn parse_get<'a, R: NumberRange>(name: &str, key: &[u8]) -> Result<Command<'a, R>, Cause>
+    ensures { (has_value : Bool) → IsReading has_value (name.now ∷ key.now ∷ []) result }
+{
+    match name {
+        "get" => Ok(Command::Get(words::number(key)?)),
+        _ => Err(Cause::Command),
+    }
+}
+
+// The command that a name and two operands are.
+fn parse_ends<'a, R: NumberRange>(
+    name: &str,
+    start: &[u8],
+    end: &[u8],
+    has_value: bool,
+) -> Result<Command<'a, R>, Cause>
+    ensures { IsReading has_value (name.now ∷ start.now ∷ end.now ∷ []) result }
+{
+    match name {
+        "insert" => {
+            if has_value {
+                return Err(Cause::Command);
+            }
+            Ok(Command::Insert(parse_span(start, end)?, None))
+        }
+        "remove" => Ok(Command::Remove(parse_span(start, end)?)),
+        "overlapping" => Ok(Command::Overlapping(parse_query(start, end)?)),
+        "overlaps" => Ok(Command::Overlaps(parse_query(start, end)?)),
+        "gaps" => Ok(Command::Gaps(parse_query(start, end)?)),
+        _ => Err(Cause::Command),
+    }
+}
+
+// The command that a name and three operands are, where an insert has a value.
+fn parse_valued<'a, R: NumberRange>(
+    name: &str,
+    start: &[u8],
+    end: &[u8],
+    value: &'a [u8],
+) -> Result<Command<'a, R>, Cause>
+    ensures { IsReading true (name.now ∷ start.now ∷ end.now ∷ value.now ∷ []) result }
+{
+    match name {
+        "insert" => {
+            let (span, value) = parse_pair(start, end, value)?;
+            Ok(Command::Insert(span, Some(value)))
+        }
+        _ => Err(Cause::Command),
     }
 }
 
@@ -105,6 +164,7 @@ fn parse_span<R: NumberRange>(start: &[u8], end: &[u8]) -> Result<Span<R>, Cause
 fn parse_query<R: NumberRange>(start: &[u8], end: &[u8]) -> Result<R, Cause>
     ensures ok { IfOk result (λ range. (R.read.start range ≡ number_of start.now) × (R.read.end range ≡ number_of end.now)) }
     ensures succeeds { IsOk result ↔ IsNumber start.now × IsNumber end.now }
+    ensures non_empty { IfOk result (λ range. R.read.IsNonEmpty range ↔ (holds_key R.has_end (number_of start.now) (number_of end.now) ≡ true)) }
     ensures err { IfErr result (λ cause. cause ≡ Cause.Number) }
 {
     let (start, end) = words::ends(start, end)?;

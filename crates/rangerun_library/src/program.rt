@@ -1,6 +1,7 @@
 //! The program from what the system hands it to its exit status.
-ghost use Rattle.std.specs.Prelude.{◌≡◌, IfErr, OnOk};
-ghost use Rattle.rangerun_library.specs.Faults.{status_of};
+ghost use Rattle.std.specs.Prelude.{◌≡◌, ◌≢◌, IfErr, OnOk};
+ghost use Rattle.std.specs.IoError.{error_kind};
+ghost use Rattle.rangerun_library.specs.Faults.{fault_number, status_of};
 
 use crate::fault::{Cause, Fault};
 use crate::session::run;
@@ -23,7 +24,11 @@ fn arguments(rt: &HostRuntime) -> io::Result<Vec<String>> {
 }
 
 /// Returns the fault where the words after the program's name were not read.
-pub fn arguments_fault(error: &io::Error) -> Fault {
+pub fn arguments_fault(error: &io::Error) -> Fault
+    ensures memory { error_kind error.now ≡ ErrorKind.OutOfMemory → result.number ≡ fault_number Cause.Memory }
+    ensures other { error_kind error.now ≢ ErrorKind.OutOfMemory → result.number ≡ fault_number Cause.Arguments }
+    ensures line { result.line ≡ 0 }
+{
     match error.kind() {
         ErrorKind::OutOfMemory => Cause::Memory.at(0),
         _ => Cause::Arguments.at(0),

@@ -3,7 +3,7 @@ ghost use Rattle.std.specs.Prelude.{◌≡◌, ◌↔◌, IsOk, IfOk, IfErr};
 ghost use Rattle.std.specs.Char.{is_ascii_digit, is_ascii_lowercase};
 ghost use Rattle.std.specs.List.{list_all};
 ghost use Rattle.std.specs.Result.{OkIff};
-ghost use Rattle.rangerun_library.specs.Words.{IsNumber, IsValue, number_of};
+ghost use Rattle.rangerun_library.specs.Words.{IsDivision, IsNumber, IsValue, number_of, words_of};
 
 use crate::fault::Cause;
 use std::str;
@@ -26,7 +26,9 @@ pub enum Operands<'a> {
 /// Divides a line into its first word and those behind it.
 ///
 /// Words are divided by one space each, so an empty word is a word too.
-pub fn divide(line: &[u8]) -> (&[u8], Operands<'_>) {
+pub fn divide(line: &[u8]) -> (&[u8], Operands<'_>)
+    ensures { IsDivision (words_of line.now) result.0.now result.1 }
+{
     let mut words = line.split(|byte| *byte == b' ');
     let first = words.next().unwrap_or(line);
     let operands = match (words.next(), words.next(), words.next(), words.next()) {
