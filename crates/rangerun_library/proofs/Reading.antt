@@ -1,5 +1,5 @@
 -- How the faults of a command's operands are told, and what is text in it.
-use Rattle.std.proofs.Common.{◌≡◌, ◌≢◌, ◌↔◌, ◌⊎◌, inl, inr, refl, codes, Bool, true, false, ℕ, ◌<◌, List, [], ◌∷◌, length, arith, ◌&&◌, Result, Err, IsOk, IsErrOf, IsUtf8}
+use Rattle.std.proofs.Common.{◌≡◌, ◌≢◌, ◌↔◌, inl, inr, refl, codes, Bool, true, false, ℕ, ◌<◌, List, [], ◌∷◌, length, arith, ◌&&◌, Result, Err, IsOk, IsErrOf, IsUtf8}
 use Rattle.std.specs.List.{list_all}
 use Rattle.std.specs.Char.{is_ascii_lowercase}
 use Rattle.std.specs.declared.fmt.Debug.{Ghosts as DebugGhosts}

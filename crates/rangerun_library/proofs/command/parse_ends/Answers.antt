@@ -1,5 +1,5 @@
 -- The faults of a range to be changed.
-use Rattle.std.proofs.Common.{rules, refl, inl, inr, ◌≡◌, Err}
+use Rattle.std.proofs.Common.{rules, inl, inr, ◌≡◌, Err}
 use Rattle.rangerun_library.proofs.Reading.{removes, span_fault}
 use Rattle.rangerun_library.proofs.command.parse_ends.Goals as goal
 
