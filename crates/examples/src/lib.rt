@@ -12,6 +12,7 @@ pub mod desk;
 pub mod extents;
 pub mod memory_map;
 pub mod planner;
+pub mod ports;
 pub mod received;
 pub mod rota;
 pub mod window;

@@ -9,6 +9,7 @@ use examples::desk::{bookings_of, from_json, is_closed_only_within, to_json};
 use examples::extents::Extents;
 use examples::memory_map::{Access, Fault, MemoryMap, Region};
 use examples::planner::Planner;
+use examples::ports::Port;
 use examples::received::Received;
 use examples::rota::Rota;
 use examples::window::Window;
@@ -26,6 +27,17 @@ fn only_what_is_missing_is_fetched(rt: HostRuntime) -> Result<(), Fail> {
     assert_same(&rt, parts.as_slice(), wanted.as_slice());
     cache.fetched(256..4096)?;
     assert_same(&rt, cache.missing(rt.alloc(), &(0..4096))?.len(), 0);
+    Ok(())
+}
+
+#[test]
+fn ports_that_follow_one_another_are_one_range(rt: HostRuntime) -> Result<(), Fail> {
+    let ports = range_inclusive_set![in rt.alloc();
+        Port(0)..=Port(1023),
+        Port(1024)..=Port(65535),
+    ]?;
+    assert_same(&rt, ports.len(), 1);
+    assert_same(&rt, ports.contains(&Port(65535)), true);
     Ok(())
 }
 
