@@ -6,15 +6,17 @@ use std::sync::atomic::{AtomicIsize, Ordering::Relaxed};
 
 static HELD: AtomicIsize = AtomicIsize::new(0);
 
-/// What was held when the block of `MARK` bytes was asked for.
-static MARKED: AtomicIsize = AtomicIsize::new(0);
+/// What was held when the block of `MARK` bytes was asked for; `isize::MIN` before.
+static MARKED: AtomicIsize = AtomicIsize::new(isize::MIN);
 
 /// Returns how many bytes more than before `run` were held when it asked for a block of `MARK` bytes.
 pub fn while_standing(run: impl Fn() -> u64) -> usize {
     let before = HELD.load(Relaxed);
-    MARKED.store(before, Relaxed);
+    MARKED.store(isize::MIN, Relaxed);
     std::hint::black_box(run());
-    let held = MARKED.load(Relaxed) - before;
+    let marked = MARKED.load(Relaxed);
+    assert_ne!(marked, isize::MIN, "no block of MARK bytes was asked for");
+    let held = marked - before;
     usize::try_from(held).expect("a container holds no less than nothing")
 }
 

@@ -76,6 +76,7 @@ fn write(folder: &str, name: &str, picture: String) {
 
 // The workloads whose names have the word, or whose containers' names do.
 fn measure(word: &str, sizes: &[usize]) {
+    let mut is_any = false;
     for map in [
         containers::HALF_OPEN,
         containers::CLOSED,
@@ -84,7 +85,7 @@ fn measure(word: &str, sizes: &[usize]) {
         containers::CHUNKED,
         containers::CLOSED_CHUNKED,
     ] {
-        print_tables(&map, word, sizes);
+        is_any |= print_tables(&map, word, sizes);
     }
     for set in [
         containers::SET,
@@ -92,11 +93,13 @@ fn measure(word: &str, sizes: &[usize]) {
         containers::CHUNKED_SET,
         containers::CLOSED_CHUNKED_SET,
     ] {
-        print_tables(&set, word, sizes);
+        is_any |= print_tables(&set, word, sizes);
     }
+    assert!(is_any, "no workload and no container has the word {word}");
 }
 
-fn print_tables<S>(container: &Container<S>, word: &str, sizes: &[usize]) {
+// Returns whether there is a table: whether the word is in the container's name or in a workload's.
+fn print_tables<S>(container: &Container<S>, word: &str, sizes: &[usize]) -> bool {
     let is_named = container.name.contains(word);
     let rows: Vec<table::Row> = container
         .workloads
@@ -110,6 +113,7 @@ fn print_tables<S>(container: &Container<S>, word: &str, sizes: &[usize]) {
         println!();
         print_times(sizes, &rows);
     }
+    !rows.is_empty()
 }
 
 fn crossing() {

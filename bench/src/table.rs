@@ -53,7 +53,12 @@ pub fn print_ratios(sizes: &[usize], rows: &[Row]) {
 
 /// Prints the two times of which each ratio is one.
 pub fn print_times(sizes: &[usize], rows: &[Row]) {
-    print("Nanoseconds: Rust crate / this library", sizes, rows, times);
+    print(
+        "Nanoseconds of processor time an operation: Rust crate / this library",
+        sizes,
+        rows,
+        times,
+    );
 }
 
 fn print(title: &str, sizes: &[usize], rows: &[Row], text: fn(&Cell) -> String) {

@@ -125,7 +125,8 @@ fn each_flush_may_fail(rt: HostRuntime) -> Result<(), Fail> {
 fn what_was_interrupted_is_tried_again(rt: HostRuntime) -> Result<(), Fail> {
     let alloc = rt.alloc();
     for kind in KINDS {
-        for left in 0..18 {
+        // Fifteen bytes are read one by one, and then the end; answers are nine bytes.
+        for left in 0..16 {
             let failure = Failure::after(left, ErrorKind::Interrupted);
             let mut held = Vec::new(alloc);
             let input = Pieces::new(LINES, 1, failure);

@@ -142,11 +142,14 @@ fn refused_line<R: AllocGlobal + Abort>(
             Err(Cause::Memory.at(line)),
             "{words:?}, request {granted}"
         );
-        assert!(rt; are_answers(&held, rows, line.saturating_sub(1) as usize));
+        assert!(rt;
+            are_answers(&held, rows, line.saturating_sub(1) as usize),
+            "{words:?}, request {granted}"
+        );
         Some(line)
     } else {
         assert_eq!(rt; ended, Ok(()), "{words:?}");
-        assert!(rt; are_answers(&held, rows, rows.len()));
+        assert!(rt; are_answers(&held, rows, rows.len()), "{words:?}");
         None
     }
 }

@@ -18,7 +18,7 @@ pub enum Call {
     Get(u8),
     /// `first_range_value`, `last_range_value` and `is_empty`.
     Ends,
-    /// `overlaps` and `overlapping`, from one point up to another.
+    /// `overlaps` and `append_overlapping`, from one point up to another.
     Overlapping(u8, u8),
     /// `gaps`, from one point up to another.
     Gaps(u8, u8),

@@ -140,8 +140,9 @@ fn each_clone_of_a_text_as_key_may_be_refused(rt: HostRuntime) -> Result<(), Fai
 // A map in chunks of up to 128 pairs.
 type LongChunks<'a> = Map<Chunks<HalfOpen, Range<u32>, char, &'a Heap, 128>>;
 
-// A hundred pairs, twenty and twenty lie in three chunks. The two small ones would become one, for
-// which the first has no room, at a change of either; a removal that meets nothing is none.
+// Some hundred pairs, twenty and twenty lie in three chunks. The two small ones would become one,
+// for which the first has no room, at a change of either, as the last call shows; a removal that meets
+// nothing is none.
 #[test]
 fn a_removal_that_meets_nothing_takes_nothing(rt: HostRuntime) -> Result<(), Fail> {
     let heap = Refusing::new(rt.alloc(), MANY);
@@ -155,5 +156,10 @@ fn a_removal_that_meets_nothing_takes_nothing(rt: HostRuntime) -> Result<(), Fai
     check_that(
         !heap.has_refused() && map.len() == 140,
         "memory was asked for",
+    )?;
+    map.remove(960..962)?;
+    check_that(
+        heap.has_refused() && map.len() == 139,
+        "the chunks are other than they should be",
     )
 }

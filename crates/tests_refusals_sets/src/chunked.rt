@@ -150,8 +150,9 @@ fn each_clone_of_a_gap_may_be_refused(rt: HostRuntime) -> Result<(), Fail> {
 // A set in chunks of up to 128 ranges.
 type LongChunks<'a> = Set<Chunks<HalfOpen, Range<u32>, (), &'a Heap, 128>>;
 
-// A hundred ranges, twenty and twenty lie in three chunks. The two small ones would become one, for
-// which the first has no room, at a change of either; a removal that meets nothing is none.
+// Some hundred ranges, twenty and twenty lie in three chunks. The two small ones would become one,
+// for which the first has no room, at a change of either, as the last call shows; a removal that meets
+// nothing is none.
 #[test]
 fn a_removal_that_meets_nothing_takes_nothing(rt: HostRuntime) -> Result<(), Fail> {
     let heap = Refusing::new(rt.alloc(), MANY);
@@ -165,5 +166,10 @@ fn a_removal_that_meets_nothing_takes_nothing(rt: HostRuntime) -> Result<(), Fai
     check_that(
         !heap.has_refused() && set.len() == 140,
         "memory was asked for",
+    )?;
+    set.remove(960..962)?;
+    check_that(
+        heap.has_refused() && set.len() == 139,
+        "the chunks are other than they should be",
     )
 }

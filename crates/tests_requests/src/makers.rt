@@ -89,12 +89,17 @@ fn collect_until<M: OwnCalls>(
 
 // The list that is kept where so many requests are granted. There is one for each number of these,
 // and semicolons between them.
-fn kept(lists: &str, granted: u64) -> Result<&str, Fail> {
-    let mut rest = lists;
+fn kept<'t>(row: &Row<'t>, granted: u64) -> Result<&'t str, Fail> {
+    let mut rest = row.outcome;
     for _ in 0..granted {
         rest = rest.split_once(';').ok_or("a list is missing")?.1;
     }
-    Ok(rest.split_once(';').unwrap_or((rest, "")).0.trim())
+    let (list, others) = rest.split_once(';').unwrap_or((rest, ""));
+    check_that(
+        granted < row.all() || others.is_empty(),
+        "a row has a list too many",
+    )?;
+    Ok(list.trim())
 }
 
 /// Tries `extend`, which has to keep what inserts of the same pairs keep, and `from_iter`, which
@@ -119,7 +124,7 @@ pub fn try_makers<M: InRows + OwnCalls>(
     row.end_refusal(heap, granted)?;
     let made = collect_until::<M>(heap, alloc, items_of::<M>(alloc, row.given)?, granted);
     row.end_refusal(heap, granted)?;
-    check_kept(inserted, extended, made, kept(row.outcome, granted)?)
+    check_kept(inserted, extended, made, kept(row, granted)?)
 }
 
 // Compares what inserts and an `extend` kept, and what `from_iter` made, with a list. Answers

@@ -25,10 +25,9 @@ pub trait Tried: Sized {
     /// of which there have to be two; to be made of any number of items, with what an `extend` keeps
     /// of them for each number of requests that are granted; to `append` to a list what a query
     /// overlaps, or all, or the gaps in a range; to `collect_gaps` in a range, and for the `segments` of
-    /// one; and to `replay` calls, which leave lists. Maps are
-    /// what commands `run` on. Sets are put together with another by `union`, `intersection`, `or` and
-    /// `and`, the first two of which have to give two items; and they `grow` by ranges that stand
-    /// apart, of which they keep so many for each number of requests that are granted.
+    /// one. Maps are what commands `run` on. Sets are put together with another by `union`,
+    /// `intersection`, `or` and `and`, the first two of which have to give two items; and they `grow` by
+    /// ranges that stand apart, of which they keep so many for each number of requests that are granted.
     fn is_accepted(heap: &Heap, alloc: Self::Alloc, row: &Row<'_>, granted: u64) -> Answer
         requires { clones_are_faithful };
 }

@@ -39,8 +39,8 @@ fn is_answered<M: InRows>(alloc: M::Alloc, row: &str) -> Result<bool, Fail>
     make(&mut map, alloc, calls)?;
     let (name, operand) = first_word(question);
     match name {
-        "holds" => Ok(holds(&map, answer)?),
-        "clone" => {
+        "holds" if operand.is_empty() => Ok(holds(&map, answer)?),
+        "clone" if operand.is_empty() => {
             let copy = map.clone()?;
             Ok(copy == map && holds(&copy, answer)?)
         }

@@ -44,9 +44,9 @@ pub fn read_change<Q: Kind<R>, R: KeyRange<Key: Word<A>>, V: Word<A>, A: Allocat
             let range = range_of::<Q, R, A>(alloc, operand)?;
             Ok(Change::Remove { at, range })
         }
-        "clear" => Ok(Change::Clear { at }),
-        "clone" => Ok(Change::Clone { at }),
-        "new" => Ok(Change::New),
+        "clear" if operand.is_empty() => Ok(Change::Clear { at }),
+        "clone" if operand.is_empty() => Ok(Change::Clone { at }),
+        "new" if operand.is_empty() => Ok(Change::New),
         _ => Err(Fail::new("a row has a call of another name")),
     }
 }

@@ -59,8 +59,12 @@ impl<A: Drop> Word<A> for (u8, u8) {
 
 /// The value of a set's ranges, which has no word.
 impl<A: Drop> Word<A> for () {
-    fn read(_alloc: A, _word: &str) -> Result<Self, Fail> {
-        Ok(())
+    fn read(_alloc: A, word: &str) -> Result<Self, Fail> {
+        if word.is_empty() {
+            Ok(())
+        } else {
+            Err(Fail::new("a range of a set has no value"))
+        }
     }
 
     fn is(&self, word: &str) -> bool {

@@ -1,4 +1,4 @@
-//! Calls that ask, of which `gaps` alone takes memory.
+//! Calls that ask. Of those that take memory `gaps` alone is refused it here; appends are granted theirs.
 
 use crate::difference::Stop;
 use crate::model::{Ends, Lookup, Model};
@@ -29,7 +29,7 @@ pub fn ends<S: Soaked>(subject: &S, model: &Model<'_>) -> Result<bool, Stop> {
     model.check_ends(ends)
 }
 
-/// `overlaps` and `overlapping`
+/// `overlaps`, and what `append_overlapping` appends
 pub fn overlapping<S: Soaked>(
     subject: &S,
     model: &Model<'_>,

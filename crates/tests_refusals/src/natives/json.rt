@@ -37,10 +37,10 @@ fn read_costly<'a>(heap: &'a Heap, part: &Value) -> Result<Costly<'a>, NoNumber>
 // The form that a row reads in, and the value that it reads.
 fn form_and_value(alloc: Global, given: &str) -> Result<(Form, Value), Fail> {
     let (form, text) = given.split_once(' ').ok_or("a row names a form")?;
-    let form = if form == "canonical" {
-        Form::Canonical
-    } else {
-        Form::Any
+    let form = match form {
+        "any" => Form::Any,
+        "canonical" => Form::Canonical,
+        _ => return Err(Fail::new("no form is called so")),
     };
     Ok((form, Value::from_str(alloc, text)?))
 }

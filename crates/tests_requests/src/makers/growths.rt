@@ -25,7 +25,7 @@ pub fn try_growths<S: InRows<Value = ()> + OwnCalls>(
     row.end_refusal(heap, granted)?;
     let extended = extend_until::<S>(heap, alloc, items_of::<S>(alloc, row.given)?, granted);
     row.end_refusal(heap, granted)?;
-    let count = kept(row.outcome, granted)?.parse()?;
+    let count = kept(row, granted)?.parse()?;
     let first = first_of::<S>(alloc, row.given, count)?;
     check_that(
         extended == inserted && extended.0 == first && first.len() == count,

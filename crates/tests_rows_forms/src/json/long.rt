@@ -44,7 +44,7 @@ fn check_read(alloc: Global, value: &Value, answer: &str) -> Result<(), Fail> {
     Ok(())
 }
 
-// In chunks as well, of which it fills 40.
+// In chunks as well, of which it would fill 40.
 #[test]
 fn a_long_list_is_read_into_chunks(rt: HostRuntime) -> Result<(), Fail> {
     let value = spread(rt.alloc(), 20_000)?;
