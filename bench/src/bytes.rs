@@ -1,4 +1,5 @@
-//! Prints how many bytes each container holds for a stored range, beside the Rust crate's.
+//! Prints how many bytes each container of numbers holds for a stored range, beside the Rust
+//! crate's.
 //!
 //! What both sides ask of the C library goes through this program, which adds up what they hold: the
 //! usable size of each block. The number is taken when a side asks for a block of `MARK` bytes, while
@@ -17,23 +18,35 @@ mod rust_side;
 #[allow(dead_code)]
 mod side;
 
-use input::{in_order, shuffled, Entry};
+use input::{in_order, shuffled, Entry, SIZES};
 use side::{MapSide, Run, SetSide};
 
-const SIZES: [usize; 6] = [10, 100, 1_000, 10_000, 100_000, 1_000_000];
-
-/// A container's name, and how either side makes one that stands.
-type Standing = (&'static str, Run, Run);
+/// A container, and how either side makes one that stands.
+struct Standing {
+    name: &'static str,
+    rust: Run,
+    rattle: Run,
+    /// The greatest size at which ranges come at random places.
+    most_shuffled: usize,
+}
 
 const CONTAINERS: [Standing; 9] = [
-    of_maps("RangeMap", rust_side::HALF_OPEN, rattle_side::HALF_OPEN),
-    of_maps("RangeInclusiveMap", rust_side::CLOSED, rattle_side::CLOSED),
-    of_sets("RangeSet", rust_side::SET, rattle_side::SET),
-    of_sets(
+    in_a_vector(of_maps(
+        "RangeMap",
+        rust_side::HALF_OPEN,
+        rattle_side::HALF_OPEN,
+    )),
+    in_a_vector(of_maps(
+        "RangeInclusiveMap",
+        rust_side::CLOSED,
+        rattle_side::CLOSED,
+    )),
+    in_a_vector(of_sets("RangeSet", rust_side::SET, rattle_side::SET)),
+    in_a_vector(of_sets(
         "RangeInclusiveSet",
         rust_side::CLOSED_SET,
         rattle_side::CLOSED_SET,
-    ),
+    )),
     of_maps(
         "tree_map::RangeMap",
         rust_side::HALF_OPEN,
@@ -62,44 +75,56 @@ const CONTAINERS: [Standing; 9] = [
 ];
 
 const fn of_maps(name: &'static str, rust: MapSide, rattle: MapSide) -> Standing {
-    (name, rust.standing, rattle.standing)
+    standing(name, rust.standing, rattle.standing)
 }
 
 const fn of_sets(name: &'static str, rust: SetSide, rattle: SetSide) -> Standing {
-    (name, rust.standing, rattle.standing)
+    standing(name, rust.standing, rattle.standing)
 }
 
-/// How the ranges of a container come: in order, or at random places.
-type Order = (&'static str, fn(usize) -> Vec<Entry>);
+const fn standing(name: &'static str, rust: Run, rattle: Run) -> Standing {
+    Standing {
+        name,
+        rust,
+        rattle,
+        most_shuffled: usize::MAX,
+    }
+}
 
-const ORDERS: [Order; 2] = [
-    ("in order", in_order),
-    ("at random places", |size| shuffled(size, 1)),
-];
-
-/// Greater sizes are left out of a vector where ranges come at random places.
-const MOST_IN_A_VECTOR: usize = 100_000;
+// One whose ranges are in a vector, which takes long to be made of many at random places.
+const fn in_a_vector(container: Standing) -> Standing {
+    Standing {
+        most_shuffled: 100_000,
+        ..container
+    }
+}
 
 fn main() {
     println!("### Bytes held for a range: Rust crate / this library\n");
     let heads: Vec<String> = SIZES.iter().map(ToString::to_string).collect();
     println!("| Container | {} |", heads.join(" | "));
     println!("|---|{}", "---|".repeat(SIZES.len()));
-    for (name, rust, rattle) in CONTAINERS {
-        for (order, entries) in ORDERS {
-            let is_moved = !name.contains("::") && order != "in order";
-            let cell = |&size: &usize| {
-                if is_moved && size > MOST_IN_A_VECTOR {
-                    return String::from("-");
-                }
-                let entries = entries(size);
-                let [rust, rattle] = [rust, rattle].map(|run| bytes(run, &entries));
-                format!("{rust:.1} / {rattle:.1}")
-            };
-            let cells: Vec<String> = SIZES.iter().map(cell).collect();
-            println!("| `{name}`, {order} | {} |", cells.join(" | "));
-        }
+    for container in CONTAINERS {
+        let in_order = cells(&container, usize::MAX, in_order);
+        println!("| `{}`, in order | {in_order} |", container.name);
+        let shuffled = |size| shuffled(size, 1);
+        let at_random = cells(&container, container.most_shuffled, shuffled);
+        println!("| `{}`, at random places | {at_random} |", container.name);
     }
+}
+
+// A container's cells, where it is made of ranges that come in an order. Sizes above `most` are left
+// out.
+fn cells(container: &Standing, most: usize, entries: impl Fn(usize) -> Vec<Entry>) -> String {
+    let cell = |size: usize| {
+        if size > most {
+            return String::from("-");
+        }
+        let entries = entries(size);
+        let [rust, rattle] = [container.rust, container.rattle].map(|run| bytes(run, &entries));
+        format!("{rust:.1} / {rattle:.1}")
+    };
+    SIZES.map(cell).join(" | ")
 }
 
 // For each of the ranges of a container that stands.

@@ -1,5 +1,8 @@
 //! The inputs, which both sides get.
 
+/// How many ranges there are.
+pub const SIZES: [usize; 6] = [10, 100, 1_000, 10_000, 100_000, 1_000_000];
+
 /// What one call gets.
 pub struct Input {
     pub entries: Vec<Entry>,
@@ -13,6 +16,7 @@ pub struct Entry {
     pub start: u64,
     pub end: u64,
     pub value: u32,
+    /// Fills the struct up to its alignment. Nothing reads it.
     pub pad: u32,
 }
 
@@ -98,7 +102,7 @@ pub fn wide_queries(count: usize, number: usize) -> Vec<Query> {
 }
 
 /// Two sets of `count` ranges in order, others for each seed. A range of the second one begins
-/// half a spacing behind one of the first, and about one in two overlaps it, or the next.
+/// half a spacing behind one of the first; about one in two overlaps it, and one in two the next.
 pub fn two_sets(count: usize, seed: u64) -> Input {
     let ranges = |side: u64| in_order_by(count, Random(count as u64 ^ side ^ (seed << 32)));
     let behind = |entry: Entry| Query {

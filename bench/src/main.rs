@@ -4,12 +4,13 @@
 //! error.
 //!
 //! To add a container: its type in `store.rt` of `crates/bench_workloads` (of a set `SetStore`
-//! too), its number in `containers.rt` and its arm in `run.rt` of `crates/bench_map`; a
-//! `map_store!` or `set_store!` in `rust_side`, and its `Container` in `containers`.
+//! too); its number in `containers.rt` and its arm in `run.rt` of `crates/bench_map`, and the number
+//! in `rattle_side`; its `Container` in `containers`, and its name in `measure` below and in `bytes`;
+//! where the Rust crate has another one, too, a `map_store!` or `set_store!` in `rust_side`.
 //!
-//! To add a workload: a function in `workloads.rt` of `crates/bench_workloads`, its export in
-//! `exports.rt` of `crates/bench_map`, a field in `side`, a `Workload` in `workloads`, and a test with
-//! an answer worked out by hand.
+//! To add a workload: a function in `workloads.rt` of `crates/bench_workloads`, and its arm in `run`
+//! there; its export in `exports.rt` of `crates/bench_map`; a field in `side`, which both sides fill;
+//! a `Workload` in `workloads`; and a test with an answer worked out by hand.
 
 // By name, since Cargo doesn't know of it: build.rs makes it.
 extern crate rangemap;
@@ -28,12 +29,11 @@ mod table;
 mod workloads;
 
 use containers::Container;
+use input::SIZES;
 use std::fs;
 use std::path::Path;
 use table::{print_ratios, print_times, row};
 use workloads::CHANGES;
-
-const SIZES: [usize; 6] = [10, 100, 1_000, 10_000, 100_000, 1_000_000];
 
 /// Where changes at random places of one list begin to lose.
 const CROSSING: [usize; 6] = [500, 1_000, 2_000, 3_000, 4_000, 6_000];

@@ -2,6 +2,7 @@
 //! it a line for each workload; or a panel for each workload, and in it a line for each map.
 
 use crate::containers::{CHUNKED, HALF_OPEN, TREE, VECTOR_TARGET};
+use crate::input::SIZES;
 use crate::saved::{Row, Table};
 use crate::workloads::{DISJOINT_INSERTS, ITERATION, LOOKUPS, OVERLAPS};
 
@@ -9,8 +10,11 @@ mod scale;
 
 use scale::{Frame, Scale};
 
-/// A panel's size, and what of it the lines have.
-const PANEL: (f64, f64) = (640.0, 380.0);
+const PANEL_WIDTH: f64 = 640.0;
+
+const PANEL_HEIGHT: f64 = 380.0;
+
+/// What of a panel the lines have.
 const LINES: Frame = Frame {
     left: 50.0,
     right: 410.0,
@@ -29,8 +33,7 @@ const COLOURS: [&str; 11] = [
     "#8c564b", "#444444", "#17a2b8",
 ];
 
-/// What is marked on the sides of a panel, where it lies within.
-const SIZES: [f64; 6] = [10.0, 100.0, 1_000.0, 10_000.0, 100_000.0, 1_000_000.0];
+/// The ratios that are marked on the left of a panel, where they lie within. Below it are the sizes.
 const RATIOS: [f64; 13] = [
     0.01, 0.02, 0.05, 0.1, 0.2, 0.5, 1.0, 2.0, 5.0, 10.0, 20.0, 50.0, 100.0,
 ];
@@ -70,13 +73,13 @@ fn sheet(tables: &[&Table]) -> String {
     let names = names(tables);
     let scale = scale_of(tables);
     let panels = tables.iter().enumerate().map(|(at, table)| {
-        let left = PANEL.0 * (at % COLUMNS) as f64;
-        let top = PANEL.1 * (at / COLUMNS) as f64;
+        let left = PANEL_WIDTH * (at % COLUMNS) as f64;
+        let top = PANEL_HEIGHT * (at / COLUMNS) as f64;
         let panel = panel(table, &names, &scale);
         format!("<g transform=\"translate({left} {top})\">\n{panel}</g>\n")
     });
-    let width = PANEL.0 * COLUMNS as f64;
-    let height = PANEL.1 * tables.len().div_ceil(COLUMNS) as f64;
+    let width = PANEL_WIDTH * COLUMNS as f64;
+    let height = PANEL_HEIGHT * tables.len().div_ceil(COLUMNS) as f64;
     format!(
         "<svg xmlns=\"http://www.w3.org/2000/svg\" viewBox=\"0 0 {width} {height}\" \
          font-family=\"sans-serif\" font-size=\"11\">\n\
@@ -91,12 +94,12 @@ fn is_container(table: &Table) -> bool {
         && table.title.matches('`').count() == 2
 }
 
-// A tree's targets are others.
+// A tree's targets are others, and so are some of those in chunks, which docs/SPEED.md names.
 fn has_vector_target(table: &Table) -> bool {
     is_container(table) && plain(&table.title) != TREE.name
 }
 
-// Each workload's name once, so that it has one colour in all panels.
+// Each line's name once, so that it has one colour in all panels.
 fn names<'a>(tables: &[&'a Table]) -> Vec<&'a str> {
     let mut names: Vec<&str> = vec![];
     for row in tables.iter().flat_map(|table| &table.rows) {
@@ -124,10 +127,12 @@ fn panel(table: &Table, names: &[&str], scale: &Scale) -> String {
         LINES.left,
         plain(&table.title)
     );
-    drawn += &sides(scale);
-    drawn += &level(1.0, "2", scale);
+    drawn += &sizes_below(scale);
+    drawn += &ratios_on_the_left(scale);
+    drawn += &level(1.0, r#"stroke-width="2""#, scale);
     if has_vector_target(table) {
-        drawn += &level(VECTOR_TARGET, "1\" stroke-dasharray=\"5 3", scale);
+        let dashed = r#"stroke-width="1" stroke-dasharray="5 3""#;
+        drawn += &level(VECTOR_TARGET, dashed, scale);
     }
     let colour = |row: &Row| {
         let place = names.iter().position(|name| *name == row.name);
@@ -136,26 +141,42 @@ fn panel(table: &Table, names: &[&str], scale: &Scale) -> String {
     for row in &table.rows {
         drawn += &line(row, colour(row), scale);
     }
-    for (row, y) in table.rows.iter().zip(name_heights(&table.rows, scale)) {
-        drawn += &format!(
+    drawn + &names_of_lines(&table.rows, colour, scale)
+}
+
+// The names of the lines, each where its line ends and of its colour.
+fn names_of_lines<'a>(rows: &[Row], colour: impl Fn(&Row) -> &'a str, scale: &Scale) -> String {
+    let name = |(row, y): (&Row, f64)| {
+        format!(
             "<text x=\"{}\" y=\"{:.1}\" fill=\"{}\">{}</text>\n",
             LINES.right + 8.0,
             y + 4.0,
             colour(row),
             plain(&row.name)
-        );
+        )
+    };
+    rows.iter()
+        .zip(name_heights(rows, scale))
+        .map(name)
+        .collect()
+}
+
+// The marks below, each with a thin line through the panel.
+fn sizes_below(scale: &Scale) -> String {
+    let mut drawn = String::new();
+    for size in SIZES.map(|size| size as f64) {
+        if scale.sizes.has(size) {
+            let x = scale.x(size);
+            drawn += &thin_line((x, LINES.top), (x, LINES.bottom));
+            drawn += &mark((x, LINES.bottom + 16.0), "middle", size);
+        }
     }
     drawn
 }
 
-// The marks below and on the left, each with a thin line through the panel.
-fn sides(scale: &Scale) -> String {
+// The marks on the left, each with a thin line through the panel.
+fn ratios_on_the_left(scale: &Scale) -> String {
     let mut drawn = String::new();
-    for size in SIZES.into_iter().filter(|size| scale.sizes.has(*size)) {
-        let x = scale.x(size);
-        drawn += &thin_line((x, LINES.top), (x, LINES.bottom));
-        drawn += &mark((x, LINES.bottom + 16.0), "middle", size);
-    }
     for ratio in RATIOS.into_iter().filter(|ratio| scale.ratios.has(*ratio)) {
         let y = scale.y(ratio);
         drawn += &thin_line((LINES.left, y), (LINES.right, y));
@@ -175,11 +196,11 @@ fn mark((x, y): (f64, f64), anchor: &str, number: f64) -> String {
     format!("<text x=\"{x:.1}\" y=\"{y:.1}\" text-anchor=\"{anchor}\">{number}</text>\n")
 }
 
-// A black line at a ratio, with the width and what else its stroke has.
+// A black line at a ratio, with the attributes of its stroke.
 fn level(ratio: f64, stroke: &str, scale: &Scale) -> String {
     let y = scale.y(ratio);
     format!(
-        "<path d=\"M{} {y:.1}H{}\" stroke=\"black\" stroke-width=\"{stroke}\"/>\n",
+        "<path d=\"M{} {y:.1}H{}\" stroke=\"black\" {stroke}/>\n",
         LINES.left, LINES.right
     )
 }

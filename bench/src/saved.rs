@@ -1,6 +1,6 @@
 //! Tables of ratios, read again from what was printed.
 
-use crate::table::{RATIOS, UNTIMED};
+use crate::table::{RATIOS_HEADING, UNTIMED};
 
 /// The ratios of a container, or what else a heading stands for.
 pub struct Table {
@@ -25,7 +25,7 @@ pub fn tables(text: &str) -> Vec<Table> {
         }
         let cells = cells(line);
         match (&sizes, &cells[..]) {
-            (_, [RATIOS, heads @ ..]) => {
+            (_, [RATIOS_HEADING, heads @ ..]) => {
                 sizes = Some(heads.iter().map(|head| number(head)).collect());
                 tables.push(Table {
                     title: String::from(title),

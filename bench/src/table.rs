@@ -5,7 +5,7 @@ use crate::measure::Measured;
 use crate::workloads::Workload;
 
 /// How the column of names is headed in a table of ratios, by which a saved one is found again.
-pub const RATIOS: &str = "Ratio of the times";
+pub const RATIOS_HEADING: &str = "Ratio of the times";
 
 /// What stands where nothing was timed.
 pub const UNTIMED: &str = "-";
@@ -48,7 +48,7 @@ impl Row {
 
 /// Prints the ratios.
 pub fn print_ratios(sizes: &[usize], rows: &[Row]) {
-    print(RATIOS, sizes, rows, ratio);
+    print(RATIOS_HEADING, sizes, rows, ratio);
 }
 
 /// Prints the two times of which each ratio is one.

@@ -4,6 +4,8 @@
 #[cfg(test)]
 mod applications;
 #[cfg(test)]
+mod calling;
+#[cfg(test)]
 mod same;
 #[cfg(test)]
 mod workloads;

@@ -6,7 +6,7 @@ use bench_workloads::input::{Entry, Query};
 use bench_workloads::store::{
     ChunkedStore, ClosedChunkedStore, ClosedStore, HalfOpenStore, Store, TextStore, TreeStore,
 };
-use bench_workloads::workloads;
+use bench_workloads::workloads::{Workload, run};
 use std::process::Abort;
 use std::test::Fail;
 
@@ -50,21 +50,21 @@ const LENGTHS: Values = (13, 4);
 fn assert_whole_map<S: Store, R: AllocGlobal + Abort>(rt: &R, values: Values) -> Result<(), Fail> {
     let first = FIRST + u64::from(values.0);
     let second = SECOND + u64::from(values.1);
-    let digest = workloads::contents::<S>(rt.alloc(), &TWO, 1)?;
+    let digest = run::<S>(Workload::Contents, rt.alloc(), &TWO, &[], 1)?;
     assert_same(rt, digest, followed_by(first, second));
-    let digest = workloads::iterations::<S>(rt.alloc(), &TWO, 1)?;
+    let digest = run::<S>(Workload::Iterations, rt.alloc(), &TWO, &[], 1)?;
     assert_same(rt, digest, first ^ second);
-    let len = workloads::inserts::<S>(rt.alloc(), &TWO, 1)?;
+    let len = run::<S>(Workload::Inserts, rt.alloc(), &TWO, &[], 1)?;
     assert_same(rt, len, 2);
-    let len = workloads::clones::<S>(rt.alloc(), &TWO, 1)?;
+    let len = run::<S>(Workload::Clones, rt.alloc(), &TWO, &[], 1)?;
     assert_same(rt, len, 2);
     // The map equals the one clone, and then the other.
-    let equal = workloads::comparisons::<S>(rt.alloc(), &TWO, 2)?;
+    let equal = run::<S>(Workload::Comparisons, rt.alloc(), &TWO, &[], 2)?;
     assert_same(rt, equal, followed_by(1, 1));
     // All goes up to the greatest end, which is not that of the last entry.
-    let len = workloads::emptyings::<S>(rt.alloc(), &TURNED, 1)?;
+    let len = run::<S>(Workload::Emptyings, rt.alloc(), &TURNED, &[], 1)?;
     assert_same(rt, len, 0);
-    let len = workloads::standing::<S>(rt.alloc(), &TWO, 1)?;
+    let len = run::<S>(Workload::Standing, rt.alloc(), &TWO, &[], 1)?;
     assert_same(rt, len, 2);
     Ok(())
 }
@@ -72,13 +72,13 @@ fn assert_whole_map<S: Store, R: AllocGlobal + Abort>(rt: &R, values: Values) ->
 fn assert_queries<S: Store, R: AllocGlobal + Abort>(rt: &R, values: Values) -> Result<(), Fail> {
     let first = u64::from(values.0);
     let second = u64::from(values.1);
-    let value = workloads::lookups::<S>(rt.alloc(), &TWO, &ACROSS, 1)?;
+    let value = run::<S>(Workload::Lookups, rt.alloc(), &TWO, &ACROSS, 1)?;
     assert_same(rt, value, first);
-    let digest = workloads::overlaps::<S>(rt.alloc(), &TWO, &ACROSS, 1)?;
+    let digest = run::<S>(Workload::Overlaps, rt.alloc(), &TWO, &ACROSS, 1)?;
     assert_same(rt, digest, (FIRST + first) ^ (SECOND + second));
-    let gap = workloads::gaps::<S>(rt.alloc(), &TWO, &ACROSS, 1)?;
+    let gap = run::<S>(Workload::Gaps, rt.alloc(), &TWO, &ACROSS, 1)?;
     assert_same(rt, gap, 70);
-    let digest = workloads::removals::<S>(rt.alloc(), &TWO, &ACROSS, 1)?;
+    let digest = run::<S>(Workload::Removals, rt.alloc(), &TWO, &ACROSS, 1)?;
     assert_same(rt, digest, followed_by(15 + first, 115 + second));
     Ok(())
 }

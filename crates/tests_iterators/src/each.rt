@@ -6,7 +6,7 @@ use std::alloc::{AllocError, Allocator};
 use std::iter::{DoubleEndedIterator, Iterator};
 use std::ops::{Range, RangeInclusive};
 
-// items `T` may be asked at any time, from either end
+// Asks for an item at either end.
 fn both_ends<T: Drop, I: DoubleEndedIterator<Item = T> + Drop>(mut items: I)
     requires front { (it : I) → I.can_next it }
     requires back { (it : I) → I.can_next_back it }
@@ -14,10 +14,10 @@ fn both_ends<T: Drop, I: DoubleEndedIterator<Item = T> + Drop>(mut items: I)
     let _: (Option<T>, Option<T>) = (items.next(), items.next_back());
 }
 
-// checks the bound alone, and takes nothing
+// Takes nothing: only that the bound holds is asked.
 fn is_iterator<T: Drop, I: Iterator<Item = T> + Drop>(_items: I) {}
 
-// the same of three iterators
+// The same of three iterators.
 fn are_iterators<
     T: Drop,
     G: Iterator<Item = T> + Drop,

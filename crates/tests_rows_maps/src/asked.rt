@@ -92,9 +92,9 @@ where
 {
     let map = map_of::<S>(alloc, pairs)?;
     check_loop(alloc, map.clone()?, texts)?;
-    let copy = map.clone()?;
-    check_same(map.clone()?.into_iter().len(), 3)?;
-    check_three_handed(alloc, map.into_iter(), copy.into_iter(), texts)
+    let (pairs, again) = (map.clone()?.into_iter(), map.into_iter());
+    check_same(pairs.len(), 3)?;
+    check_three_handed(alloc, pairs, again, texts)
 }
 
 // Compares the three pairs over which a loop goes.

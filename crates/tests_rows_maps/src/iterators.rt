@@ -19,7 +19,7 @@ use tests_row_checks::iterated_to_its_end;
 use tests_support::{FromEnds, Word, check_same, check_text, map_of};
 
 // Compares the three pairs of a map in a sorted vector: as it lends them, and as it hands them over.
-fn check_all<Q: Kind<R, Steps = R::Key>, R: FromEnds<Key: Word<Global> + Debug> + Debug>(
+fn check_three_of_vector<Q: Kind<R, Steps = R::Key>, R: FromEnds<Key: Word<Global> + Debug> + Debug>(
     alloc: Global,
     inserted: &str,
     pairs: &str,
@@ -93,12 +93,12 @@ fn overlapping_pairs_come_from_both_ends(rt: HostRuntime) -> Result<(), Fail> {
 
 #[test]
 fn maps_lend_and_hand_their_pairs_over(rt: HostRuntime) -> Result<(), Fail> {
-    check_all::<HalfOpen, Range<u32>>(
+    check_three_of_vector::<HalfOpen, Range<u32>>(
         rt.alloc(),
         "0..2 a, 4..6 b, 8..9 c",
         "(0..2, 'a'); (4..6, 'b'); (8..9, 'c')",
     )?;
-    check_all::<HalfOpen, Range<u32>>(
+    check_three_of_vector::<HalfOpen, Range<u32>>(
         rt.alloc(),
         "0..10 a, 3..6 b",
         "(0..3, 'a'); (3..6, 'b'); (6..10, 'a')",
@@ -107,12 +107,12 @@ fn maps_lend_and_hand_their_pairs_over(rt: HostRuntime) -> Result<(), Fail> {
 
 #[test]
 fn closed_maps_lend_and_hand_their_pairs_over(rt: HostRuntime) -> Result<(), Fail> {
-    check_all::<Closed<u8>, RangeInclusive<u8>>(
+    check_three_of_vector::<Closed<u8>, RangeInclusive<u8>>(
         rt.alloc(),
         "0..=1 a, 4..=5 b, 8..=9 c",
         "(0..=1, 'a'); (4..=5, 'b'); (8..=9, 'c')",
     )?;
-    check_all::<Closed<u32>, RangeInclusive<u32>>(
+    check_three_of_vector::<Closed<u32>, RangeInclusive<u32>>(
         rt.alloc(),
         "0..=1 a, 4..=5 b, 8..=8 c",
         "(0..=1, 'a'); (4..=5, 'b'); (8..=8, 'c')",
@@ -133,11 +133,20 @@ fn iterators_of_maps_stay_ended(rt: HostRuntime) -> Result<(), Fail> {
     lent_by_vector::<HalfOpen, Range<u32>>(rt.alloc(), "", gap, "0..3")?;
     let gap = Lent::In(0..12, In::OneGap);
     lent_by_vector::<HalfOpen, Range<u32>>(rt.alloc(), "0..10 a", gap, "10..12")?;
-    lent_by_tree(rt.alloc(), "0..10 a", Lent::In(0..12, In::OneGap), "10..12")?;
     let one = "(0..10, 'a')";
     lent_by_vector::<HalfOpen, Range<u32>>(rt.alloc(), "0..10 a", Lent::All(All::One), one)?;
     lent_by_vector::<HalfOpen, Range<u32>>(rt.alloc(), "0..10 a", Lent::In(3..6, In::One), one)?;
     ask_vector::<HalfOpen, Range<u32>, char>(rt.alloc(), &Asked::OneHandedOver("0..10 a", one))
+}
+
+#[test]
+fn iterators_of_maps_in_a_tree_stay_ended(rt: HostRuntime) -> Result<(), Fail> {
+    let gap = Lent::In(0..12, In::OneGap);
+    lent_by_tree(rt.alloc(), "0..10 a", gap, "10..12")?;
+    let one = "(0..10, 'a')";
+    lent_by_tree(rt.alloc(), "0..10 a", Lent::All(All::One), one)?;
+    lent_by_tree(rt.alloc(), "0..10 a", Lent::In(3..6, In::One), one)?;
+    ask_tree::<char>(rt.alloc(), &Asked::OneHandedOver("0..10 a", one))
 }
 
 #[test]
@@ -216,18 +225,25 @@ fn iterators_of_maps_in_chunks_stay_ended(rt: HostRuntime) -> Result<(), Fail> {
         (10, 13, "10..12", "(12..14, 'd')"),
         (17, 30, "18..30", "(16..18, 'e')"),
     ] {
-        let one = Lent::In(start..end, In::OneGap);
-        lent_by_chunks::<HalfOpen, Range<u32>>(rt.alloc(), pairs, one, gap)?;
+        let one_gap = Lent::In(start..end, In::OneGap);
+        lent_by_chunks::<HalfOpen, Range<u32>>(rt.alloc(), pairs, one_gap, gap)?;
         let one = Lent::In(start..end, In::One);
         lent_by_chunks::<HalfOpen, Range<u32>>(rt.alloc(), pairs, one, met)?;
     }
+    let one = "(0..10, 'a')";
+    lent_by_chunks::<HalfOpen, Range<u32>>(rt.alloc(), "0..10 a", Lent::All(All::One), one)?;
+    ask_chunks::<HalfOpen, Range<u32>, char>(rt.alloc(), &Asked::OneHandedOver("0..10 a", one))
+}
+
+#[test]
+fn iterators_of_closed_maps_in_chunks_stay_ended(rt: HostRuntime) -> Result<(), Fail> {
     let pairs = "0..=1 a, 4..=5 b, 8..=9 c, 12..=13 d, 16..=17 e";
     for (start, end, gap, met) in [
         (5, 7, "6..=7", "(4..=5, 'b')"),
         (9, 11, "10..=11", "(8..=9, 'c')"),
     ] {
-        let one = Lent::In(start..=end, In::OneGap);
-        lent_by_chunks::<Closed<u32>, RangeInclusive<u32>>(rt.alloc(), pairs, one, gap)?;
+        let one_gap = Lent::In(start..=end, In::OneGap);
+        lent_by_chunks::<Closed<u32>, RangeInclusive<u32>>(rt.alloc(), pairs, one_gap, gap)?;
         let one = Lent::In(start..=end, In::One);
         lent_by_chunks::<Closed<u32>, RangeInclusive<u32>>(rt.alloc(), pairs, one, met)?;
     }

@@ -42,8 +42,26 @@ pub enum In {
     OneGap,
 }
 
-/// Compares what a map lends of all its pairs.
-pub fn check_all<'a, S: Lends<'a, Range: Debug, Value: Debug>>(
+/// Compares what a map lends.
+pub fn check_lent<'a, S: Lends<'a, Range: Debug, Value: Debug>>(
+    alloc: Global,
+    map: &'a Map<S>,
+    asked: &'a Lent<S::Range>,
+    answer: &str,
+) -> Result<(), Fail>
+where
+    S::Range: 'a,
+    S::Value: 'a,
+    requires { KeysCloneFaithfully S.Range.Key.is_clone S.Range.Key.cmp }
+{
+    match asked {
+        Lent::All(asked) => check_all(alloc, map, asked, answer),
+        Lent::In(range, asked) => check_in_range(alloc, map, range, asked, answer),
+    }
+}
+
+// Compares what a map lends of all its pairs.
+fn check_all<'a, S: Lends<'a, Range: Debug, Value: Debug>>(
     alloc: Global,
     map: &'a Map<S>,
     asked: &All,
@@ -59,8 +77,8 @@ where
     }
 }
 
-/// Compares what a map lends in a range.
-pub fn check_in_range<'a, S: Lends<'a, Range: Debug, Value: Debug>>(
+// Compares what a map lends in a range.
+fn check_in_range<'a, S: Lends<'a, Range: Debug, Value: Debug>>(
     alloc: Global,
     map: &'a Map<S>,
     range: &'a S::Range,

@@ -1,7 +1,7 @@
 //! What tests ask of maps from numbers to letters, made by the calls that take literals.
 
 use crate::map::collections::{check_array_and_chain, check_equality, check_pairs};
-use crate::tree_map::runs::check_run;
+use crate::runs::check_run;
 use rangemap::map::Map;
 use rangemap_core::half_open::HalfOpen;
 use rangemap_core::store::StoreMut;

@@ -5,7 +5,7 @@
 ghost use Rattle.rangemap.specs.Clones.{KeysCloneFaithfully, ValuesCloneFaithfully};
 
 use crate::asked::{Asked, Rows, check_answers, check_asked};
-use crate::lent::{Lent, check_all, check_in_range};
+use crate::lent::{Lent, check_lent};
 use crate::made::{Made, check_made};
 use crate::map::collections::check_notes;
 use crate::noted::Noted;
@@ -32,10 +32,7 @@ pub fn lent_by_vector<Q: Kind<R>, R: KeyRange<Key: Word<Global>> + Debug>(
     requires { KeysCloneFaithfully R.Key.is_clone R.Key.cmp }
 {
     let map = map_of::<SortedVec<Q, R, char, Global>>(alloc, pairs)?;
-    match &asked {
-        Lent::All(asked) => check_all(alloc, &map, asked, answer),
-        Lent::In(range, asked) => check_in_range(alloc, &map, range, asked, answer),
-    }
+    check_lent(alloc, &map, &asked, answer)
 }
 
 /// Asks a map in a tree.
@@ -46,10 +43,7 @@ pub fn lent_by_tree(
     answer: &str,
 ) -> Result<(), Fail> {
     let map = map_of::<Tree<u32, char, Global>>(alloc, pairs)?;
-    match &asked {
-        Lent::All(asked) => check_all(alloc, &map, asked, answer),
-        Lent::In(range, asked) => check_in_range(alloc, &map, range, asked, answer),
-    }
+    check_lent(alloc, &map, &asked, answer)
 }
 
 /// Asks a map in chunks of up to two pairs.
@@ -62,10 +56,7 @@ pub fn lent_by_chunks<Q: Kind<R>, R: KeyRange<Key: Word<Global>> + Debug>(
     requires { KeysCloneFaithfully R.Key.is_clone R.Key.cmp }
 {
     let map = map_of::<Chunks<Q, R, char, Global, 2>>(alloc, pairs)?;
-    match &asked {
-        Lent::All(asked) => check_all(alloc, &map, asked, answer),
-        Lent::In(range, asked) => check_in_range(alloc, &map, range, asked, answer),
-    }
+    check_lent(alloc, &map, &asked, answer)
 }
 
 /// Asks maps in a sorted vector, over any steps, what is in rows.

@@ -7,14 +7,17 @@
 use std::alloc::{AllocError, Allocator};
 use std::test::Fail;
 
-/// Returns the rows of a table: its lines, but those that are empty.
-pub fn rows<'t, A: Allocator>(alloc: A, table: &'t str) -> Result<Vec<&'t str, A>, AllocError> {
+/// Returns the rows of a table, of which there is one at least: its lines, but those that are empty.
+pub fn rows<'t, A: Allocator>(alloc: A, table: &'t str) -> Result<Vec<&'t str, A>, Fail> {
     let mut rows = Vec::new(alloc);
     for line in table.split('\n') {
         let row = line.trim();
         if !row.is_empty() {
             rows.push(row)?;
         }
+    }
+    if rows.is_empty() {
+        return Err(Fail::new("a table has no row"));
     }
     Ok(rows)
 }

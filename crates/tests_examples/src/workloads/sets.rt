@@ -6,7 +6,7 @@ use bench_workloads::digest::followed_by;
 use bench_workloads::input::Query;
 use bench_workloads::set_store::SetStore;
 use bench_workloads::store::{ChunkedSet, ClosedChunkedSet, ClosedSet, HalfOpenSet};
-use bench_workloads::workloads::{self, sets};
+use bench_workloads::workloads::sets::{SetWorkload, run};
 use std::process::Abort;
 use std::test::Fail;
 
@@ -23,18 +23,20 @@ const KEYS: [Query; 3] = [
 ];
 
 fn assert_two_sets<S: SetStore, R: AllocGlobal + Abort>(rt: &R) -> Result<(), Fail> {
-    let digest = workloads::contents::<S>(rt.alloc(), &TWO, 1)?;
+    let digest = run::<S>(SetWorkload::Contents, rt.alloc(), &TWO, &[], 1)?;
     assert_same(rt, digest, followed_by(FIRST, SECOND));
-    let digest = sets::unions::<S>(rt.alloc(), &TWO, &ACROSS, 1)?;
+    let digest = run::<S>(SetWorkload::Unions, rt.alloc(), &TWO, &ACROSS, 1)?;
     assert_same(rt, digest, EITHER);
-    let digest = sets::intersections::<S>(rt.alloc(), &TWO, &ACROSS, 1)?;
+    let digest = run::<S>(SetWorkload::Intersections, rt.alloc(), &TWO, &ACROSS, 1)?;
     assert_same(rt, digest, BOTH.0 ^ BOTH.1);
-    let digest = sets::joined_sets::<S>(rt.alloc(), &TWO, &ACROSS, 1)?;
+    let digest = run::<S>(SetWorkload::JoinedSets, rt.alloc(), &TWO, &ACROSS, 1)?;
     assert_same(rt, digest, EITHER);
-    let digest = sets::common_sets::<S>(rt.alloc(), &TWO, &ACROSS, 1)?;
+    let digest = run::<S>(SetWorkload::CommonSets, rt.alloc(), &TWO, &ACROSS, 1)?;
     assert_same(rt, digest, followed_by(BOTH.0, BOTH.1));
-    let count = sets::members::<S>(rt.alloc(), &TWO, &KEYS, 1)?;
+    let count = run::<S>(SetWorkload::Members, rt.alloc(), &TWO, &KEYS, 1)?;
     assert_same(rt, count, 2);
+    let len = run::<S>(SetWorkload::Standing, rt.alloc(), &TWO, &[], 1)?;
+    assert_same(rt, len, 2);
     Ok(())
 }
 

@@ -13,7 +13,7 @@ use std::test::Fail;
 use tests_support::{check_same, check_text};
 
 // Compares a map that a chain extends, one that a chain makes, and one that an array makes.
-fn check_made<S>(alloc: Global) -> Result<(), Fail>
+fn check_chains_and_array<S>(alloc: Global) -> Result<(), Fail>
 where
     S: StoreMut<Kind = Closed<u32>, Range = RangeInclusive<u32>, Value = char, Alloc = Global>
         + Drop,
@@ -85,6 +85,6 @@ fn pairs_are_inserted_in_order(rt: HostRuntime) -> Result<(), Fail> {
 
 #[test]
 fn an_array_and_a_chain_are_taken(rt: HostRuntime) -> Result<(), Fail> {
-    check_made::<SortedVec<Closed<u32>, RangeInclusive<u32>, char, Global>>(rt.alloc())?;
-    check_made::<Chunks<Closed<u32>, RangeInclusive<u32>, char, Global, 2>>(rt.alloc())
+    check_chains_and_array::<SortedVec<Closed<u32>, RangeInclusive<u32>, char, Global>>(rt.alloc())?;
+    check_chains_and_array::<Chunks<Closed<u32>, RangeInclusive<u32>, char, Global, 2>>(rt.alloc())
 }

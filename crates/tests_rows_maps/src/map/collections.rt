@@ -56,7 +56,8 @@ where
     check_same((short == long, short != long), (false, true))
 }
 
-/// Compares a map that an array extends, and its length when a chain has extended it too.
+/// Compares a map that an array extends, and its length and its last pair when a chain has extended
+/// it too.
 pub fn check_array_and_chain<S>(alloc: Global) -> Result<(), Fail>
 where
     S: StoreMut<Kind = HalfOpen, Range = Range<u32>, Value = char, Alloc = Global> + Drop,
@@ -65,7 +66,8 @@ where
     map.extend([(0u32..5, 'a'), (5..9, 'b')])?;
     check_text(alloc, &map, "{0..5: 'a', 5..9: 'b'}")?;
     extend_by_chain(&mut map, 100)?;
-    check_same(map.len(), 101)
+    check_same(map.len(), 101)?;
+    check_text(alloc, &map.last_range_value(), "Some((990..995, 'c'))")
 }
 
 /// Compares which of equal values stay: the last one of those that are joined, in maps that an array

@@ -1,0 +1,106 @@
+//! The snippets of docs/CALLING.md, each once.
+
+use crate::same::assert_same;
+use examples::calling::{
+    add, add_all, add_shifts, add_texts, all_below, are_below, are_equal, assign, chain, classify,
+    either_way, ends, free_until, gap_end, intersection_of, is_at_most, is_below, note, on_at,
+    room_for, uncovered, union_of,
+};
+use rangemap::{
+    RangeInclusiveMap, RangeMap, RangeSet, range_inclusive_set, range_set, tree_map, tree_set,
+};
+use std::cmp::OrderedFloat;
+use std::test::Fail;
+
+#[test]
+fn snippets_with_shifts_answer(rt: HostRuntime) -> Result<(), Fail> {
+    let mut shifts = RangeMap::new(rt.alloc());
+    assign(&mut shifts, 2, 5, 7)?;
+    let found = (on_at(&shifts, 4), on_at(&shifts, 5));
+    assert_same(&rt, found, (Some(7), None));
+    let hours = uncovered(rt.alloc(), &shifts, &(0..9))?;
+    assert_same(&rt, hours.as_slice(), [0..2u32, 5..9].as_slice());
+    let found = (all_below(&shifts, 8), all_below(&shifts, 7));
+    assert_same(&rt, found, (true, false));
+    Ok(())
+}
+
+#[test]
+fn snippets_with_gaps_answer(rt: HostRuntime) -> Result<(), Fail> {
+    let map = RangeMap::new(rt.alloc());
+    let found = (free_until(&map, 1, 9)?, gap_end(&map, 6, 9));
+    assert_same(&rt, found, (9, 9));
+    let held = range_set![in rt.alloc(); 0..5u32, 7..9]?;
+    let found = (room_for(&held, &(0..20), 2)?, room_for(&held, &(0..20), 3)?);
+    assert_same(&rt, found, (Some(5), Some(9)));
+    assert_same(&rt, room_for(&held, &(0..9), 3)?, None);
+    Ok(())
+}
+
+#[test]
+fn snippets_with_one_set_answer(rt: HostRuntime) -> Result<(), Fail> {
+    let mut set = RangeSet::new(rt.alloc());
+    add(&mut set, 0, 2)?;
+    add_all(&mut set, &[2..4, 9..9, 5..6])?;
+    assert_same(&rt, set == range_set![in rt.alloc(); 0..4u64, 5..6]?, true);
+    let mut hours = RangeSet::new(rt.alloc());
+    add_shifts(&mut hours)?;
+    assert_same(&rt, hours == range_set![in rt.alloc(); 0..5u32, 7..9]?, true);
+    let found = (is_below(&hours, 9), is_below(&hours, 8));
+    assert_same(&rt, found, (true, false));
+    let days = range_inclusive_set![in rt.alloc(); 0..=4u32, 7..=8]?;
+    let found = (is_at_most(&days, 8), is_at_most(&days, 7));
+    assert_same(&rt, found, (true, false));
+    assert_same(&rt, are_equal(&hours, &hours), true);
+    let mut seen = tree_set::RangeSet::new(rt.alloc());
+    note(&mut seen, 3, 5)?;
+    let found = (seen.contains(&4), seen.contains(&5));
+    assert_same(&rt, found, (true, false));
+    Ok(())
+}
+
+#[test]
+fn snippets_with_two_lists_answer(rt: HostRuntime) -> Result<(), Fail> {
+    let left = range_set![in rt.alloc(); 0..4u64, 5..6]?;
+    let right = range_set![in rt.alloc(); 3..8u64]?;
+    let ranges = union_of(rt.alloc(), &left, &right)?;
+    assert_same(&rt, ranges.as_slice(), [0..8u64].as_slice());
+    let mut common = intersection_of(rt.alloc(), &left, &right)?;
+    assert_same(&rt, common.as_slice(), [3..4u64, 5..6].as_slice());
+    let mut list = ranges;
+    chain(&mut list, &mut common)?;
+    assert_same(&rt, list.as_slice(), [0..8u64, 3..4, 5..6].as_slice());
+    Ok(())
+}
+
+#[test]
+fn snippets_with_other_maps_answer(rt: HostRuntime) -> Result<(), Fail> {
+    let map = ends(rt.alloc())?;
+    let found = (map.get(&6).copied(), map.get(&7).copied(), map.len());
+    assert_same(&rt, found, (Some(2), Some(1), 4));
+    let mut one = RangeInclusiveMap::new(rt.alloc());
+    let mut other = RangeInclusiveMap::new(rt.alloc());
+    assert_same(&rt, either_way(&mut one, &mut other)?, true);
+    assert_same(&rt, (one.get(&9).copied(), one.len()), (Some(1), 2));
+    let mut stock = tree_map::RangeMap::new(rt.alloc());
+    stock.insert(0..5u32, 3u32)?;
+    let found = (are_below(&stock, 2, 9, 4), are_below(&stock, 2, 9, 3));
+    assert_same(&rt, found, (true, false));
+    Ok(())
+}
+
+#[test]
+fn snippets_with_texts_and_floats_answer(rt: HostRuntime) -> Result<(), Fail> {
+    let text = |text: &str| text.to_string(rt.alloc());
+    let mut names = RangeSet::new(rt.alloc());
+    add_texts(&mut names, text("b")?, text("d")?)?;
+    add_texts(&mut names, text("x")?, text("x")?)?;
+    assert_same(&rt, names.len(), 1);
+    assert_same(&rt, names.contains(&text("c")?), true);
+    let mut classes = RangeMap::new(rt.alloc());
+    classify(&mut classes, OrderedFloat(36.5), OrderedFloat(38.0), 1)?;
+    classify(&mut classes, OrderedFloat(40.0), OrderedFloat(40.0), 2)?;
+    assert_same(&rt, classes.len(), 1);
+    assert_same(&rt, classes.get(&OrderedFloat(37.0)).copied(), Some(1));
+    Ok(())
+}
