@@ -5,7 +5,8 @@ use Rattle.std.specs.Borrow.{Bor}
 use Rattle.std.specs.Iterator.{Yields}
 use Rattle.std.specs.Map.Iter.{TakesFirst, deref, deref_pair}
 use Rattle.std.specs.declared.alloc.AllocError.{AllocError}
-use Rattle.rangemap_core.specs.MadeRanges.{GivesRange}
+use Rattle.rangemap_core.specs.MadeRanges.{GivesNext, GivesRange}
+use Rattle.rangemap_core.proofs.MadeRangeLemmas.{given_so_far}
 use Rattle.rangemap_core.specs.Ranges.{AreGaps, RangeKind}
 
 -- A loop over ranges that an iterator makes, as `for range in left.union(right)`. All of them are `all`;
@@ -18,8 +19,8 @@ pub record AsksAgain {K X : Type 0} (k : RangeKind K X) (all : List X) (items : 
   pub so_far : Yields (GivesRange k) start items left
   pub step : GivesRange k left result new
 
-pub asks_again : {K X : Type 0} {k : RangeKind K X} {all : List X} {items : List (Result X AllocError)} {result : Option (Result X AllocError)} (start left new : List X) → start ≡ all → Yields (GivesRange k) start items left → GivesRange k left result new → AsksAgain k all items result
-asks_again start left new is so_far step = record { start = start; left = left; new = new; is = is; so_far = so_far; step = step }
+pub asks_again : {K X : Type 0} {k : RangeKind K X} {all : List X} {items : List (Result X AllocError)} {result : Option (Result X AllocError)} (surely : Type 0) (start left new : List X) → start ≡ all → Yields (GivesNext k surely) start items left → GivesNext k surely left result new → AsksAgain k all items result
+asks_again {k = k} {items = items} surely start left new is so_far step = record { start = start; left = left; new = new; is = is; so_far = given_so_far k surely start items left so_far; step = step.0 }
 
 -- A loop over the gaps that stored ranges leave in a range q, as `for gap in map.gaps(&q)`. It was given
 -- `items`, and asks again: the answer is `result`.
@@ -28,12 +29,12 @@ pub record AsksForGaps {K X : Type 0} (k : RangeKind K X) (ranges : List X) (q :
   pub are : AreGaps k ranges q all
   pub asks : AsksAgain k all items result
 
-pub asks_for_gaps : {K X : Type 0} {k : RangeKind K X} {ranges : List X} {q : X} {items : List (Result X AllocError)} {result : Option (Result X AllocError)} (all start left new : List X) → AreGaps k ranges q all → start ≡ all → Yields (GivesRange k) start items left → GivesRange k left result new → AsksForGaps k ranges q items result
-asks_for_gaps all start left new are is so_far step = record { all = all; are = are; asks = asks_again start left new is so_far step }
+pub asks_for_gaps : {K X : Type 0} {k : RangeKind K X} {ranges : List X} {q : X} {items : List (Result X AllocError)} {result : Option (Result X AllocError)} (surely : Type 0) (all start left new : List X) → AreGaps k ranges q all → start ≡ all → Yields (GivesNext k surely) start items left → GivesNext k surely left result new → AsksForGaps k ranges q items result
+asks_for_gaps surely all start left new are is so_far step = record { all = all; are = are; asks = asks_again surely start left new is so_far step }
 
 -- the same without a loop, where the first gap is asked for by `next`
 pub asks_first_gap : {K X : Type 0} {k : RangeKind K X} {ranges : List X} {q : X} {result : Option (Result X AllocError)} (all new : List X) → AreGaps k ranges q all → GivesRange k all result new → AsksForGaps k ranges q [] result
-asks_first_gap all new are step = asks_for_gaps all all all new are refl refl step
+asks_first_gap all new are step = record { all = all; are = are; asks = record { start = all; left = all; new = new; is = refl; so_far = refl; step = step } }
 
 -- A loop over what a container lends, as `for (range, value) in map.iter()`, `for (range, value) in
 -- map.overlapping(&range)` and `for range in set.iter()`. All of it is `given`; it was lent `items`, and

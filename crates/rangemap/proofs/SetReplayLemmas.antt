@@ -50,12 +50,12 @@ module _ {K X : Type 0} (k : RangeKind K X) (ls : List (List X)) where
 
     pub extend_here : (l m : List X) → at < length ls → l ≡ get_or ls at l → (res : Result (Unit {0}) AllocError)
         → OnOk res (Adds k l given.items m)
-        → OnErr res ((n : ℕ) × Adds k l (take n given.items) m)
+        → OnErr res ((n : ℕ) × (n < length given.items) × Adds k l (take n given.items) m)
         → Makes k (unit_eq k) (with_unit k) (SetStep k) ls (Extend at given) (is_ok res) (set ls at m)
     extend_here l m here is (Ok u) ok err fs h = changed Shows fs ls at l m (λ f. override_all k f (with_unit k given.items)) h here is (λ f c. override_all_of k (unit_equiv k) f (with_unit k given.items) (with_unit k l) (with_unit k m) c (all_inserted k l given.items m ok))
     extend_here l m here is (Err u) ok err fs h =
-        let r = changed Shows fs ls at l m (λ f. override_all k f (with_unit k (take err.0 given.items))) h here is (λ f c. override_all_of k (unit_equiv k) f (with_unit k (take err.0 given.items)) (with_unit k l) (with_unit k m) c (all_inserted k l (take err.0 given.items) m err.1)) in
-        (r.0, inr (err.0, r.1), r.2)
+        let r = changed Shows fs ls at l m (λ f. override_all k f (with_unit k (take err.0 given.items))) h here is (λ f c. override_all_of k (unit_equiv k) f (with_unit k (take err.0 given.items)) (with_unit k l) (with_unit k m) c (all_inserted k l (take err.0 given.items) m err.2)) in
+        (r.0, inr (err.0, err.1, r.1), r.2)
 
   pub from_iter_made : {A : Type 0} (given : Vec X A) (m : List X) → IsCanonOfPoints k (covers k given.items) m → Makes k (unit_eq k) (with_unit k) (SetStep k) ls (FromIter given) true (ls ++ m ∷ [])
   from_iter_made given m all fs h = (_, refl, added Shows fs ls (override_all k nothing (with_unit k given.items)) m h (all_made k given.items m all))

@@ -1,5 +1,5 @@
 -- What calls on a list of sets make of the point functions that the sets stand for.
-use Rattle.std.specs.Prelude.{◌≡◌, ℕ, ◌≤◌, ⊤, ◌⊎◌, Bool, true, false, List, ◌∷◌, [], ◌++◌, length, take, Option, Some, slice_get}
+use Rattle.std.specs.Prelude.{◌≡◌, ℕ, ◌<◌, ◌≤◌, ⊤, ◌⊎◌, Bool, true, false, List, ◌∷◌, [], ◌++◌, length, take, Option, Some, slice_get}
 use Rattle.rangemap_containers.specs.Histories.{ChangeStep, Changes}
 use Rattle.rangemap_core.specs.Operators.{common, either}
 use Rattle.rangemap_containers.specs.declared.calls.Change.TheVariants.{New as MakeEmpty, Insert as InsertPair, Remove as RemoveRange, Clear as ClearMap, Clone as CloneMap}
@@ -38,8 +38,8 @@ module _ {K X A : Type 0} (k : RangeKind K X) where
   SetStep old (FromIter ranges) true new = new ≡ old ++ override_all k nothing (with_unit k ranges.items) ∷ []
   SetStep old (FromIter ranges) false new = new ≡ old
   SetStep old (Extend at ranges) true new = Changes old at (λ f. override_all k f (with_unit k ranges.items)) new
-  -- a refused extend counts for some beginning of its ranges, and for none where no set is at the place
-  SetStep old (Extend at ranges) false new = ((length old ≤ at) × (new ≡ old)) ⊎ ((n : ℕ) × Changes old at (λ f. override_all k f (with_unit k (take n ranges.items))) new)
+  -- a refused extend counts for some beginning of its ranges that lacks one at least, and for none where no set is at the place
+  SetStep old (Extend at ranges) false new = ((length old ≤ at) × (new ≡ old)) ⊎ ((n : ℕ) × (n < length ranges.items) × Changes old at (λ f. override_all k f (with_unit k (take n ranges.items))) new)
   SetStep old (Union left right) true new = Joins either old left right new
   SetStep old (Union left right) false new = new ≡ old
   SetStep old (Intersection left right) true new = Joins common old left right new

@@ -59,8 +59,9 @@ pub trait CallOn<M: Container>: Drop {
 /// containers stood for, they then stand for the functions that the accepted calls give by
 /// overriding and erasing, and by what the operators make of two; and each container's list is the
 /// canonical list of its function. A refused call changes no function, but that a refused `Extend`
-/// counts for some beginning of its items. A `New` is accepted; so is a `Clear`, and a `Remove` of a
-/// range at no point of which the function is defined, where they name a container.
+/// counts for some beginning of its items, which lacks one at least. A `New` is accepted; so is a
+/// `Clear`, a `Remove` of a range at no point of which the function is defined, and an `Extend` by
+/// nothing, where they name a container.
 ///
 /// # Requires
 ///

@@ -1,8 +1,8 @@
 -- How an iterator that makes the ranges it gives comes to its end.
-use Rattle.std.proofs.Common.{arith, ◌≢◌, ◌<◌, List, [], ◌∷◌, length, Option, Some, None, Result, Ok, Err, ap, refl}
-use Rattle.std.specs.Iterator.{MakesProgress, at_most}
+use Rattle.std.proofs.Common.{arith, ◌≢◌, ◌<◌, List, [], ◌∷◌, length, Option, Some, None, IfSome, Result, Ok, Err, IsOk, ap, refl}
+use Rattle.std.specs.Iterator.{MakesProgress, Yields, at_most}
 use Rattle.std.specs.declared.alloc.AllocError.{AllocError}
-use Rattle.rangemap_core.specs.MadeRanges.{GivesRange}
+use Rattle.rangemap_core.specs.MadeRanges.{GivesNext, GivesRange}
 use Rattle.rangemap_core.specs.Ranges.{RangeKind}
 
 has_length : {X : Type 0} (xs : List X) → xs ≢ [] → 0 < length xs
@@ -17,3 +17,8 @@ module _ {K X S : Type 0} (k : RangeKind K X) (left : S → List X) {can : Type 
   comes_nearer_its_end (Some (Err e)) refused =
       let some = has_length (left old) refused.0 in
       record { on = λ finite. (is_asked, finite, omega (arith, some, ap length refused.1)); keeps = is_asked; rests = λ finite. tt }
+
+-- what was given so far, whether or not a refusal could have come
+pub given_so_far : {K X : Type 0} (k : RangeKind K X) (surely : Type 0) (start : List X) (items : List (Result X AllocError)) (left : List X) → Yields (GivesNext k surely) start items left → Yields (GivesRange k) start items left
+given_so_far k surely start [] left ran = ran
+given_so_far k surely start (item ∷ items) left ran = (ran.0, ran.1.0, given_so_far k surely ran.0 items left ran.2)

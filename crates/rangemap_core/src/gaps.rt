@@ -6,7 +6,7 @@ ghost use Rattle.std.specs.Map.Iter.{TakesFirst};
 ghost use Rattle.std.specs.Option.{option_map, option_to_list};
 ghost use Rattle.rangemap_core.specs.Clones.{KeysCloneFaithfully, KeysCloneInfallibly};
 ghost use Rattle.rangemap_core.specs.engine.Endpoints.{AtStart, IsAsked, gaps_from};
-ghost use Rattle.rangemap_core.specs.MadeRanges.{GivesRange, TakesRange};
+ghost use Rattle.rangemap_core.specs.MadeRanges.{GivesNext, TakesRange};
 ghost use Rattle.rangemap_core.specs.NonEmptyPairs.{GivesNothing};
 ghost use Rattle.rangemap_core.specs.Ranges.{AreGaps, IsCanonical, overlapped};
 ghost use Rattle.rangemap_core.specs.Shown.{shown};
@@ -106,12 +106,13 @@ impl<'a, Q: Kind<R>, R: KeyRange + 'a, C: LentCursor<'a, R, GivenValue: Drop>> I
 
     ghost can_next = { λ _. KeysCloneFaithfully R.Key.is_clone R.Key.cmp };
 
-    ghost next_gives = { GivesRange Q.kind };
+    ghost next_gives = { GivesNext Q.kind (KeysCloneInfallibly R.Key.is_infallible) };
 
     ghost remaining = { λ s. at_most (length s) };
 
-    /// Returns the next gap, made of clones. Where a clone was refused it says so once, as
-    /// `Some(Err(AllocError))`, and has ended then.
+    /// Returns the next gap, made of clones. Where a clone was refused, which those of numbers,
+    /// characters and references never are, it says so once, as `Some(Err(AllocError))`, and has
+    /// ended then.
     fn next(&mut self) -> Option<Result<R, AllocError>> {
         let gap = self.try_next();
         if gap.is_err() {
@@ -164,7 +165,7 @@ pub fn append_gaps<
     B: Allocator,
 >(pairs: C, outer_range: &'a R, out: &mut Vec<R, B>) -> Result<(), AllocError>
     requires { KeysCloneFaithfully R.Key.is_clone R.Key.cmp }
-    ensures ok { OnOk result ((gaps : List _) × Drains (GivesRange Q.kind) (gaps_from Q.kind Q.end_place Q.part_of (AtStart outer_range.now) outer_range.now (C.left pairs)) (map OkWord gaps) × (out.new.items ≡ out.old.items ++ gaps)) }
+    ensures ok { OnOk result ((gaps : List _) × Drains (GivesNext Q.kind (KeysCloneInfallibly R.Key.is_infallible)) (gaps_from Q.kind Q.end_place Q.part_of (AtStart outer_range.now) outer_range.now (C.left pairs)) (map OkWord gaps) × (out.new.items ≡ out.old.items ++ gaps)) }
     ensures err { OnErr result (out.new.items ≡ out.old.items) }
     ensures of_nothing { gaps_from Q.kind Q.end_place Q.part_of (AtStart outer_range.now) outer_range.now (C.left pairs) ≡ [] → IsOk result × (out.new.items ≡ out.old.items) }
 {

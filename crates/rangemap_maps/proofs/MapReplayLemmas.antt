@@ -1,5 +1,5 @@
 -- What calls that take pairs make of the functions that maps stand for.
-use Rattle.std.proofs.Common.{arith, ◌≡◌, ℕ, ◌<◌, ◌≤◌, true, false, List, [], ◌∷◌, ◌++◌, Bool, length, take, get_or, set, Option, Result, Ok, Err, OnOk, OnErr, Vec, is_ok, refl, subst, inl, inr}
+use Rattle.std.proofs.Common.{arith, ◌≡◌, ℕ, ◌<◌, ◌≤◌, true, false, List, [], ◌∷◌, ◌++◌, Bool, length, take, get_or, set, Option, Result, Ok, Err, OnOk, OnErr, Vec, is_ok, refl, inl, inr}
 use Rattle.std.specs.Cmp.{IsEquivalence}
 use Rattle.std.specs.declared.alloc.AllocError.{AllocError}
 use Rattle.rangemap_core.specs.Ranges.{RangeKind, IsCanonOf, Overrides, nothing, override_all}
@@ -22,8 +22,11 @@ module _ {K X V A : Type 0} (k : RangeKind K X) {eq : V → V → Bool} (e : IsE
     extend_past past fs h = (fs, inl (omega (arith, as_long Shows fs ls h), refl), h)
 
     -- the map at the place was l and is m
-    pub extend_here : (l m : List (X × V)) → at < length ls → l ≡ get_or ls at l → (xs : List (X × V)) (res : Result (Unit {0}) AllocError) → Overrides k eq l xs m → OnOk res (xs ≡ pairs.items) → OnErr res (xs ≡ take (length xs) pairs.items) → Makes k eq (λ map. map) (Step k) ls (Extend at pairs) (is_ok res) (set ls at m)
-    extend_here l m here is xs (Ok u) o ok err fs h = changed Shows fs ls at l m (λ f. override_all k f pairs.items) h here is (λ f c. subst (λ ps. IsCanonOf k eq (override_all k f ps) m) ok (override_all_of k e f xs l m c o))
-    extend_here l m here is xs (Err u) o ok err fs h =
-        let r = changed Shows fs ls at l m (λ f. override_all k f (take (length xs) pairs.items)) h here is (λ f c. subst (λ ps. IsCanonOf k eq (override_all k f ps) m) err (override_all_of k e f xs l m c o)) in
-        (r.0, inr (length xs, r.1), r.2)
+    pub extend_here : (l m : List (X × V)) → at < length ls → l ≡ get_or ls at l → (res : Result (Unit {0}) AllocError)
+        → OnOk res (Overrides k eq l pairs.items m)
+        → OnErr res ((n : ℕ) × (n < length pairs.items) × Overrides k eq l (take n pairs.items) m)
+        → Makes k eq (λ map. map) (Step k) ls (Extend at pairs) (is_ok res) (set ls at m)
+    extend_here l m here is (Ok u) ok err fs h = changed Shows fs ls at l m (λ f. override_all k f pairs.items) h here is (λ f c. override_all_of k e f pairs.items l m c ok)
+    extend_here l m here is (Err u) ok err fs h =
+        let r = changed Shows fs ls at l m (λ f. override_all k f (take err.0 pairs.items)) h here is (λ f c. override_all_of k e f (take err.0 pairs.items) l m c err.2) in
+        (r.0, inr (err.0, err.1, r.1), r.2)

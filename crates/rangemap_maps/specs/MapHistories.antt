@@ -1,5 +1,5 @@
 -- What calls on a list of maps make of the point functions that the maps stand for, also those that take pairs.
-use Rattle.std.specs.Prelude.{◌≡◌, ℕ, ◌≤◌, ◌⊎◌, Bool, true, false, List, [], ◌∷◌, ◌++◌, length, take, Option}
+use Rattle.std.specs.Prelude.{◌≡◌, ℕ, ◌<◌, ◌≤◌, ◌⊎◌, Bool, true, false, List, [], ◌∷◌, ◌++◌, length, take, Option}
 use Rattle.rangemap_containers.specs.Histories.{ChangeStep, Changes, HasNonEmptyRange}
 use Rattle.rangemap_core.specs.Ranges.{RangeKind, AreNonEmpty, nothing, override_all}
 use Rattle.rangemap_maps.specs.declared.range_map.calls.Call.{Call}
@@ -18,5 +18,5 @@ module _ {K X V A : Type 0} (k : RangeKind K X) where
   Step old (FromIter pairs) true new = new ≡ old ++ override_all k nothing pairs.items ∷ []
   Step old (FromIter pairs) false new = new ≡ old
   Step old (Extend at pairs) true new = Changes old at (λ f. override_all k f pairs.items) new
-  -- a refused extend counts for some beginning of its pairs, and for none where no map is at the place
-  Step old (Extend at pairs) false new = ((length old ≤ at) × (new ≡ old)) ⊎ ((n : ℕ) × Changes old at (λ f. override_all k f (take n pairs.items)) new)
+  -- a refused extend counts for some beginning of its pairs that lacks one at least, and for none where no map is at the place
+  Step old (Extend at pairs) false new = ((length old ≤ at) × (new ≡ old)) ⊎ ((n : ℕ) × (n < length pairs.items) × Changes old at (λ f. override_all k f (take n pairs.items)) new)

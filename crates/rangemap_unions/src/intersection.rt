@@ -5,7 +5,7 @@ ghost use Rattle.std.specs.Iterator.SizeHint.{IsWithinCount};
 ghost use Rattle.std.specs.Ordering.{is_lt};
 ghost use Rattle.std.specs.declared.cmp.Ordering.TheVariants.{Less};
 ghost use Rattle.rangemap_core.specs.Clones.{KeysCloneFaithfully, KeysCloneInfallibly};
-ghost use Rattle.rangemap_core.specs.MadeRanges.{GivesRange, TakesRange};
+ghost use Rattle.rangemap_core.specs.MadeRanges.{GivesNext, TakesRange};
 ghost use Rattle.rangemap_core.specs.Sets.{AreCommon, AreNonEmptyRanges, IsCanonicalSet, ranges};
 ghost use Rattle.rangemap_unions.specs.Items.{earlier_end, intersection_items, later_start, reaches, with_common};
 
@@ -97,7 +97,7 @@ impl<C: Peek> Iterator for Intersection<C> {
 
     ghost can_next = { λ _. KeysCloneFaithfully C.Range.Key.is_clone C.Range.Key.cmp };
 
-    ghost next_gives = { GivesRange C.Range.read };
+    ghost next_gives = { GivesNext C.Range.read (KeysCloneInfallibly C.Range.Key.is_infallible) };
 
     ghost remaining = { λ s. at_most (length s) };
 

@@ -3,7 +3,7 @@ ghost use Rattle.std.specs.Prelude.{◌≡◌, ◌≢◌, [], ◌∷◌, ◌++�
 ghost use Rattle.std.specs.Iterator.{UpTo, at_most};
 ghost use Rattle.std.specs.Iterator.SizeHint.{IsWithinCount};
 ghost use Rattle.rangemap_core.specs.Clones.{KeysCloneFaithfully, KeysCloneInfallibly};
-ghost use Rattle.rangemap_core.specs.MadeRanges.{GivesRange, TakesRange};
+ghost use Rattle.rangemap_core.specs.MadeRanges.{GivesNext, TakesRange};
 ghost use Rattle.std.specs.Map.Iter.{TakesFirst};
 ghost use Rattle.rangemap_core.specs.Sets.{AreHulls, AreNonEmptyRanges, CoverEither, IsCanonicalSet, ranges};
 ghost use Rattle.rangemap_core.specs.Shown.{shown_range};
@@ -106,7 +106,7 @@ impl<C: Peek> Iterator for Union<C> {
 
     ghost can_next = { λ _. KeysCloneFaithfully C.Range.Key.is_clone C.Range.Key.cmp };
 
-    ghost next_gives = { GivesRange C.Range.read };
+    ghost next_gives = { GivesNext C.Range.read (KeysCloneInfallibly C.Range.Key.is_infallible) };
 
     ghost remaining = { λ s. at_most (length s) };
 

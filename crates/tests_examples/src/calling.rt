@@ -45,7 +45,11 @@ fn snippets_with_one_set_answer(rt: HostRuntime) -> Result<(), Fail> {
     assert_same(&rt, set == range_set![in rt.alloc(); 0..4u64, 5..6]?, true);
     let mut hours = RangeSet::new(rt.alloc());
     add_shifts(&mut hours)?;
-    assert_same(&rt, hours == range_set![in rt.alloc(); 0..5u32, 7..9]?, true);
+    assert_same(
+        &rt,
+        hours == range_set![in rt.alloc(); 0..5u32, 7..9]?,
+        true,
+    );
     let found = (is_below(&hours, 9), is_below(&hours, 8));
     assert_same(&rt, found, (true, false));
     let days = range_inclusive_set![in rt.alloc(); 0..=4u32, 7..=8]?;

@@ -19,11 +19,10 @@ use tests_row_checks::iterated_to_its_end;
 use tests_support::{FromEnds, Word, check_same, check_text, map_of};
 
 // Compares the three pairs of a map in a sorted vector: as it lends them, and as it hands them over.
-fn check_three_of_vector<Q: Kind<R, Steps = R::Key>, R: FromEnds<Key: Word<Global> + Debug> + Debug>(
-    alloc: Global,
-    inserted: &str,
-    pairs: &str,
-) -> Result<(), Fail>
+fn check_three_of_vector<
+    Q: Kind<R, Steps = R::Key>,
+    R: FromEnds<Key: Word<Global> + Debug> + Debug,
+>(alloc: Global, inserted: &str, pairs: &str) -> Result<(), Fail>
     requires { KeysCloneFaithfully R.Key.is_clone R.Key.cmp }
 {
     lent_by_vector::<Q, R>(alloc, inserted, Lent::All(All::Three), pairs)?;

@@ -1,8 +1,8 @@
 //! Making sets out of ranges and of other sets, and handing their ranges over.
-ghost use Rattle.std.specs.Prelude.{◌≡◌, List, IfOk, IsOk, true};
+ghost use Rattle.std.specs.Prelude.{◌≡◌, List, IfOk, IsOk, OnErr, true};
 ghost use Rattle.std.specs.Iterator.{Drains, ExtendsWithItems, IsFiniteIterable};
 ghost use Rattle.rangemap.specs.Clones.{KeysCloneFaithfully};
-ghost use Rattle.rangemap.specs.NonEmptyPairs.{GivesNothing};
+ghost use Rattle.rangemap.specs.NonEmptyPairs.{GivesNothing, StopsBeforeItem};
 ghost use Rattle.rangemap.specs.Ranges.{IsCanonOfPoints, covers, same_ranges};
 ghost use Rattle.rangemap.specs.Sets.{Adds, AreNonEmptyRanges, GivesNonEmptyRanges};
 
@@ -79,6 +79,7 @@ where
         requires non_empty { (it : I.IntoIter) → I.into_iter_gives iter it → GivesNonEmptyRanges S.Kind.kind I.IntoIter.next_gives it }
         requires faithful_keys { KeysCloneFaithfully S.Range.Key.is_clone S.Range.Key.cmp }
         ensures items { ExtendsWithItems I.into_iter_gives I.IntoIter.next_gives (Adds S.Kind.kind) iter self.old self.new result }
+        ensures err { OnErr result (StopsBeforeItem I.into_iter_gives I.IntoIter.next_gives (Adds S.Kind.kind) iter self.old self.new) }
         ensures of_nothing { ((it : I.IntoIter) → I.into_iter_gives iter it → GivesNothing I.IntoIter.next_gives it) → IsOk result × (self.new ≡ self.old) }
     {
         self.known();

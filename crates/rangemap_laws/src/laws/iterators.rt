@@ -11,7 +11,8 @@ ghost use Rattle.std.specs.Prelude.{◌≡◌, ◌≢◌, ◌<◌, ℕ, [], IfNo
 ghost use Rattle.std.specs.Fn.{FnOnceReturnsAtMut};
 ghost use Rattle.std.specs.Map.Iter.{TakesFirst, TakesLast};
 ghost use Rattle.std.specs.declared.alloc.AllocError.{AllocError as Refusal};
-ghost use Rattle.rangemap_core.specs.MadeRanges.{GivesRange, TakesRange};
+ghost use Rattle.rangemap_core.specs.Clones.{KeysCloneInfallibly};
+ghost use Rattle.rangemap_core.specs.MadeRanges.{GivesNext, TakesRange};
 ghost use Rattle.rangemap_laws.specs.IteratorEnds.{AllGoToEnd, AllTryToEnd, GoesToEnd, TriesToEnd};
 
 use rangemap_core::key_range::KeyRange;
@@ -31,7 +32,7 @@ pub fn items_go_to_the_end<Q: Kind<R>, R: KeyRange, ItemT, ShownT>()
         → TakesLast shows before answer after
         → GoesToEnd length before answer after }
     ensures given { (before : List R) (answer : OptionOf (ResultOf R Refusal)) (after : List R)
-        → GivesRange Q.kind before answer after
+        → GivesNext Q.kind (KeysCloneInfallibly R.Key.is_infallible) before answer after
         → GoesToEnd length before answer after }
     ensures tried { (before : List R) (answer : ResultOf (OptionOf R) Refusal) (after : List R)
         → IfOk answer (λ item. TakesRange Q.kind before item after)

@@ -1,8 +1,8 @@
 //! Making maps out of pairs and of other maps, and handing their pairs over.
-ghost use Rattle.std.specs.Prelude.{◌≡◌, List, IfOk, IsOk, true};
+ghost use Rattle.std.specs.Prelude.{◌≡◌, List, IfOk, IsOk, OnErr, true};
 ghost use Rattle.std.specs.Iterator.{Drains, ExtendsWithItems, IsFiniteIterable};
 ghost use Rattle.rangemap_core.specs.Clones.{KeysCloneFaithfully, ValuesCloneFaithfully};
-ghost use Rattle.rangemap_core.specs.NonEmptyPairs.{GivesNonEmpty, GivesNothing};
+ghost use Rattle.rangemap_core.specs.NonEmptyPairs.{GivesNonEmpty, GivesNothing, StopsBeforeItem};
 ghost use Rattle.rangemap_core.specs.Ranges.{AreNonEmpty, IsCanonOf, Overrides, nothing, override_all, same_pairs, value_at};
 
 use super::Map;
@@ -86,6 +86,7 @@ where
         requires faithful_keys { KeysCloneFaithfully S.Range.Key.is_clone S.Range.Key.cmp }
         requires faithful_values { ValuesCloneFaithfully S.Value.is_clone S.Value.eq }
         ensures items { ExtendsWithItems I.into_iter_gives I.IntoIter.next_gives (Overrides S.Kind.kind S.Value.eq) iter self.old self.new result }
+        ensures err { OnErr result (StopsBeforeItem I.into_iter_gives I.IntoIter.next_gives (Overrides S.Kind.kind S.Value.eq) iter self.old self.new) }
         ensures of_nothing { ((it : I.IntoIter) → I.into_iter_gives iter it → GivesNothing I.IntoIter.next_gives it) → IsOk result × (self.new ≡ self.old) }
     {
         self.known();

@@ -85,6 +85,8 @@ fn pairs_are_inserted_in_order(rt: HostRuntime) -> Result<(), Fail> {
 
 #[test]
 fn an_array_and_a_chain_are_taken(rt: HostRuntime) -> Result<(), Fail> {
-    check_chains_and_array::<SortedVec<Closed<u32>, RangeInclusive<u32>, char, Global>>(rt.alloc())?;
+    check_chains_and_array::<SortedVec<Closed<u32>, RangeInclusive<u32>, char, Global>>(
+        rt.alloc(),
+    )?;
     check_chains_and_array::<Chunks<Closed<u32>, RangeInclusive<u32>, char, Global, 2>>(rt.alloc())
 }

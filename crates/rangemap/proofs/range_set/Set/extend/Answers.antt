@@ -1,5 +1,6 @@
-use Rattle.std.proofs.Common.{arith, ap, length, length-append, refl}
-use Rattle.rangemap_core.proofs.IncomingLemmas.{none_next, none_taken}
+use Rattle.std.proofs.Common.{arith, ap, length, length-append, refl, subst, sym}
+use Rattle.rangemap_core.specs.Sets.{Adds}
+use Rattle.rangemap_core.proofs.IncomingLemmas.{none_next, none_taken, where_refused}
 use Rattle.rangemap_unions.proofs.IncomingLemmas.{at_turn}
 use Rattle.rangemap_unions.proofs.UnitValueLemmas.{adds_last, adds_none}
 use Rattle.rangemap.proofs.range_set.Set.extend.Goals as goal
@@ -22,6 +23,12 @@ loop-range-preserved g c = record {
   added = adds_last g.S.Kind.Kind.kind c.args.self.now c.loop-range.self c.insert.new.self c.loop-range.yielded c.in-Some.range c.loop-range.invariant.added c.in_ok-insert.ensures.ok;
   of_nothing = λ e. absurd (omega (arith, simp length-append at (ap length e)));
 }
+
+pub returns-in_err-insert-clause-err : goal.returns-in_err-insert-clause-err
+returns-in_err-insert-clause-err g c =
+    let it = c.into_iter-range-iterator in
+    let kept = subst (Adds g.S.Kind.Kind.kind c.args.self.now c.loop-range.yielded) (sym c.in_err-insert.ensures.err) c.loop-range.invariant.added in
+    where_refused _ c.from_residual.result c.from_residual.ensures.0 (it.result, c.loop-range.yielded, c.loop-range.range-iterator, c.in-Some.range, c.next.new.self, it.ensures.into_iter_gives, c.loop-range.yielded_by, c.in-Some.ensures.steps, kept)
 
 pub returns-clause-of_nothing : goal.returns-clause-of_nothing
 returns-clause-of_nothing g c = λ none.

@@ -26,6 +26,12 @@ returns-in_err-insert-clause-items g c =
     let kept = subst (Overrides g.M.Kind.Kind.kind g.M.Value.PartialEq.eq (g.M.Container.pairs c.args.map.now) c.loop-range.yielded) (sym c.in_err-insert.ensures.err) c.loop-range.invariant.inserted in
     (it.result, c.loop-range.yielded, it.ensures.into_iter_gives, kept, where_refused _ c.from_residual.result c.from_residual.ensures.0 (c.loop-range.range-iterator, c.loop-range.yielded_by))
 
+pub returns-in_err-insert-clause-err : goal.returns-in_err-insert-clause-err
+returns-in_err-insert-clause-err g c =
+    let it = c.into_iter-range-iterator in
+    let kept = subst (Overrides g.M.Kind.Kind.kind g.M.Value.PartialEq.eq (g.M.Container.pairs c.args.map.now) c.loop-range.yielded) (sym c.in_err-insert.ensures.err) c.loop-range.invariant.inserted in
+    where_refused _ c.from_residual.result c.from_residual.ensures.0 (it.result, c.loop-range.yielded, c.loop-range.range-iterator, (c.in-Some.range, c.in-Some.value), c.next.new.self, it.ensures.into_iter_gives, c.loop-range.yielded_by, c.in-Some.ensures.steps, kept)
+
 pub returns-clause-of_nothing : goal.returns-clause-of_nothing
 returns-clause-of_nothing g c = λ none.
     let it = c.into_iter-range-iterator in

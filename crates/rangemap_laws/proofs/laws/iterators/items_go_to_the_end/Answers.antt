@@ -8,7 +8,7 @@ pub returns-clause-last : goal.returns-clause-last
 returns-clause-last g c = last_taken
 
 pub returns-clause-given : goal.returns-clause-given
-returns-clause-given g c = range_given g.Q.Kind.kind
+returns-clause-given g c = λ before answer after given. range_given g.Q.Kind.kind before answer after given.0
 
 pub returns-clause-tried : goal.returns-clause-tried
 returns-clause-tried g c = range_tried g.Q.Kind.kind

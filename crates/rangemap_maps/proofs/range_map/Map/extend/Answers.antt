@@ -1,6 +1,6 @@
-use Rattle.std.proofs.Common.{arith, ap, length, length-append, refl}
-use Rattle.rangemap_core.proofs.IncomingLemmas.{none_next, none_taken}
-use Rattle.rangemap_core.proofs.IncomingLemmas.{at_turn}
+use Rattle.std.proofs.Common.{arith, ap, length, length-append, refl, subst, sym}
+use Rattle.rangemap_core.specs.Ranges.{Overrides}
+use Rattle.rangemap_core.proofs.IncomingLemmas.{at_turn, none_next, none_taken, where_refused}
 use Rattle.rangemap_core.proofs.CanonLemmas.{Overrides-last, Overrides-none}
 use Rattle.rangemap_maps.proofs.range_map.Map.extend.Goals as goal
 
@@ -22,6 +22,12 @@ loop-range-preserved g c = record {
   inserted = Overrides-last g.S.Kind.Kind.kind g.met.S.Value.Eq.laws c.args.self.now c.loop-range.self c.insert.new.self c.loop-range.yielded (c.in-Some.range, c.in-Some.value) c.loop-range.invariant.inserted c.in_ok-insert.ensures.ok;
   of_nothing = λ e. absurd (omega (arith, simp length-append at (ap length e)));
 }
+
+pub returns-in_err-insert-clause-err : goal.returns-in_err-insert-clause-err
+returns-in_err-insert-clause-err g c =
+    let it = c.into_iter-range-iterator in
+    let kept = subst (Overrides g.S.Kind.Kind.kind g.S.Value.PartialEq.eq c.args.self.now c.loop-range.yielded) (sym c.in_err-insert.ensures.err) c.loop-range.invariant.inserted in
+    where_refused _ c.from_residual.result c.from_residual.ensures.0 (it.result, c.loop-range.yielded, c.loop-range.range-iterator, (c.in-Some.range, c.in-Some.value), c.next.new.self, it.ensures.into_iter_gives, c.loop-range.yielded_by, c.in-Some.ensures.steps, kept)
 
 pub returns-clause-of_nothing : goal.returns-clause-of_nothing
 returns-clause-of_nothing g c = λ none.

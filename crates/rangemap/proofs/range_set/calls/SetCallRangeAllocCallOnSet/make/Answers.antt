@@ -1,11 +1,11 @@
-use Rattle.std.proofs.Common.{◌≡◌, ◌++◌, ◌∷◌, [], ap, length, refl, subst, take, ◌∙◌}
+use Rattle.std.proofs.Common.{arith, ◌≡◌, ◌++◌, ◌∷◌, [], ap, length, refl, subst, take, ◌∙◌}
 use Rattle.std.proofs.IntoIterSteps.{All-taken}
 use Rattle.std.proofs.lemmas.Result.{IfOk-weaker, MatchResult-weaker}
 use Rattle.std.specs.Vec.Iter.{into_iter_items}
 use Rattle.rangemap_core.specs.Ranges.{IsCanonOfPoints, covers, unit_eq, with_unit}
 use Rattle.rangemap_core.specs.Sets.{Adds}
 use Rattle.rangemap_core.proofs.IncomingRangeLemmas.{listed}
-use Rattle.rangemap_core.proofs.IncomingLemmas.{taken_front}
+use Rattle.rangemap_core.proofs.IncomingLemmas.{taken_front, taken_less}
 use Rattle.rangemap_containers.specs.Histories.{Makes}
 use Rattle.rangemap.specs.SetHistories.{SetHasNonEmptyRanges, SetStep}
 use Rattle.rangemap.specs.declared.range_set.calls.SetCall.TheVariants.{FromIter}
@@ -52,7 +52,11 @@ returns-in-Some-clause-made g c =
     rw c.is_ok.ensures.value (extend_here k c.args.sets.now.items c.in-Extend.at c.in-Extend.ranges before after c.in-Some.ensures.item.3.0 c.in-Some.ensures.value
     c.extend.result
     (MatchResult-weaker c.extend.result ran.4 (λ u d. subst (λ rs. Adds k before rs after) (All-taken ran.0 ran.1 d ∙ ran.2.0) ran.3) (λ _ _. tt))
-    (MatchResult-weaker c.extend.result ran.4 (λ _ _. tt) (λ u y. (length ran.1, subst (λ rs. Adds k before rs after) (taken_front ran.0 ran.1 y.0 y.1 ∙ ap (take (length ran.1)) ran.2.0) ran.3)))))
+    (MatchResult-weaker c.extend.result c.extend.ensures.err (λ _ _. tt) (λ u y. (
+      length y.1,
+      omega (arith, taken_less y.0 y.1 y.2 y.3 y.4 y.6 y.7, ap length y.5.0),
+      subst (λ rs. Adds k before rs after) (taken_front y.0 y.1 y.2 y.6 ∙ ap (take (length y.1)) y.5.0) y.8,
+    )))))
 
 pub returns-in-Extend-clause-made : goal.returns-in-Extend-clause-made
 returns-in-Extend-clause-made g c =

@@ -1,9 +1,9 @@
-use Rattle.std.proofs.Common.{◌≡◌, ◌++◌, ◌∷◌, [], ap, length, refl, subst, take, ◌∙◌}
+use Rattle.std.proofs.Common.{arith, ◌≡◌, ◌++◌, ◌∷◌, [], ap, length, refl, subst, take, ◌∙◌}
 use Rattle.std.proofs.IntoIterSteps.{All-taken}
 use Rattle.std.proofs.lemmas.Result.{IfOk-weaker, MatchResult-weaker}
 use Rattle.std.specs.Vec.Iter.{into_iter_items}
-use Rattle.rangemap_core.specs.Ranges.{IsCanonOf, nothing, override_all}
-use Rattle.rangemap_core.proofs.IncomingLemmas.{listed, taken_front}
+use Rattle.rangemap_core.specs.Ranges.{IsCanonOf, Overrides, nothing, override_all}
+use Rattle.rangemap_core.proofs.IncomingLemmas.{listed, taken_front, taken_less}
 use Rattle.rangemap_containers.specs.Histories.{Makes}
 use Rattle.rangemap_containers.proofs.ReplayLemmas.{added_or_not, new_made}
 use Rattle.rangemap_maps.specs.MapHistories.{HasNonEmptyRanges, Step}
@@ -41,11 +41,19 @@ extend-requires-clause-non_empty g c it h =
 pub returns-in-Some-clause-made : goal.returns-in-Some-clause-made
 returns-in-Some-clause-made g c =
     let ran = c.extend.ensures.items in
+    let k = g.S.Kind.Kind.kind in
+    let eq = g.S.Value.PartialEq.eq in
+    let before = c.in-Some.map.now in
+    let after = c.extend.new.self in
     rw c.in-Extend.is (
-    rw c.is_ok.ensures.value (extend_here g.S.Kind.Kind.kind g.met.S.Value.Eq.laws c.args.maps.now.items c.in-Extend.pairs c.in-Extend.at c.in-Some.map.now c.extend.new.self c.in-Some.ensures.item.3.0 c.in-Some.ensures.value
-    ran.1 c.extend.result ran.3
-    (MatchResult-weaker c.extend.result ran.4 (λ u d. All-taken ran.0 ran.1 d ∙ ran.2.0) (λ _ _. tt))
-    (MatchResult-weaker c.extend.result ran.4 (λ _ _. tt) (λ u y. taken_front ran.0 ran.1 y.0 y.1 ∙ ap (take (length ran.1)) ran.2.0))))
+    rw c.is_ok.ensures.value (extend_here k g.met.S.Value.Eq.laws c.args.maps.now.items c.in-Extend.pairs c.in-Extend.at before after c.in-Some.ensures.item.3.0 c.in-Some.ensures.value
+    c.extend.result
+    (MatchResult-weaker c.extend.result ran.4 (λ u d. subst (λ ps. Overrides k eq before ps after) (All-taken ran.0 ran.1 d ∙ ran.2.0) ran.3) (λ _ _. tt))
+    (MatchResult-weaker c.extend.result c.extend.ensures.err (λ _ _. tt) (λ u y. (
+      length y.1,
+      omega (arith, taken_less y.0 y.1 y.2 y.3 y.4 y.6 y.7, ap length y.5.0),
+      subst (λ ps. Overrides k eq before ps after) (taken_front y.0 y.1 y.2 y.6 ∙ ap (take (length y.1)) y.5.0) y.8,
+    )))))
 
 pub returns-clause-made : goal.returns-clause-made
 returns-clause-made g c =
