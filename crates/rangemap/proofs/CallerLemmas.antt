@@ -3,12 +3,13 @@
 use Rattle.std.proofs.Common.{◌≡◌, ◌≢◌, Bool, true, false, not, ◌&&◌, cond, List, [], ◌∷◌, map, Option, Some, None, is_some, refl, sym, ap, subst, ◌∙◌, true≢false}
 use Rattle.std.specs.Option.{option_eq}
 use Rattle.std.specs.List.{find}
-use Rattle.std.specs.Cmp.{IsEquivalence}
+use Rattle.std.specs.Cmp.{IsEquivalence, first_so, second_so}
+use Rattle.std.proofs.lemmas.Bool.{and_from}
 use Rattle.rangemap_core.specs.Ranges.{RangeKind, Alike, AreGaps, IsCanonOf, IsCanonical, covers, erase, override, same_pairs, value_at}
 use Rattle.rangemap_core.specs.engine.Endpoints.{IsPlaced, EndpointOf}
 use Rattle.rangemap_core.proofs.AlikeLemmas.{Alike-itself}
 use Rattle.rangemap_core.proofs.UniquenessLemmas.{alike_from_same, canon_unique, equal_pairs}
-use Rattle.rangemap_laws.proofs.StoredKeyLemmas.{both_true, covers_where_valued, first_true, holds_start, second_true}
+use Rattle.rangemap_laws.proofs.StoredKeyLemmas.{covers_where_valued, holds_start}
 
 -- ---- values
 
@@ -75,9 +76,9 @@ pub record GapKeys {K X V : Type 0} (k : RangeKind K X) (list : List (X × V)) (
 
 pub gap_keys : {K X V : Type 0} (k : RangeKind K X) (list : List (X × V)) (q : X) (gaps : List X) → AreGaps k (map (λ p. p.0) list) q gaps → GapKeys k list q gaps
 gap_keys {K} {X} {V} k list q gaps are = record {
-  within = λ x key h. first_true (k.holds q x) (not (is_some (value_at k list x))) (sym (points x key) ∙ h);
-  undefined = λ x key h. is_none (value_at k list x) (second_true (k.holds q x) (not (is_some (value_at k list x))) (sym (points x key) ∙ h));
-  all = λ x key h none. points x key ∙ both_true (k.holds q x) (not (is_some (value_at k list x))) h (ap (λ m. not (is_some m)) none);
+  within = λ x key h. first_so (k.holds q x) (not (is_some (value_at k list x))) (sym (points x key) ∙ h);
+  undefined = λ x key h. is_none (value_at k list x) (second_so (k.holds q x) (not (is_some (value_at k list x))) (sym (points x key) ∙ h));
+  all = λ x key h none. points x key ∙ and_from (k.holds q x) (not (is_some (value_at k list x))) h (ap (λ m. not (is_some m)) none);
 }
   where
     points : (x : K) → k.is_key x → covers k gaps x ≡ (k.holds q x && not (is_some (value_at k list x)))

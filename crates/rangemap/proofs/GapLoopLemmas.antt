@@ -193,7 +193,7 @@ module _ {K X V : Type 0} {k : RangeKind K X} {end_place : X → Option K} {part
 
     -- at a further item, it lies within an earlier one if it starts before this one
     pub free_in_earlier : (item : Result X AllocError) (range : X) → result ≡ Some item → item ≡ Ok range → k.cmp (k.start r) (k.start range) ≡ Less → (s : X) × P s × IsWithin k r s
-    free_in_earlier item range some ok start_place = in_taken the_gap.0 the_gap.1 (λ found. not_found (find test left) found none_left)
+    free_in_earlier item range some ok sooner = in_taken the_gap.0 the_gap.1 (λ found. not_found (find test left) found none_left)
       where
         not_found : (o : Option X) → o ≡ Some the_gap.0 → o ≡ None → ⊥
         not_found o a b = cc
@@ -212,7 +212,7 @@ module _ {K X V : Type 0} {k : RangeKind K X} {end_place : X → Option K} {part
         none_left =
             ap (find test) now.1
             ∙ unit_none (find test (now.0 ∷ new)) (sym (covering_unit k (now.0 ∷ new) (k.start r))
-            ∙ none_before p (unit_eq k) (now.0, tt) (with_unit k new) (k.start r) can stored.start_is_key (lt_eq p.total {a = k.start r} {b = k.start range} {c = k.start now.0} start_place (eq_turn p.total now.2.starts)))
+            ∙ none_before p (unit_eq k) (now.0, tt) (with_unit k new) (k.start r) can stored.start_is_key (lt_eq p.total {a = k.start r} {b = k.start range} {c = k.start now.0} sooner (eq_turn p.total now.2.starts)))
 
   -- a further item may be stored, and each of its keys is one of q and has no value
   module _ (P : X → Type 0) (each : All (λ item. IsOkAnd item P) items) (item : Result X AllocError) (range : X) (some : result ≡ Some item) (ok : item ≡ Ok range) where

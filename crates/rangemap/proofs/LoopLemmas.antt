@@ -17,8 +17,9 @@ use Rattle.rangemap_core.specs.MadeRanges.{GivesRange, IsSame}
 use Rattle.rangemap_core.specs.Ranges.{RangeKind, AreGaps, IsCanonical, IsStorable, closed, covers, half_open, overlapped, value_at, with_unit}
 use Rattle.rangemap_core.specs.engine.Endpoints.{IsPlaced, EndpointOf}
 use Rattle.rangemap_core.specs.Sets.{AreCommon, AreHulls, CoverEither, IsCanonicalSet, IsHull}
+use Rattle.rangemap_core.proofs.UniquenessLemmas.{value_cons}
 use Rattle.rangemap_unions.proofs.UnitValueLemmas.{ranges_with}
-use Rattle.rangemap_laws.proofs.StoredKeyLemmas.{meets_where_shared, value_cons}
+use Rattle.rangemap_laws.proofs.StoredKeyLemmas.{meets_where_shared}
 use Rattle.rangemap.proofs.NumberKinds.{NumberKind}
 use Rattle.rangemap.proofs.NumberLemmas.{IsInOne, IsStretch, last_gap, next_gap}
 use Rattle.rangemap.proofs.Loops.{AsksAgain, AsksForGaps, LendsPairs, LendsRanges}

@@ -1,12 +1,12 @@
 -- Kinds of ranges of numbers, for callers: `a..b` and `a..=b`, of unsigned and of signed numbers. The
 -- lemmas of `NumberLemmas` are said once, of each of them.
-use Rattle.std.proofs.Common.{arith, ◌≡◌, ℕ, ◌+◌, ◌-◌, ◌<◌, ◌≤◌, Bool, true, false, ◌&&◌, cond, Option, Some, None, Ordering, Less, Equal, Greater, is_lt, is_le, refl, sym, ap, subst, true≢false}
-use Rattle.std.proofs.lemmas.Bool.{lt-ltb}
+use Rattle.std.proofs.Common.{arith, ◌≡◌, ℕ, ◌+◌, ◌-◌, ◌<◌, ◌≤◌, true, false, cond, Option, Some, None, Ordering, Less, Equal, Greater, is_lt, is_le, refl, sym, ap, subst, true≢false}
+use Rattle.std.proofs.lemmas.Bool.{lt-ltb, and_from}
 use Rattle.std.proofs.lemmas.Bool.Decides.{nat_tests}
 use Rattle.std.proofs.lemmas.Cmp.{int_cmp_total}
 use Rattle.std.proofs.lemmas.Int.{ints}
 use Rattle.std.proofs.lemmas.Map.Keys.{le_from_is_le}
-use Rattle.std.specs.Cmp.{IsTotalOrder, int_cmp_is, int_ranked, nat_cmp_is, nat_cmp_total}
+use Rattle.std.specs.Cmp.{IsTotalOrder, int_cmp_is, int_ranked, nat_cmp_is, nat_cmp_total, first_so, second_so}
 use Rattle.std.specs.Ordering.{int_cmp, nat_cmp}
 use Rattle.std.specs.Prelude.{ℤ, pos, ◌+ℤ◌, ◌-ℤ◌, ◌<ℤ◌, ◌≤ℤ◌, int_lt}
 use Rattle.std.specs.Range.{range_inclusive_end, range_inclusive_exhausted, range_inclusive_start}
@@ -174,24 +174,15 @@ pub record NumberKind (K X : Type 0) : Type 1 where
   pub starts : (x y : K) → kind.start (stretch x y) ≡ x
   pub stops : (x y : K) → order.IsBelow x y → behind (stretch x y) ≡ y
 
-both_true : (a b : Bool) → a ≡ true → b ≡ true → (a && b) ≡ true
-both_true a b h j = grind (arith, h, j)
-
-first_true : (a b : Bool) → (a && b) ≡ true → a ≡ true
-first_true a b h = grind (arith, h)
-
-second_true : (a b : Bool) → (a && b) ≡ true → b ≡ true
-second_true a b h = grind (arith, h)
-
 module _ {K : Type 0} (order : NumberOrder K) where
   pub half_open_from : (r : Range K) (x : K) → (half_open order.cmp).holds r x ≡ true → order.IsAtMost r.start x
-  half_open_from r x h = order.at_most r.start x (first_true (is_le (order.cmp r.start x)) (is_lt (order.cmp x r.end)) h)
+  half_open_from r x h = order.at_most r.start x (first_so (is_le (order.cmp r.start x)) (is_lt (order.cmp x r.end)) h)
 
   pub half_open_to : (r : Range K) (x : K) → (half_open order.cmp).holds r x ≡ true → order.IsBelow x r.end
-  half_open_to r x h = order.below x r.end (second_true (is_le (order.cmp r.start x)) (is_lt (order.cmp x r.end)) h)
+  half_open_to r x h = order.below x r.end (second_so (is_le (order.cmp r.start x)) (is_lt (order.cmp x r.end)) h)
 
   pub half_open_holds : (r : Range K) (x : K) → order.IsAtMost r.start x → order.IsBelow x r.end → (half_open order.cmp).holds r x ≡ true
-  half_open_holds r x from to = both_true (is_le (order.cmp r.start x)) (is_lt (order.cmp x r.end)) (order.by_at_most r.start x from) (order.by_below x r.end to)
+  half_open_holds r x from to = and_from (is_le (order.cmp r.start x)) (is_lt (order.cmp x r.end)) (order.by_at_most r.start x from) (order.by_below x r.end to)
 
   pub half_open_within : (r s : Range K) → IsStorable (half_open order.cmp) r → ((x : K) → Unit {0} → (half_open order.cmp).holds r x ≡ true → (half_open order.cmp).holds s x ≡ true) → order.IsAtMost r.end s.end
   half_open_within r s stored each =
@@ -238,13 +229,13 @@ pub record IsInterval {K : Type 0} (order : NumberOrder K) (is_key : K → Type 
 module _ {K : Type 0} (order : NumberOrder K) (is_key : K → Type 0) where
   -- the keys of such a range, by its two ends
   pub closed_from : (r : RangeInclusive K) (x : K) → (closed is_key order.cmp).holds r x ≡ true → order.IsAtMost (range_inclusive_start r) x
-  closed_from r x h = order.at_most (range_inclusive_start r) x (first_true (is_le (order.cmp (range_inclusive_start r) x)) (is_le (order.cmp x (range_inclusive_end r))) h)
+  closed_from r x h = order.at_most (range_inclusive_start r) x (first_so (is_le (order.cmp (range_inclusive_start r) x)) (is_le (order.cmp x (range_inclusive_end r))) h)
 
   pub closed_to : (r : RangeInclusive K) (x : K) → (closed is_key order.cmp).holds r x ≡ true → order.IsAtMost x (range_inclusive_end r)
-  closed_to r x h = order.at_most x (range_inclusive_end r) (second_true (is_le (order.cmp (range_inclusive_start r) x)) (is_le (order.cmp x (range_inclusive_end r))) h)
+  closed_to r x h = order.at_most x (range_inclusive_end r) (second_so (is_le (order.cmp (range_inclusive_start r) x)) (is_le (order.cmp x (range_inclusive_end r))) h)
 
   pub closed_holds : (r : RangeInclusive K) (x : K) → order.IsAtMost (range_inclusive_start r) x → order.IsAtMost x (range_inclusive_end r) → (closed is_key order.cmp).holds r x ≡ true
-  closed_holds r x from to = both_true (is_le (order.cmp (range_inclusive_start r) x)) (is_le (order.cmp x (range_inclusive_end r))) (order.by_at_most (range_inclusive_start r) x from) (order.by_at_most x (range_inclusive_end r) to)
+  closed_holds r x from to = and_from (is_le (order.cmp (range_inclusive_start r) x)) (is_le (order.cmp x (range_inclusive_end r))) (order.by_at_most (range_inclusive_start r) x from) (order.by_at_most x (range_inclusive_end r) to)
 
   -- a range `a..=b` that was not iterated may be stored
   pub closed_storable : (r : RangeInclusive K) → is_key (range_inclusive_start r) → is_key (range_inclusive_end r) → order.IsAtMost (range_inclusive_start r) (range_inclusive_end r) → range_inclusive_exhausted r ≡ false → IsStorable (closed is_key order.cmp) r

@@ -4,9 +4,9 @@ use Rattle.std.specs.Option.{option_eq}
 use Rattle.std.specs.Cmp.{IsTotalOrder, IsEquivalence}
 use Rattle.rangemap_core.specs.engine.Shape.{Shape, has_place, place_value, IsApart, IsSpaced}
 use Rattle.rangemap_core.specs.engine.Stretch.{Every}
-use Rattle.rangemap_core.proofs.AlikeLemmas.{same_itself, same_turned}
+use Rattle.rangemap_core.proofs.AlikeLemmas.{same_itself, same_turned, or_else}
 use Rattle.rangemap_core.proofs.JoinLemmas.{starts_rise}
-use Rattle.rangemap_core.proofs.PlaceOrderLemmas.{lt_le, tied_le, tied_ge, le_trans, lt_le_trans, le_lt_trans, lt_or_le, not_both}
+use Rattle.rangemap_core.proofs.PlaceOrderLemmas.{lt_le, tied_le, tied_ge, le_trans, lt_le_trans, le_lt_trans, lt_or_le, not_both, le_refl}
 use Rattle.rangemap_core.proofs.ListLemmas.{Every-map, holds_above, holds_at, value_below, value_above, value_past, value_before, value_here, value_skip, apart_from_all, IsApart-from_lt}
 
 pub Every-left : {X : Type 0} (Q : X → Type 0) (xs ys : List X) → Every Q (xs ++ ys) → Every Q xs
@@ -21,11 +21,6 @@ pub Every-all : {X : Type 0} (Q : X → Type 0) (xs : List X) → ((x : X) → Q
 Every-all Q [] f = tt
 Every-all Q (x ∷ xs) f = (f x, Every-all Q xs f)
 
--- the first of two options, or else the second
-abbrev or_else : {V : Type 0} → Option V → Option V → Option V
-or_else None n = n
-or_else (Some v) n = Some v
-
 module _ {V : Type 0} (same : V → V → Bool) (w : V) where
   none_is : (m : Option V) → m ≡ None → option_eq same m (Some w) ≡ true → ⊥
   none_is m e h = true≢false (sym h ∙ ap (λ u. option_eq same u (Some w)) e)
@@ -36,9 +31,6 @@ module _ {V : Type 0} (same : V → V → Bool) (w : V) where
 module _ {P : Type 0} {order : P → P → Ordering} (o : IsTotalOrder order) where
   tie : (x y : P) → is_gt (order x y) ≡ false → is_gt (order y x) ≡ false → order x y ≡ Equal
   tie x y h k = grind (arith, h, k, o.antisymm x y)
-
-  le_refl : (x : P) → is_gt (order x x) ≡ false
-  le_refl x = elim (lt_or_le o x x) [ inl l ↦ lt_le o x x l | inr k ↦ k ]
 
 module _ {G P V : Type 0} (s : Shape G P V) (o : IsTotalOrder s.order) (e : IsEquivalence s.same) where
   -- equal values beside a third

@@ -13,9 +13,10 @@ use Rattle.rangemap_core.specs.engine.Stretch.{Every}
 use Rattle.rangemap_core.proofs.JoinLemmas.{starts_rise}
 use Rattle.rangemap_core.proofs.PlaceLemmas.{S, places, to_spaced, covering_is}
 use Rattle.rangemap_core.proofs.StoredLemmas.{all_storable}
-use Rattle.rangemap_core.proofs.PlaceOrderLemmas.{less_from, le_trans, lt_le_trans, le_lt_trans, not_lt_ge}
+use Rattle.rangemap_core.proofs.PlaceOrderLemmas.{le_trans, lt_le_trans, le_lt_trans, not_lt_ge}
 use Rattle.rangemap_core.proofs.ListLemmas.{Every-append, Every-right, Every-map, apart_from_all, IsSpaced-left, IsSpaced-right, IsSpaced-cross}
 use Rattle.rangemap_core.proofs.SearchLemmas.{Every-at, Every-drop, around, covering_below, covering_above, covering_past}
+use Rattle.rangemap_core.specs.engine.EndpointKinds.{lt_is}
 use Rattle.rangemap_chunked.specs.Chunks.{AreFilled, IsClearBefore, IsClearBehind, AreChunks, IsPastBehind, IsPastStart, first_passes, chunk_below, chunk_by, starts_below, whole}
 use Rattle.rangemap_chunked.proofs.BorderLemmas.{Every-left}
 
@@ -80,12 +81,12 @@ module _ {G P V : Type 0} (s : Shape G P V) (o : IsTotalOrder s.order) (e : IsEq
 
   by_falls : (q : P) (a b : G × V) → s.order (s.start_place a.0) (s.start_place b.0) ≡ Less → starts_by s q b ≡ true → starts_by s q a ≡ true
   by_falls q a b l h = elim (cases_Bool (is_lt (s.order q (s.start_place a.0)))) [
-    | inl below ↦ let far : s.order q (s.start_place b.0) ≡ Less = o.trans q (s.start_place a.0) (s.start_place b.0) (less_from _ below) l in grind (arith, far, h)
+    | inl below ↦ let far : s.order q (s.start_place b.0) ≡ Less = o.trans q (s.start_place a.0) (s.start_place b.0) (lt_is _ below) l in grind (arith, far, h)
     | inr from ↦ grind (arith, from)
   ]
 
   below_falls : (q : P) (a b : G × V) → s.order (s.start_place a.0) (s.start_place b.0) ≡ Less → starts_below s q b ≡ true → starts_below s q a ≡ true
-  below_falls q a b l h = ap is_lt (o.trans (s.start_place a.0) (s.start_place b.0) q l (less_from _ h))
+  below_falls q a b l h = ap is_lt (o.trans (s.start_place a.0) (s.start_place b.0) q l (lt_is _ h))
 
   pub by_chunked : (q : P) (chunks : List (List (G × V))) → IsSpaced s (whole chunks) → AreFilled chunks → IsPartitionedBy (chunk_by s q) chunks
   by_chunked q = parts_chunked (starts_by s q) (by_falls q)
@@ -113,7 +114,7 @@ module _ {G P V : Type 0} (s : Shape G P V) (o : IsTotalOrder s.order) (e : IsEq
     clear_before r zero is point = tt
     clear_before r (suc m) is point =
         let a = first_at (suc m) (omega arith) in
-        let less : s.order (s.start_place a.0.0) (s.start_place r) ≡ Less = less_from _ (passed_first (starts_below s (s.start_place r)) (get_or chunks (suc m) []) a.0 a.1 true a.2 (point.0 (suc m) [] (omega arith) (omega arith))) in
+        let less : s.order (s.start_place a.0.0) (s.start_place r) ≡ Less = lt_is _ (passed_first (starts_below s (s.start_place r)) (get_or chunks (suc m) []) a.0 a.1 true a.2 (point.0 (suc m) [] (omega arith) (omega arith))) in
         Every-map _ _ (whole (take (suc m) chunks)) (λ b h. le_lt_trans o _ _ _ h less) (before_first chunks c (suc m) [] (omega arith) a.0 a.1 a.2)
 
     -- all pairs of a chunk pass what its first one passes

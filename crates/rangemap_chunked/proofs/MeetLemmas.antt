@@ -10,9 +10,10 @@ use Rattle.rangemap_core.specs.engine.Endpoints.{IsPlaced, EndpointOf, asked}
 use Rattle.rangemap_core.specs.engine.Places.{place_cmp}
 use Rattle.rangemap_core.specs.engine.Stretch.{Every}
 use Rattle.rangemap_core.proofs.PlaceLemmas.{S, places}
-use Rattle.rangemap_core.proofs.PlaceOrderLemmas.{le_lt_trans, less_from}
+use Rattle.rangemap_core.proofs.PlaceOrderLemmas.{le_lt_trans}
 use Rattle.rangemap_core.proofs.SearchLemmas.{Every-at}
 use Rattle.rangemap_core.proofs.StoredLemmas.{all_storable}
+use Rattle.rangemap_core.specs.engine.EndpointKinds.{lt_is}
 use Rattle.rangemap_chunked.specs.Chunks.{AreChunks, IsPastStart, chunk_below, starts_below, whole}
 use Rattle.rangemap_chunked.proofs.BorderLemmas.{Every-left}
 use Rattle.rangemap_chunked.proofs.ChunkLemmas.{Every-chunk, filled_is, passed_first}
@@ -29,7 +30,7 @@ module _ {K X : Type 0} {k : RangeKind K X} {end_place : X → Option K} {chunk 
       let all : Every (λ a. is_gt (place_cmp k.cmp (Some (k.start r)) (Some (k.start a.0))) ≡ false) (whole (get_or chunks (at + 1) [] ∷ drop (suc (at + 1)) chunks)) = subst (λ ps. Every (λ a. is_gt (place_cmp k.cmp (Some (k.start r)) (Some (k.start a.0))) ≡ false) (whole ps)) (drop-cons chunks (at + 1) [] l) past in
       let firsts : Every (λ a. is_gt (place_cmp k.cmp (Some (k.start r)) (Some (k.start a.0))) ≡ false) (b.0 ∷ b.1) = subst (Every (λ a. is_gt (place_cmp k.cmp (Some (k.start r)) (Some (k.start a.0))) ≡ false)) b.2 (Every-left _ xs (whole (drop (suc (at + 1)) chunks)) all) in
       let kept : Every (λ a. IsStorable k a.0) (b.0 ∷ b.1) = subst (Every (λ a. IsStorable k a.0)) b.2 (Every-chunk (λ a. IsStorable k a.0) chunks (all_storable k eq (whole chunks) h.canonical) (at + 1) [] l) in
-      let below : place_cmp k.cmp (Some (k.start b.0.0)) (end_place r) ≡ Less = less_from _ (passed_first (starts_below (S p eq) (end_place r)) xs b.0 b.1 true b.2 (begun more (at + 1) [] (omega arith) more)) in
+      let below : place_cmp k.cmp (Some (k.start b.0.0)) (end_place r) ≡ Less = lt_is _ (passed_first (starts_below (S p eq) (end_place r)) xs b.0 b.1 true b.2 (begun more (at + 1) [] (omega arith) more)) in
       let above : place_cmp k.cmp (Some (k.start r)) (end_place b.0.0) ≡ Less = le_lt_trans (places p eq) (Some (k.start r)) (Some (k.start b.0.0)) (end_place b.0.0) firsts.0 (p.non_empty b.0.0 kept.0) in
       let meets : k.meets r b.0.0 ≡ true = p.meets r b.0.0 (asked k r stored) kept.0 ∙ (λ i. is_lt (above i) && is_lt (below i)) in
       let empty : filter (λ (a : X × V). k.meets r a.0) (b.0 ∷ b.1) ≡ [] = subst (λ ys. filter (λ (a : X × V). k.meets r a.0) ys ≡ []) b.2 (none_in_chunk (λ (a : X × V). k.meets r a.0) chunks (at + 1) xs l (get_or_default chunks (at + 1) [] xs l) none) in

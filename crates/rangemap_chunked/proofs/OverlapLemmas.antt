@@ -4,6 +4,7 @@ use Rattle.std.proofs.lemmas.List.{drop-drop, get_or-drop, get_or-take, get_or_d
 use Rattle.std.proofs.lemmas.List.Elements.{filter-append}
 use Rattle.std.specs.List.{AllWithin, filter}
 use Rattle.std.specs.Cmp.{IsTotalOrder, IsEquivalence}
+use Rattle.std.proofs.Math.Bool.{and-false}
 use Rattle.rangemap_core.specs.Ranges.{RangeKind, IsStorable, overlapped}
 use Rattle.rangemap_core.specs.engine.Endpoints.{IsAsked, IsPlaced, EndpointOf}
 use Rattle.rangemap_core.specs.engine.Places.{place_cmp}
@@ -11,16 +12,13 @@ use Rattle.rangemap_core.specs.engine.Shape.{IsSpaced}
 use Rattle.rangemap_core.specs.engine.Stretch.{Every, starts_within}
 use Rattle.rangemap_core.proofs.ListLemmas.{Every-right, IsSpaced-right}
 use Rattle.rangemap_core.proofs.PlaceLemmas.{S, places}
-use Rattle.rangemap_core.proofs.PlaceOrderLemmas.{le_lt_trans, less_from, lt_le_trans}
+use Rattle.rangemap_core.proofs.PlaceOrderLemmas.{le_lt_trans, lt_le_trans}
 use Rattle.rangemap_core.proofs.SearchLemmas.{Every-at}
 use Rattle.rangemap_core.proofs.StoredLemmas.{all_storable}
+use Rattle.rangemap_core.specs.engine.EndpointKinds.{lt_is}
 use Rattle.rangemap_chunked.specs.Chunks.{IsClearBefore, AreChunks, IsPastBehind, IsPastStart, chunk_below, starts_below, whole}
 use Rattle.rangemap_chunked.proofs.BorderLemmas.{Every-left, Every-zip}
 use Rattle.rangemap_chunked.proofs.ChunkLemmas.{Every-chunk, Every-further, before_first, filled_is, passed_first, spaced_whole, whole_around}
-
-and_false : (b : Bool) → (b && false) ≡ false
-and_false true = refl
-and_false false = refl
 
 filter_all : {Y : Type 0} (f : Y → Bool) (ys : List Y) → Every (λ y. f y ≡ true) ys → filter f ys ≡ ys
 filter_all f [] h = refl
@@ -51,7 +49,7 @@ module _ {K X : Type 0} {k : RangeKind K X} {end_place : X → Option K} {chunk 
   behind_missed [] st m = refl
   behind_missed (a ∷ xs) st m =
       let late : is_lt (place_cmp k.cmp (Some (k.start a.0)) (end_place q)) ≡ false = grind (arith, m.0, o.antisymm (Some (k.start a.0)) (end_place q)) in
-      ap (λ b. cond b (a ∷ overlapped k xs q) (overlapped k xs q)) (p.meets q a.0 q_asked st.0 ∙ ap (λ b. is_lt (place_cmp k.cmp (Some (k.start q)) (end_place a.0)) && b) late ∙ and_false _) ∙ behind_missed xs st.1 m.1
+      ap (λ b. cond b (a ∷ overlapped k xs q) (overlapped k xs q)) (p.meets q a.0 q_asked st.0 ∙ ap (λ b. is_lt (place_cmp k.cmp (Some (k.start q)) (end_place a.0)) && b) late ∙ and-false _) ∙ behind_missed xs st.1 m.1
 
   stored : Every (λ a. IsStorable k a.0) (whole chunks)
   stored = all_storable k eq (whole chunks) h.canonical
@@ -115,7 +113,7 @@ module _ {K X : Type 0} {k : RangeKind K X} {end_place : X → Option K} {chunk 
 
     -- the last chunk starts before the query ends
     last_below : place_cmp k.cmp (Some (k.start first_of_last.0.0)) (end_place q) ≡ Less
-    last_below = let b = first_of_last in less_from _ (passed_first (starts_below (S p eq) (end_place q)) (get_or chunks last []) b.0 b.1 true b.2 (begun last [] (omega arith) (omega arith)))
+    last_below = let b = first_of_last in lt_is _ (passed_first (starts_below (S p eq) (end_place q)) (get_or chunks last []) b.0 b.1 true b.2 (begun last [] (omega arith) (omega arith)))
 
     -- and so do all pairs of the first one
     pub first_begun : Every (λ (a : X × V). starts_within (S p eq) q a ≡ true) (get_or chunks at [])

@@ -1,19 +1,15 @@
 -- A range that overlaps a stored one shares a point with it.
-use Rattle.std.proofs.Common.{arith, ◌≡◌, Bool, true, false, ◌&&◌, cond, List, [], ◌∷◌, Option, Some, None, option_map, refl, sym, ap, ◌∙◌, true≢false, Ordering, Less, Equal, Greater, is_lt, is_le}
+use Rattle.std.proofs.Common.{◌≡◌, Bool, true, false, ◌&&◌, cond, List, [], ◌∷◌, Option, Some, None, refl, sym, ap, ◌∙◌, true≢false, Ordering, Less, Equal, Greater, is_lt, is_le}
 use Rattle.std.specs.Option.{option_eq}
+use Rattle.std.specs.Cmp.{first_so, second_so}
 use Rattle.rangemap_core.specs.engine.Endpoints.{IsPlaced, EndpointOf, asked}
-use Rattle.rangemap_core.specs.Ranges.{RangeKind, IsStorable, IsCanonOf, covering, overlapped, value_at}
+use Rattle.rangemap_core.specs.Ranges.{RangeKind, IsStorable, IsCanonOf, overlapped, value_at}
 use Rattle.rangemap_core.specs.engine.Places.{place_cmp}
 use Rattle.rangemap_containers.specs.Histories.{IsUndefinedOn}
 use Rattle.rangemap_core.specs.engine.Stretch.{Every}
 use Rattle.rangemap_core.specs.laws.Orders.{itself, le_Equal, le_Less, turn}
 use Rattle.rangemap_core.proofs.StoredLemmas.{all_storable}
-
-first_true : (a b : Bool) → (a && b) ≡ true → a ≡ true
-first_true a b h = grind (arith, h)
-
-second_true : (a b : Bool) → (a && b) ≡ true → b ≡ true
-second_true a b h = grind (arith, h)
+use Rattle.rangemap_core.proofs.UniquenessLemmas.{value_cons}
 
 skipped : {V : Type 0} (b : Bool) (v : V) (o : Option V) → cond b (Some v) o ≡ None → (b ≡ false) × (o ≡ None)
 skipped true v o h = absurd (cc)
@@ -34,10 +30,10 @@ module _ {K X : Type 0} (k : RangeKind K X) {end_place : X → Option K} {part :
       both = sym (p.meets q r (asked k q sq) sr) ∙ h
 
       first : is_lt (place_cmp k.cmp (Some (k.start q)) (end_place r)) ≡ true
-      first = first_true (is_lt (place_cmp k.cmp (Some (k.start q)) (end_place r))) (is_lt (place_cmp k.cmp (Some (k.start r)) (end_place q))) both
+      first = first_so (is_lt (place_cmp k.cmp (Some (k.start q)) (end_place r))) (is_lt (place_cmp k.cmp (Some (k.start r)) (end_place q))) both
 
       second : is_lt (place_cmp k.cmp (Some (k.start r)) (end_place q)) ≡ true
-      second = second_true (is_lt (place_cmp k.cmp (Some (k.start q)) (end_place r))) (is_lt (place_cmp k.cmp (Some (k.start r)) (end_place q))) both
+      second = second_so (is_lt (place_cmp k.cmp (Some (k.start q)) (end_place r))) (is_lt (place_cmp k.cmp (Some (k.start r)) (end_place q))) both
 
       by : (o : Ordering) → k.cmp (k.start q) (k.start r) ≡ o → (x : K) × k.is_key x × (k.holds q x ≡ true) × (k.holds r x ≡ true)
       by Less e = (k.start r, sr.start_is_key, holds_by q (k.start r) sq sr.start_is_key (le_Less e) second, holds_start r sr)
@@ -45,20 +41,13 @@ module _ {K X : Type 0} (k : RangeKind K X) {end_place : X → Option K} {part :
       by Greater e = (k.start q, sq.start_is_key, holds_start q sq, holds_by r (k.start q) sr sq.start_is_key (le_Less (turn p.total e)) first)
 
   module _ {V : Type 0} where
-    value_cons : (a : X × V) (list : List (X × V)) (x : K) → value_at k (a ∷ list) x ≡ cond (k.holds a.0 x) (Some a.1) (value_at k list x)
-    value_cons a list x = go (k.holds a.0 x)
-      where
-        go : (b : Bool) → option_map (λ (q : X × V). q.1) (cond b (Some a) (covering k list x)) ≡ cond b (Some a.1) (option_map (λ (q : X × V). q.1) (covering k list x))
-        go true = refl
-        go false = refl
-
     -- a range on which the list's function is undefined overlaps no stored range
     undefined_meets_none : (list : List (X × V)) (r : X) → Every (λ a. IsStorable k a.0) list → IsStorable k r → IsUndefinedOn k (value_at k list) r → overlapped k list r ≡ []
     undefined_meets_none [] r s stored none = refl
     undefined_meets_none (a ∷ list) r s stored none = go (k.meets r a.0) refl (undefined_meets_none list r s.1 stored (λ x key h. (past x key h).1))
       where
         past : (x : K) → k.is_key x → k.holds r x ≡ true → (k.holds a.0 x ≡ false) × (value_at k list x ≡ None)
-        past x key h = skipped (k.holds a.0 x) a.1 (value_at k list x) (sym (value_cons a list x) ∙ none x key h)
+        past x key h = skipped (k.holds a.0 x) a.1 (value_at k list x) (sym (value_cons k a list x) ∙ none x key h)
 
         go : (b : Bool) → k.meets r a.0 ≡ b → overlapped k list r ≡ [] → cond b (a ∷ overlapped k list r) (overlapped k list r) ≡ []
         go true e rest = let x = shared r a.0 stored s.0 e in absurd (true≢false (sym x.3 ∙ (past x.0 x.1 x.2).0))

@@ -1,12 +1,13 @@
 -- What a set does, as a map with the value that says nothing.
-use Rattle.std.proofs.Common.{◌≡◌, suc, Bool, true, false, not, cond, ◌&&◌, ◌||◌, List, [], ◌∷◌, Option, Some, None, option_map, length, is_some, refl, sym, ap, ◌∙◌}
+use Rattle.std.proofs.Common.{◌≡◌, Bool, true, false, not, cond, ◌&&◌, ◌||◌, List, [], ◌∷◌, Option, Some, None, option_map, length, is_some, refl, sym, ap, ◌∙◌}
 use Rattle.std.proofs.Math.Bool.{or-false}
+use Rattle.std.proofs.lemmas.List.{length-map}
 use Rattle.std.specs.Bool.{⊤}
 use Rattle.rangemap_core.specs.Ranges.{RangeKind, IsCanonOf, IsCanonOfPoints, covering, covers, erase, nothing, overlapped, override, override_all, Overrides, unit_eq, value_at, with_unit}
 use Rattle.rangemap_core.specs.Operators.{common, either}
 use Rattle.rangemap_core.proofs.OperatorLemmas.{common_some, either_some}
 use Rattle.rangemap_core.specs.Sets.{Adds, AreCommon, AreEither, TakesOut, met, range_at, ranges}
-use Rattle.rangemap_core.proofs.UnitValueLemmas.{canon_of, covers_one, erased, overridden, ranges_met, ranges_with, value_covers}
+use Rattle.rangemap_core.proofs.UnitValueLemmas.{canon_of, covering_covers, covers_one, erased, overridden, ranges_met, ranges_with, value_covers}
 
 module _ {K X : Type 0} (k : RangeKind K X) where
   -- the key is in the set, said of the map that the set is
@@ -77,21 +78,10 @@ module _ {K X : Type 0} (k : RangeKind K X) where
   value_found rs x o h = ap (option_map (λ r. tt)) h ∙ sym (ap (option_map (λ (p : X × ⊤). p.1)) (covering_with rs x) ∙ unit_some (range_at k rs x))
 
   pub contains_with : (rs : List X) (x : K) → is_some (covering k (with_unit k rs) x) ≡ covers k rs x
-  contains_with [] x = refl
-  contains_with (r ∷ rs) x = by (contains_with rs x) (k.holds r x)
-    where
-      by : is_some (covering k (with_unit k rs) x) ≡ covers k rs x → (b : Bool) → is_some (cond b (Some (r, tt)) (covering k (with_unit k rs) x)) ≡ is_some (cond b (Some r) (range_at k rs x))
-      by rest true = refl
-      by rest false = rest
+  contains_with rs x = covering_covers k (with_unit k rs) x ∙ ap (λ ss. covers k ss x) (ranges_with k rs)
 
   pub count_with : (rs : List X) → length (with_unit k rs) ≡ length rs
-  count_with [] = refl
-  count_with (r ∷ rs) = ap (λ n. suc n) (count_with rs)
+  count_with rs = length-map rs (λ r. (r, tt))
 
   pub met_count : (rs : List X) (q : X) → length (overlapped k (with_unit k rs) q) ≡ length (met k rs q)
-  met_count [] q = refl
-  met_count (r ∷ rs) q = by (met_count rs q) (k.meets q r)
-    where
-      by : length (overlapped k (with_unit k rs) q) ≡ length (met k rs q) → (b : Bool) → length (cond b ((r, tt) ∷ overlapped k (with_unit k rs) q) (overlapped k (with_unit k rs) q)) ≡ length (cond b (r ∷ met k rs q) (met k rs q))
-      by rest true = ap suc rest
-      by rest false = rest
+  met_count rs q = sym (length-map (overlapped k (with_unit k rs) q) (λ p. p.0)) ∙ ap length (ranges_met k (with_unit k rs) q ∙ ap (λ ss. met k ss q) (ranges_with k rs))

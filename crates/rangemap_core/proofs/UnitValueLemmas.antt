@@ -4,6 +4,7 @@ use Rattle.std.specs.Bool.{⊤}
 use Rattle.std.specs.Option.{option_eq}
 use Rattle.rangemap_core.specs.Ranges.{RangeKind, IsCanonical, IsCanonOf, IsCanonOfPoints, IsNewest, covering, covers, erase, overlapped, override, unit_eq, value_at, with_unit}
 use Rattle.rangemap_core.specs.Sets.{Adds, IsCanonicalSet, TakesOut, met, range_at, ranges}
+use Rattle.rangemap_core.proofs.GapLemmas.{covers-cons}
 
 module _ {K X : Type 0} (k : RangeKind K X) where
   -- pairs are their ranges, with the value that says nothing
@@ -102,10 +103,6 @@ module _ {K X : Type 0} (k : RangeKind K X) where
       by true = refl
       by false = refl
 
-  or_false : (b : Bool) → (b || false) ≡ b
-  or_false true = refl
-  or_false false = refl
-
   pub covers_one : (r : X) (x : K) → covers k (r ∷ []) x ≡ k.holds r x
   covers_one r x = by (k.holds r x)
     where
@@ -131,16 +128,9 @@ module _ {K X : Type 0} (k : RangeKind K X) where
   pub adds_none : (old : List X) → IsCanonicalSet k old → Adds k old [] old
   adds_none old can = record { canonical = can; points = λ x key. refl }
 
-  covers_cons : (r : X) (rs : List X) (x : K) → covers k (r ∷ rs) x ≡ (k.holds r x || covers k rs x)
-  covers_cons r rs x = by (k.holds r x)
-    where
-      by : (b : Bool) → is_some (cond b (Some r) (range_at k rs x)) ≡ (b || covers k rs x)
-      by true = refl
-      by false = refl
-
   covers_last : (rs : List X) (r : X) (x : K) → covers k (rs ++ r ∷ []) x ≡ (k.holds r x || covers k rs x)
-  covers_last [] r x = covers_cons r [] x
-  covers_last (s ∷ rs) r x = covers_cons s (rs ++ r ∷ []) x ∙ ap (λ b. k.holds s x || b) (covers_last rs r x) ∙ or_swap (k.holds s x) (k.holds r x) (covers k rs x) ∙ ap (λ b. k.holds r x || b) (sym (covers_cons s rs x))
+  covers_last [] r x = covers-cons k r [] x
+  covers_last (s ∷ rs) r x = covers-cons k s (rs ++ r ∷ []) x ∙ ap (λ b. k.holds s x || b) (covers_last rs r x) ∙ or_swap (k.holds s x) (k.holds r x) (covers k rs x) ∙ ap (λ b. k.holds r x || b) (sym (covers-cons k s rs x))
 
   or_group : (a b c : Bool) → (a || (b || c)) ≡ ((a || b) || c)
   or_group true b c = refl

@@ -1,6 +1,6 @@
 -- What may stand behind the last pair of a canonical list, and so behind that of an equal one.
 use Rattle.std.proofs.Common.{arith, suc, ◌-◌, length, ◌≡◌, Bool, true, false, List, [], ◌∷◌, ◌++◌, Option, Some, refl, sym, ap, subst, ◌∙◌, true≢false, is_le}
-use Rattle.std.specs.Cmp.{IsEquivalence}
+use Rattle.std.specs.Cmp.{IsEquivalence, first_so, second_so}
 use Rattle.std.specs.List.{slice_get}
 use Rattle.rangemap_core.specs.Ranges.{RangeKind, IsStorable, IsCanonical, same_pair, same_pairs}
 use Rattle.rangemap_core.specs.engine.Endpoints.{EndpointOf, IsPlaced}
@@ -8,7 +8,6 @@ use Rattle.rangemap_core.specs.engine.Places.{place_cmp}
 use Rattle.rangemap_core.specs.laws.Orders.{itself}
 use Rattle.rangemap_formats.specs.Json.{EndsWith, Follows}
 use Rattle.rangemap_core.proofs.EqualListLemmas.{IsSamePair, from_same, same_gap}
-use Rattle.rangemap_core.proofs.UniquenessLemmas.{first_true, second_true}
 
 -- a list that is not empty ends with an item
 pub ends : {A : Type 0} (a : A) (rest : List A) → (last : A) × EndsWith (a ∷ rest) last
@@ -56,11 +55,11 @@ module _ {K X V : Type 0} (k : RangeKind K X) (eq : V → V → Bool) where
   -- the last pairs of equal lists are equal
   pub same_last : (front : List (X × V)) (last : X × V) (list : List (X × V)) → same_pairs k eq list (front ++ last ∷ []) ≡ true → (twin : X × V) × EndsWith list twin × IsSamePair k eq twin last
   same_last [] last [] h = absurd (true≢false (sym h))
-  same_last [] last (a ∷ []) h = (a, ([], refl), from_same k eq a last (first_true (same_pair k eq a last) true h))
-  same_last [] last (a ∷ b ∷ rest) h = absurd (true≢false (sym (second_true (same_pair k eq a last) false h)))
+  same_last [] last (a ∷ []) h = (a, ([], refl), from_same k eq a last (first_so (same_pair k eq a last) true h))
+  same_last [] last (a ∷ b ∷ rest) h = absurd (true≢false (sym (second_so (same_pair k eq a last) false h)))
   same_last (o ∷ front) last [] h = absurd (true≢false (sym h))
   same_last (o ∷ front) last (a ∷ list) h =
-      let r = same_last front last list (second_true (same_pair k eq a o) (same_pairs k eq list (front ++ last ∷ [])) h) in
+      let r = same_last front last list (second_so (same_pair k eq a o) (same_pairs k eq list (front ++ last ∷ [])) h) in
       (r.0, (a ∷ r.1.0, ap (λ xs. a ∷ xs) r.1.1), r.2)
 
 module _ {K X V : Type 0} (k : RangeKind K X) {end_place : X → Option K} {part : EndpointOf X → EndpointOf X → X} (p : IsPlaced k end_place part) (eq : V → V → Bool) (e : IsEquivalence eq) (a b : X × V) (same : IsSamePair k eq a b) (sa : IsStorable k a.0) (sb : IsStorable k b.0) (pair : X × V) (stored : IsStorable k pair.0) where

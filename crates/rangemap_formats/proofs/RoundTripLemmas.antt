@@ -1,8 +1,9 @@
 -- What is read of what was written, where the reader gives back equal parts.
-use Rattle.std.proofs.Common.{◌≡◌, ℕ, zero, suc, Bool, true, false, List, [], ◌∷◌, ◌++◌, take, Option, Some, Result, Ok, Err, Equal, refl, sym, ap, subst, ◌∙◌, is_le, true≢false, ◌&&◌}
+use Rattle.std.proofs.Common.{◌≡◌, ℕ, zero, suc, Bool, true, false, List, [], ◌∷◌, ◌++◌, take, Option, Some, Result, Ok, Err, Equal, refl, sym, ap, subst, ◌∙◌, is_le, true≢false}
 use Rattle.std.specs.Prelude.{⊤}
 use Rattle.std.specs.Cmp.{IsEquivalence}
 use Rattle.std.specs.List.{AllByRecursion, AllZip, slice_get}
+use Rattle.std.specs.Cmp.Derive.{both_true}
 use Rattle.serde_json.specs.declared.value.Value.{Value}
 use Rattle.rangemap_formats.specs.declared.json.Form.{Form}
 use Rattle.rangemap_formats.specs.declared.json.Form.TheVariants.{Any, Canonical}
@@ -23,9 +24,6 @@ use Rattle.rangemap_core.proofs.StoredLemmas.{all_storable}
 use Rattle.rangemap_core.proofs.EqualListLemmas.{IsSamePair, canonical_by_same, same_gap, to_same}
 use Rattle.rangemap_core.proofs.OwnPairLemmas.{own}
 use Rattle.rangemap_core.proofs.UniquenessLemmas.{canon_unique}
-
-and_true : {a b : Bool} → a ≡ true → b ≡ true → (a && b) ≡ true
-and_true p q i = p i && q i
 
 -- what is tied to an item
 tied : {A B : Type 0} (R : A → B → Type 0) (xs : List A) (ys : List B) (at : ℕ) (y : B) → AllZip R xs ys → slice_get ys at ≡ Some y → (x : A) × (slice_get xs at ≡ Some x) × R x y
@@ -134,7 +132,7 @@ module _ {K X V E F : Type 0} (k : RangeKind K X) {end_place : X → Option K} {
   same_front [] bs (v ∷ vs) (suc at) s h n = absurd h
   same_front (a ∷ ps) bs [] (suc at) s h n = absurd h
   same_front (a ∷ ps) [] (v ∷ vs) (suc at) s h n = absurd n
-  same_front (a ∷ ps) (b ∷ bs) (v ∷ vs) (suc at) s h n = and_true (to_same k eq a b (read_back a v h.0 s.0 b n.0)) (same_front ps bs vs at s.1 h.1 n.1)
+  same_front (a ∷ ps) (b ∷ bs) (v ∷ vs) (suc at) s h n = both_true (to_same k eq a b (read_back a v h.0 s.0 b n.0)) (same_front ps bs vs at s.1 h.1 n.1)
 
   same_all : (ps bs : List (X × V)) (vs : List Value) → Every (λ b. IsStorable k b.0) ps → AllZip (IsWritten k w) ps vs → AllZip (IsRead k r) bs vs → same_pairs k eq ps bs ≡ true
   same_all [] [] [] s h n = refl
@@ -142,7 +140,7 @@ module _ {K X V E F : Type 0} (k : RangeKind K X) {end_place : X → Option K} {
   same_all [] bs (v ∷ vs) s h n = absurd h
   same_all (a ∷ ps) bs [] s h n = absurd h
   same_all (a ∷ ps) [] (v ∷ vs) s h n = absurd n
-  same_all (a ∷ ps) (b ∷ bs) (v ∷ vs) s h n = and_true (to_same k eq a b (read_back a v h.0 s.0 b n.0)) (same_all ps bs vs s.1 h.1 n.1)
+  same_all (a ∷ ps) (b ∷ bs) (v ∷ vs) s h n = both_true (to_same k eq a b (read_back a v h.0 s.0 b n.0)) (same_all ps bs vs s.1 h.1 n.1)
 
   -- the list that is read equals the one that was written
   pub round_trip : (ps : List (X × V)) (v : Value) (form : Form) (list : List (X × V)) → IsCanonical k eq ps → IsForm k w ps v → IsReading k r eq form v list → same_pairs k eq ps list ≡ true

@@ -1,6 +1,6 @@
 -- What commands answer that are run on equal maps.
 use Rattle.std.proofs.Common.{arith, ◌≡◌, Bool, true, false, ◌&&◌, cond, List, [], ◌∷◌, ◌++◌, length, Option, Some, Result, Ok, Err, IsOk, Equal, refl, subst, sym, ◌∙◌, true≢false, is_lt}
-use Rattle.std.specs.Cmp.{IsEquivalence, alike_right}
+use Rattle.std.specs.Cmp.{IsEquivalence, alike_right, first_so, second_so}
 use Rattle.std.specs.Cmp.Lexicographic.{options_equiv}
 use Rattle.std.specs.List.{AllByRecursion, AllZip}
 use Rattle.std.specs.Option.{option_eq}
@@ -12,7 +12,7 @@ use Rattle.rangemap_core.specs.laws.Comparisons.{same_pairs_equiv}
 use Rattle.rangemap_core.specs.Ranges.{RangeKind, Alike, IsCanonOf, IsCanonical, IsStorable, covering, erase, overlapped, override, same_pair, same_pairs, value_at}
 use Rattle.rangemap_core.proofs.AlikeLemmas.{Alike-turned, canon_along, erase-alike, override-alike}
 use Rattle.rangemap_core.proofs.EqualListLemmas.{from_same}
-use Rattle.rangemap_core.proofs.UniquenessLemmas.{alike_from_same, canon_unique, first_true, same_points, second_true}
+use Rattle.rangemap_core.proofs.UniquenessLemmas.{alike_from_same, canon_unique, same_points}
 use Rattle.rangemap_laws.proofs.StoredKeyLemmas.{covering_holds}
 use Rattle.rangemap_laws.specs.declared.commands.command.Answer.{Answer}
 use Rattle.rangemap_laws.specs.declared.commands.command.Answer.TheVariants as answer
@@ -64,27 +64,27 @@ module _ {K X V : Type 0} (k : RangeKind K X) {end_place : X → Option K} {part
   same_overlapped q a [] (m ∷ ms) cl cm h = absurd (true≢false (sym h))
   same_overlapped q a (l ∷ ls) [] cl cm h = absurd (true≢false (sym h))
   same_overlapped q a (l ∷ ls) (m ∷ ms) cl cm h =
-      let here = first_true (same_pair k eq l m) (same_pairs k eq ls ms) h in
+      let here = first_so (same_pair k eq l m) (same_pairs k eq ls ms) h in
       let both = from_same k eq l m here in
       kept_alike (k.meets q l.0) (k.meets q m.0) l m (overlapped k ls q) (overlapped k ms q) (same_meets q l.0 m.0 a cl.0 cm.0 both.starts both.ends) here
-      (same_overlapped q a ls ms cl.2 cm.2 (second_true (same_pair k eq l m) (same_pairs k eq ls ms) h))
+      (same_overlapped q a ls ms cl.2 cm.2 (second_so (same_pair k eq l m) (same_pairs k eq ls ms) h))
 
   same_covering : (x : K) → k.is_key x → (ls ms : List (X × V)) → IsCanonical k eq ls → IsCanonical k eq ms → same_pairs k eq ls ms ≡ true → option_eq (same_pair k eq) (covering k ls x) (covering k ms x) ≡ true
   same_covering x key [] [] cl cm h = refl
   same_covering x key [] (m ∷ ms) cl cm h = absurd (true≢false (sym h))
   same_covering x key (l ∷ ls) [] cl cm h = absurd (true≢false (sym h))
   same_covering x key (l ∷ ls) (m ∷ ms) cl cm h =
-      let here = first_true (same_pair k eq l m) (same_pairs k eq ls ms) h in
+      let here = first_so (same_pair k eq l m) (same_pairs k eq ls ms) h in
       let both = from_same k eq l m here in
       found_alike (k.holds l.0 x) (k.holds m.0 x) l m (covering k ls x) (covering k ms x) (same_points k p l.0 m.0 x cl.0 cm.0 key both.starts both.ends) here
-      (same_covering x key ls ms cl.2 cm.2 (second_true (same_pair k eq l m) (same_pairs k eq ls ms) h))
+      (same_covering x key ls ms cl.2 cm.2 (second_so (same_pair k eq l m) (same_pairs k eq ls ms) h))
 
   equal_numbers : (ls ms : List (X × V)) → same_pairs k eq ls ms ≡ true → length ls ≡ length ms
   equal_numbers [] [] h = refl
   equal_numbers [] (m ∷ ms) h = absurd (true≢false (sym h))
   equal_numbers (l ∷ ls) [] h = absurd (true≢false (sym h))
   equal_numbers (l ∷ ls) (m ∷ ms) h =
-      let rest = equal_numbers ls ms (second_true (same_pair k eq l m) (same_pairs k eq ls ms) h) in
+      let rest = equal_numbers ls ms (second_so (same_pair k eq l m) (same_pairs k eq ls ms) h) in
       omega arith
 
   -- both lists are canonical, and equal

@@ -3,7 +3,8 @@
 use Rattle.std.proofs.Common.{arith, ◌≡◌, ◌≢◌, Bool, true, false, ◌&&◌, cond, List, [], ◌∷◌, map, length, nat_lt, Option, Some, None, option_map, is_some, refl, sym, ap, subst, ◌∙◌, true≢false, Ordering, Less, Equal, Greater, is_lt, is_le}
 use Rattle.std.proofs.lemmas.Bool.Decides.{nat_tests}
 use Rattle.std.specs.Option.{option_eq}
-use Rattle.std.specs.Cmp.{IsTotalOrder}
+use Rattle.std.specs.Cmp.{IsTotalOrder, first_so, second_so}
+use Rattle.std.proofs.lemmas.Bool.{and_from}
 use Rattle.rangemap_core.specs.Ranges.{RangeKind, IsCanonical, IsStorable, covering, covers, overlapped, value_at}
 use Rattle.rangemap_containers.specs.Histories.{IsUndefinedOn}
 use Rattle.rangemap_core.specs.engine.Endpoints.{IsPlaced, EndpointOf, asked}
@@ -11,19 +12,13 @@ use Rattle.rangemap_core.specs.engine.Places.{place_cmp}
 use Rattle.rangemap_core.specs.laws.Orders.{eq_eq, eq_lt, eq_turn, itself, le_Equal, le_Less, le_lt, lt_eq, lt_le, lt_lt, lt_not_le, turn}
 use Rattle.rangemap_core.specs.engine.PlacedKinds.{place_total}
 use Rattle.rangemap_core.specs.engine.EndpointKinds.{lt_is}
+use Rattle.rangemap_core.proofs.UniquenessLemmas.{value_cons}
 use Rattle.rangemap_laws.specs.DefinedIn.{IsDefinedIn}
 use Rattle.rangemap_laws.proofs.GapLemmas.{covered_is}
 
 -- ---- keys of a list
 
-value_here : {X V : Type 0} (b : Bool) (a : X × V) (rest : Option (X × V)) → option_map (λ (q : X × V). q.1) (cond b (Some a) rest) ≡ cond b (Some a.1) (option_map (λ (q : X × V). q.1) rest)
-value_here true a rest = refl
-value_here false a rest = refl
-
 module _ {K X V : Type 0} (k : RangeKind K X) where
-  pub value_cons : (a : X × V) (list : List (X × V)) (x : K) → value_at k (a ∷ list) x ≡ cond (k.holds a.0 x) (Some a.1) (value_at k list x)
-  value_cons a list x = value_here (k.holds a.0 x) a (covering k list x)
-
   some_mapped : (o : Option (X × V)) → is_some o ≡ is_some (option_map (λ (q : X × V). q.1) o)
   some_mapped None = refl
   some_mapped (Some a) = refl
@@ -34,28 +29,19 @@ module _ {K X V : Type 0} (k : RangeKind K X) where
 
 -- ---- places
 
-pub first_true : (a b : Bool) → (a && b) ≡ true → a ≡ true
-first_true a b h = grind (arith, h)
-
-pub second_true : (a b : Bool) → (a && b) ≡ true → b ≡ true
-second_true a b h = grind (arith, h)
-
-pub both_true : (a b : Bool) → a ≡ true → b ≡ true → (a && b) ≡ true
-both_true a b h j = grind (arith, h, j)
-
 module _ {K X : Type 0} {k : RangeKind K X} {end_place : X → Option K} {part : EndpointOf X → EndpointOf X → X} (p : IsPlaced k end_place part) where
   o : IsTotalOrder (place_cmp k.cmp)
   o = place_total p.total
 
-  -- a key of a range lies from its start up to its end_place place, and such a key is one of it
+  -- a key of a range lies from its start up to its end place, and such a key is one of it
   pub from_start : (r : X) (x : K) → IsStorable k r → k.is_key x → k.holds r x ≡ true → is_le (k.cmp (k.start r) x) ≡ true
-  from_start r x stored key h = first_true (is_le (k.cmp (k.start r) x)) (is_lt (place_cmp k.cmp (Some x) (end_place r))) (sym (p.holds r x (asked k r stored) key) ∙ h)
+  from_start r x stored key h = first_so (is_le (k.cmp (k.start r) x)) (is_lt (place_cmp k.cmp (Some x) (end_place r))) (sym (p.holds r x (asked k r stored) key) ∙ h)
 
   pub below_end_place : (r : X) (x : K) → IsStorable k r → k.is_key x → k.holds r x ≡ true → place_cmp k.cmp (Some x) (end_place r) ≡ Less
-  below_end_place r x stored key h = lt_is (place_cmp k.cmp (Some x) (end_place r)) (second_true (is_le (k.cmp (k.start r) x)) (is_lt (place_cmp k.cmp (Some x) (end_place r))) (sym (p.holds r x (asked k r stored) key) ∙ h))
+  below_end_place r x stored key h = lt_is (place_cmp k.cmp (Some x) (end_place r)) (second_so (is_le (k.cmp (k.start r) x)) (is_lt (place_cmp k.cmp (Some x) (end_place r))) (sym (p.holds r x (asked k r stored) key) ∙ h))
 
   pub holds_between : (r : X) (x : K) → IsStorable k r → k.is_key x → is_le (k.cmp (k.start r) x) ≡ true → place_cmp k.cmp (Some x) (end_place r) ≡ Less → k.holds r x ≡ true
-  holds_between r x stored key from to = p.holds r x (asked k r stored) key ∙ both_true (is_le (k.cmp (k.start r) x)) (is_lt (place_cmp k.cmp (Some x) (end_place r))) from (ap is_lt to)
+  holds_between r x stored key from to = p.holds r x (asked k r stored) key ∙ and_from (is_le (k.cmp (k.start r) x)) (is_lt (place_cmp k.cmp (Some x) (end_place r))) from (ap is_lt to)
 
   -- its start is a key of it
   pub holds_start : (r : X) → IsStorable k r → k.holds r (k.start r) ≡ true
@@ -66,7 +52,7 @@ module _ {K X : Type 0} {k : RangeKind K X} {end_place : X → Option K} {part :
   false_by false h = refl
 
   not_below_start : (r : X) (x : K) → IsStorable k r → k.is_key x → k.cmp x (k.start r) ≡ Less → k.holds r x ≡ false
-  not_below_start r x stored key start_place = false_by (k.holds r x) (λ h. true≢false (sym (from_start r x stored key h) ∙ lt_not_le p.total {a = x} {b = k.start r} start_place))
+  not_below_start r x stored key early = false_by (k.holds r x) (λ h. true≢false (sym (from_start r x stored key h) ∙ lt_not_le p.total {a = x} {b = k.start r} early))
 
   not_from_end_place : (r : X) (x : K) → IsStorable k r → k.is_key x → is_le (place_cmp k.cmp (end_place r) (Some x)) ≡ true → k.holds r x ≡ false
   not_from_end_place r x stored key up = false_by (k.holds r x) (λ h. true≢false (sym up ∙ lt_not_le o {a = Some x} {b = end_place r} (below_end_place r x stored key h)))
@@ -77,7 +63,7 @@ module _ {K X : Type 0} {k : RangeKind K X} {end_place : X → Option K} {part :
   pub meets_where_shared : (q r : X) (x : K) → IsStorable k q → IsStorable k r → k.is_key x → k.holds q x ≡ true → k.holds r x ≡ true → k.meets q r ≡ true
   meets_where_shared q r x sq sr key h j =
       p.meets q r (asked k q sq) sr
-      ∙ both_true (is_lt (place_cmp k.cmp (Some (k.start q)) (end_place r))) (is_lt (place_cmp k.cmp (Some (k.start r)) (end_place q)))
+      ∙ and_from (is_lt (place_cmp k.cmp (Some (k.start q)) (end_place r))) (is_lt (place_cmp k.cmp (Some (k.start r)) (end_place q)))
       (ap is_lt (le_lt o {a = Some (k.start q)} {b = Some x} {c = end_place r} (from_start q x sq key h) (below_end_place r x sr key j)))
       (ap is_lt (le_lt o {a = Some (k.start r)} {b = Some x} {c = end_place q} (from_start r x sr key j) (below_end_place q x sq key h)))
 
@@ -89,10 +75,10 @@ module _ {K X : Type 0} {k : RangeKind K X} {end_place : X → Option K} {part :
       both = sym (p.meets q r (asked k q sq) sr) ∙ h
 
       first : place_cmp k.cmp (Some (k.start q)) (end_place r) ≡ Less
-      first = lt_is (place_cmp k.cmp (Some (k.start q)) (end_place r)) (first_true (is_lt (place_cmp k.cmp (Some (k.start q)) (end_place r))) (is_lt (place_cmp k.cmp (Some (k.start r)) (end_place q))) both)
+      first = lt_is (place_cmp k.cmp (Some (k.start q)) (end_place r)) (first_so (is_lt (place_cmp k.cmp (Some (k.start q)) (end_place r))) (is_lt (place_cmp k.cmp (Some (k.start r)) (end_place q))) both)
 
       second : place_cmp k.cmp (Some (k.start r)) (end_place q) ≡ Less
-      second = lt_is (place_cmp k.cmp (Some (k.start r)) (end_place q)) (second_true (is_lt (place_cmp k.cmp (Some (k.start q)) (end_place r))) (is_lt (place_cmp k.cmp (Some (k.start r)) (end_place q))) both)
+      second = lt_is (place_cmp k.cmp (Some (k.start r)) (end_place q)) (second_so (is_lt (place_cmp k.cmp (Some (k.start q)) (end_place r))) (is_lt (place_cmp k.cmp (Some (k.start r)) (end_place q))) both)
 
       by : (c : Ordering) → k.cmp (k.start q) (k.start r) ≡ c → (x : K) × k.is_key x × (k.holds q x ≡ true) × (k.holds r x ≡ true)
       by Less e = (k.start r, sr.start_is_key, holds_between q (k.start r) sq sr.start_is_key (le_Less e) second, holds_start r sr)
@@ -176,16 +162,16 @@ module _ {K X : Type 0} {k : RangeKind K X} {end_place : X → Option K} {part :
   module _ {V : Type 0} (eq : V → V → Bool) where
     -- nothing is stored before the first range
     pub none_before : (a : X × V) (list : List (X × V)) (x : K) → IsCanonical k eq (a ∷ list) → k.is_key x → k.cmp x (k.start a.0) ≡ Less → covering k (a ∷ list) x ≡ None
-    none_before a [] x can key start_place = ap (λ b. cond b (Some a) None) (not_below_start a.0 x can.0 key start_place)
-    none_before a (b ∷ list) x can key start_place =
-        ap (λ t. cond t (Some a) (covering k (b ∷ list) x)) (not_below_start a.0 x can.0 key start_place)
+    none_before a [] x can key early = ap (λ b. cond b (Some a) None) (not_below_start a.0 x can.0 key early)
+    none_before a (b ∷ list) x can key early =
+        ap (λ t. cond t (Some a) (covering k (b ∷ list) x)) (not_below_start a.0 x can.0 key early)
         ∙ none_before b list x can.2 key
-        (lt_le o {a = Some x} {b = end_place a.0} {c = Some (k.start b.0)} (lt_lt o {a = Some x} {b = Some (k.start a.0)} {c = end_place a.0} start_place (p.non_empty a.0 can.0)) (p.before a.0 b.0 can.0 can.2.0 can.1.0))
+        (lt_le o {a = Some x} {b = end_place a.0} {c = Some (k.start b.0)} (lt_lt o {a = Some x} {b = Some (k.start a.0)} {c = end_place a.0} early (p.non_empty a.0 can.0)) (p.before a.0 b.0 can.0 can.2.0 can.1.0))
 
     -- nor is anything of the rest before the end of the first
     rest_behind : (a : X × V) (list : List (X × V)) (x : K) → IsCanonical k eq (a ∷ list) → k.is_key x → place_cmp k.cmp (Some x) (end_place a.0) ≡ Less → covering k list x ≡ None
-    rest_behind a [] x can key start_place = refl
-    rest_behind a (b ∷ list) x can key start_place = none_before b list x can.2 key (lt_le o {a = Some x} {b = end_place a.0} {c = Some (k.start b.0)} start_place (p.before a.0 b.0 can.0 can.2.0 can.1.0))
+    rest_behind a [] x can key within = refl
+    rest_behind a (b ∷ list) x can key within = none_before b list x can.2 key (lt_le o {a = Some x} {b = end_place a.0} {c = Some (k.start b.0)} within (p.before a.0 b.0 can.0 can.2.0 can.1.0))
 
     -- the range that has a key is a stored one, and has it
     pub covering_holds : (list : List (X × V)) (a : X × V) (x : K) → IsCanonical k eq list → covering k list x ≡ Some a → IsStorable k a.0 × (k.holds a.0 x ≡ true)

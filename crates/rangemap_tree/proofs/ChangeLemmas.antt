@@ -11,7 +11,7 @@ use Rattle.rangemap_core.specs.engine.Shape.{IsPlaceOverride, IsSpaced}
 use Rattle.rangemap_core.specs.engine.Stretch.{Every, IsLeftPart, IsRightPart}
 use Rattle.rangemap_core.proofs.PlaceLemmas.{to_spaced, to_newest, to_override, to_erase}
 use Rattle.rangemap_core.proofs.StoredLemmas.{all_storable}
-use Rattle.rangemap_core.proofs.JoinLemmas.{joined_canonical, joined_overrides}
+use Rattle.rangemap_core.proofs.JoinLemmas.{joined_spaced, joined_overrides}
 use Rattle.rangemap_core.proofs.ListLemmas.{Every-map, Every-right}
 use Rattle.rangemap_core.proofs.InsertPartLemmas.{before_first}
 use Rattle.rangemap_core.proofs.PlaceOrderLemmas.{le_trans, lt_le_trans, le_lt_trans}
@@ -141,7 +141,7 @@ module _ {K V : Type 0} {cmp : K → K → Ordering} (o : IsTotalOrder cmp) (eq 
       past_at = right.past_end m.end high_tie
 
       new_spaced : IsSpaced (shape cmp eq) (recut cut (before cmp m.start ps) ++ (m, v) ∷ (piece_list piece ++ from cmp m.end ps))
-      new_spaced = joined_canonical (shape cmp eq) (place_total o) e ps (recut cut (before cmp m.start ps)) (piece_list piece ++ from cmp m.end ps) r m v left_part right_part full
+      new_spaced = joined_spaced (shape cmp eq) (place_total o) e ps (recut cut (before cmp m.start ps)) (piece_list piece ++ from cmp m.end ps) r m v left_part right_part full
 
       overrides : IsPlaceOverride (shape cmp eq) ps (recut cut (before cmp m.start ps) ++ (m, v) ∷ (piece_list piece ++ from cmp m.end ps)) (r, v)
       overrides = joined_overrides (shape cmp eq) (place_total o) e ps (recut cut (before cmp m.start ps)) (piece_list piece ++ from cmp m.end ps) r m v left_part right_part full

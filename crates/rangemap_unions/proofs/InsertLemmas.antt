@@ -1,18 +1,21 @@
 -- What a set has that is made of items by inserts.
 use Rattle.std.proofs.Common.{◌≡◌, ◌⊎◌, inl, inr, Bool, true, false, ◌&&◌, ◌||◌, List, [], ◌∷◌, ◌++◌, Some, sym, ◌∙◌, ap, refl, subst, true≢false, Ordering, Less, Equal, Greater, is_lt, is_le, is_eq}
 use Rattle.std.specs.Bool.{⊤}
-use Rattle.std.proofs.Math.Bool.{or_comm}
+use Rattle.std.proofs.Math.Bool.{or_comm, or-false}
 use Rattle.std.proofs.lemmas.List.Folds.{list_any-append}
-use Rattle.std.specs.Cmp.{alike_right, both_ways}
+use Rattle.std.specs.Cmp.{alike_right, both_ways, first_so, second_so}
 use Rattle.std.specs.List.{AllByRecursion, list_all, list_any}
-use Rattle.rangemap_core.specs.operations.PlaceLaws.{HasPlaces, lt_true}
+use Rattle.std.specs.Cmp.Derive.{both_true}
+use Rattle.rangemap_core.specs.operations.PlaceLaws.{HasPlaces}
 use Rattle.rangemap_core.specs.operations.Places.{RangePlaces}
-use Rattle.rangemap_core.specs.laws.Orders.{eq_eq, eq_lt, eq_turn, le_Equal, lt_le}
+use Rattle.rangemap_core.specs.laws.Orders.{eq_eq, eq_lt, eq_turn, le_Equal, lt_le, le_through}
 use Rattle.rangemap_core.specs.MadeRanges.{TakesRange}
 use Rattle.rangemap_core.specs.Ranges.{RangeKind, IsStorable, covers}
 use Rattle.rangemap_core.specs.Sets.{Adds, AreHulls, IsHull, IsCanonicalSet, is_within}
 use Rattle.rangemap_core.proofs.UnitValueLemmas.{covers_one}
-use Rattle.rangemap_unions.proofs.PlaceLemmas.{and_true, and_first, and_second, covers_any, covers_cons, le_le, or_first, or_second}
+use Rattle.rangemap_core.specs.engine.EndpointKinds.{lt_is}
+use Rattle.rangemap_core.proofs.GapLemmas.{covers-cons}
+use Rattle.rangemap_unions.proofs.PlaceLemmas.{covers_any, or_first, or_second}
 
 -- a test of some element that the other test passes wherever this one does
 list_any-map : {X : Type 0} (Q : X → Type 0) (f g : X → Bool) → ((x : X) → Q x → f x ≡ true → g x ≡ true) → (xs : List X) → AllByRecursion Q xs → list_any f xs ≡ true → list_any g xs ≡ true
@@ -43,17 +46,17 @@ module _ {K X P : Type 0} {k : RangeKind K X} {l : RangePlaces P X} {at cut : K 
           → list_any (λ r. k.holds r x) given ≡ true
       by (inl at_start) = list_any-map (IsStorable k) (λ r. is_within k item r && is_eq (k.cmp (k.start item) (k.start r))) (λ r. k.holds r x)
           (λ r r-stored both.
-          let starts = eq_eq p.total at_start (sym (p.starts item r) ∙ eq_true _ (and_second _ _ both)) in
-          p.holds r x ∙ and_true (le_Equal (eq_turn p.total starts)) (ap is_lt (eq_lt p.total starts (p.non_empty r r-stored.non_empty))))
+          let starts = eq_eq p.total at_start (sym (p.starts item r) ∙ eq_true _ (second_so _ _ both)) in
+          p.holds r x ∙ both_true (le_Equal (eq_turn p.total starts)) (ap is_lt (eq_lt p.total starts (p.non_empty r r-stored.non_empty))))
           given stored hull.starts
       by (inr (inl at_end)) = list_any-map (IsStorable k) (λ r. is_within k item r && is_eq (k.cmp (k.end item) (k.end r))) (λ r. k.holds r x)
-          (λ r r-stored both. at_end r r-stored.non_empty (sym (p.ends item r) ∙ eq_true _ (and_second _ _ both)))
+          (λ r r-stored both. at_end r r-stored.non_empty (sym (p.ends item r) ∙ eq_true _ (second_so _ _ both)))
           given stored hull.ends
       by (inr (inr inside)) = list_any-map (IsStorable k) (λ r. k.is_cut r x) (λ r. k.holds r x) (λ r _ crossing. p.cut_held r x crossing) given stored (hull.uncut x key inside)
 
   items_covered : (given items : List X) (x : K) → AllByRecursion (IsStorable k) given → AllByRecursion (IsHull k given) items → k.is_key x → covers k items x ≡ true → covers k given x ≡ true
   items_covered given [] x stored hulls key h = absurd (true≢false (sym h))
-  items_covered given (item ∷ items) x stored hulls key h = by (k.holds item x) refl (sym (covers_cons k item items x) ∙ h) (λ w. items_covered given items x stored hulls.1 key w)
+  items_covered given (item ∷ items) x stored hulls key h = by (k.holds item x) refl (sym (covers-cons k item items x) ∙ h) (λ w. items_covered given items x stored hulls.1 key w)
     where
       by : (b : Bool) → k.holds item x ≡ b → (b || covers k items x) ≡ true → (covers k items x ≡ true → covers k given x ≡ true) → covers k given x ≡ true
       by true e w later = item_covered given item x stored hulls.0 key e
@@ -64,16 +67,16 @@ module _ {K X P : Type 0} {k : RangeKind K X} {l : RangePlaces P X} {at cut : K 
   within_holds item r x here inside =
       let both = sym (p.holds r x) ∙ here in
       p.holds item x
-      ∙ and_true
-      (le_le p _ _ _ (sym (ap is_le (p.starts item r)) ∙ and_first _ _ inside) (and_first _ _ both))
-      (ap is_lt (lt_le p.total (lt_true _ (and_second _ _ both)) (sym (ap is_le (p.ends r item)) ∙ and_second _ _ inside)))
+      ∙ both_true
+      (le_through p.total _ _ _ (sym (ap is_le (p.starts item r)) ∙ first_so _ _ inside) (first_so _ _ both))
+      (ap is_lt (lt_le p.total (lt_is _ (second_so _ _ both)) (sym (ap is_le (p.ends r item)) ∙ second_so _ _ inside)))
 
   given_covered : (items given : List X) (x : K) → list_all (λ r. list_any (λ item. is_within k item r) items) given ≡ true → covers k given x ≡ true → covers k items x ≡ true
   given_covered items [] x all h = absurd (true≢false (sym h))
-  given_covered items (r ∷ rest) x all h = by (k.holds r x) refl (sym (covers_cons k r rest x) ∙ h) (λ w. given_covered items rest x (and_second _ _ all) w)
+  given_covered items (r ∷ rest) x all h = by (k.holds r x) refl (sym (covers-cons k r rest x) ∙ h) (λ w. given_covered items rest x (second_so _ _ all) w)
     where
       by : (b : Bool) → k.holds r x ≡ b → (b || covers k rest x) ≡ true → (covers k rest x ≡ true → covers k items x ≡ true) → covers k items x ≡ true
-      by true e w later = covers_any k items x ∙ list_any-map (λ _. ⊤) (λ item. is_within k item r) (λ item. k.holds item x) (λ item _ inside. within_holds item r x e inside) items (every items) (and_first _ _ all)
+      by true e w later = covers_any k items x ∙ list_any-map (λ _. ⊤) (λ item. is_within k item r) (λ item. k.holds item x) (λ item _ inside. within_holds item r x e inside) items (every items) (first_so _ _ all)
         where
           every : (ys : List X) → AllByRecursion (λ _. ⊤) ys
           every [] = tt
@@ -109,7 +112,7 @@ module _ {K X P : Type 0} {k : RangeKind K X} {l : RangePlaces P X} {at cut : K 
         ap (λ b. covers k new x || b) (added.points x key ∙ ap (λ b. b || covers k all x) (covers_one k range x))
         ∙ swapped (covers k new x) (k.holds range x) (covers k all x)
         ∙ ap (λ b. (b || covers k new x) || covers k all x) (sym (same_held item range x starts ends))
-        ∙ ap (λ b. b || covers k all x) (sym (covers_cons k item new x))
+        ∙ ap (λ b. b || covers k all x) (sym (covers-cons k item new x))
         ∙ ap (λ rs. covers k rs x || covers k all x) (sym taken.1)
         ∙ so_far.1 x key,
   )
@@ -123,15 +126,11 @@ module _ {K X P : Type 0} {k : RangeKind K X} {l : RangePlaces P X} {at cut : K 
       ends : k.cmp (k.end item) (k.end range) ≡ Equal
       ends = p.ends item range ∙ sym (q.ends item range) ∙ taken.2.ends
 
-  or_false : (b : Bool) → (b || false) ≡ b
-  or_false true = refl
-  or_false false = refl
-
   -- no item was put in yet
   pub gathered_first : (test : K → Bool) (items old : List X) → old ≡ [] → ((x : K) → k.is_key x → covers k items x ≡ test x) → IsGathered k test items old
   gathered_first test items old none same = (
     subst (IsCanonicalSet k) (sym none) tt,
-    λ x key. ap (λ rs. covers k items x || covers k rs x) none ∙ or_false (covers k items x) ∙ same x key,
+    λ x key. ap (λ rs. covers k items x || covers k rs x) none ∙ or-false (covers k items x) ∙ same x key,
   )
 
   covers_append : (ps qs : List X) (x : K) → covers k (ps ++ qs) x ≡ (covers k ps x || covers k qs x)

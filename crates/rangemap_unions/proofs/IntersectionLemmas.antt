@@ -1,13 +1,18 @@
 -- The items of an intersection are the canonical list of the common points.
 use Rattle.std.proofs.Common.{◌≡◌, Bool, true, false, ◌&&◌, ◌||◌, cond, List, [], ◌∷◌, sym, ◌∙◌, ap, subst, refl, true≢false, Less, is_lt, is_le}
+use Rattle.std.proofs.Math.Bool.{and-false}
 use Rattle.std.specs.Bool.{⊤}
-use Rattle.rangemap_core.specs.operations.PlaceLaws.{HasPlaces, lt_true}
+use Rattle.std.specs.Cmp.{first_so, second_so}
+use Rattle.std.specs.Cmp.Derive.{both_true}
+use Rattle.rangemap_core.specs.operations.PlaceLaws.{HasPlaces}
 use Rattle.rangemap_unions.specs.Items.{reaches, earlier_end, later_start, with_common, intersection_items}
 use Rattle.rangemap_core.specs.operations.Places.{RangePlaces}
-use Rattle.rangemap_core.specs.laws.Orders.{le_Less, le_Equal, le_lt, lt_le, lt_lt, itself, not_lt, lt_not_le}
+use Rattle.rangemap_core.specs.laws.Orders.{le_Less, le_Equal, le_lt, lt_le, lt_lt, itself, not_lt, lt_not_le, le_through}
 use Rattle.rangemap_core.specs.Ranges.{RangeKind, IsStorable, IsCanonical, IsFollowedBy, covers, unit_eq, with_unit}
 use Rattle.rangemap_core.specs.Sets.{AreCommon}
-use Rattle.rangemap_unions.proofs.PlaceLemmas.{and_first, and_second, and_true, chosen, decided, covers_cons, le_le, reached, unreached}
+use Rattle.rangemap_core.specs.engine.EndpointKinds.{lt_is}
+use Rattle.rangemap_core.proofs.GapLemmas.{covers-cons}
+use Rattle.rangemap_unions.proofs.PlaceLemmas.{chosen, decided, reached, unreached}
 
 -- p and q hold the key, or one of what follows them, and no later q where p does
 common_left : (p ps q qs : Bool) → (p ≡ true → qs ≡ false) → ((p && q) || (ps && (q || qs))) ≡ ((p || ps) && (q || qs))
@@ -54,13 +59,13 @@ module _ {K X P : Type 0} {k : RangeKind K X} {l : RangePlaces P X} {at cut : K 
   -- where the key is, by the starts and the ends of two ranges
   from_later : (a b : X) (q : P) → is_le (l.order (l.start_place (later_start l a b)) q) ≡ (is_le (l.order (l.start_place a) q) && is_le (l.order (l.start_place b) q))
   from_later a b q = decided (λ c. is_le (l.order (l.start_place c) q) ≡ (is_le (l.order (l.start_place a) q) && is_le (l.order (l.start_place b) q))) (is_lt (l.order (l.start_place a) (l.start_place b)))
-      (λ e. sym (implied_and (is_le (l.order (l.start_place a) q)) (is_le (l.order (l.start_place b) q)) (λ h. le_le p _ _ _ (le_Less (lt_true _ e)) h)))
-      (λ e. sym (and_implied (is_le (l.order (l.start_place a) q)) (is_le (l.order (l.start_place b) q)) (λ h. le_le p _ _ _ (not_lt p.total (l.start_place a) (l.start_place b) e) h)))
+      (λ e. sym (implied_and (is_le (l.order (l.start_place a) q)) (is_le (l.order (l.start_place b) q)) (λ h. le_through p.total _ _ _ (le_Less (lt_is _ e)) h)))
+      (λ e. sym (and_implied (is_le (l.order (l.start_place a) q)) (is_le (l.order (l.start_place b) q)) (λ h. le_through p.total _ _ _ (not_lt p.total (l.start_place a) (l.start_place b) e) h)))
 
   up_to_earlier : (a b : X) (q : P) → is_lt (l.order q (l.end_place (earlier_end l a b))) ≡ (is_lt (l.order q (l.end_place a)) && is_lt (l.order q (l.end_place b)))
   up_to_earlier a b q = decided (λ c. is_lt (l.order q (l.end_place c)) ≡ (is_lt (l.order q (l.end_place a)) && is_lt (l.order q (l.end_place b)))) (is_lt (l.order (l.end_place a) (l.end_place b)))
-      (λ e. sym (and_implied (is_lt (l.order q (l.end_place a))) (is_lt (l.order q (l.end_place b))) (λ h. ap is_lt (lt_le p.total (lt_true _ h) (le_Less (lt_true _ e))))))
-      (λ e. sym (implied_and (is_lt (l.order q (l.end_place a))) (is_lt (l.order q (l.end_place b))) (λ h. ap is_lt (lt_le p.total (lt_true _ h) (not_lt p.total (l.end_place a) (l.end_place b) e)))))
+      (λ e. sym (and_implied (is_lt (l.order q (l.end_place a))) (is_lt (l.order q (l.end_place b))) (λ h. ap is_lt (lt_le p.total (lt_is _ h) (le_Less (lt_is _ e))))))
+      (λ e. sym (implied_and (is_lt (l.order q (l.end_place a))) (is_lt (l.order q (l.end_place b))) (λ h. ap is_lt (lt_le p.total (lt_is _ h) (not_lt p.total (l.end_place a) (l.end_place b) e)))))
 
   -- ranges of which the later start comes before the earlier end reach one another
   pub both_reached : (a b first last : X) → first ≡ later_start l a b → last ≡ earlier_end l a b → reaches l last first ≡ true → (reaches l a b && reaches l b a) ≡ true
@@ -70,9 +75,9 @@ module _ {K X P : Type 0} {k : RangeKind K X} {l : RangePlaces P X} {at cut : K 
       sym (ap (λ r. reaches l r first) ends ∙ ap (λ r. reaches l (earlier_end l a b) r) starts) ∙ h in
       let behind : (is_le (l.order (l.start_place a) q) && is_le (l.order (l.start_place b) q)) ≡ true = sym (from_later a b q) ∙ le_Equal (itself p.total q) in
       let before : (is_lt (l.order q (l.end_place a)) && is_lt (l.order q (l.end_place b))) ≡ true = sym (up_to_earlier a b q) ∙ apart in
-      and_true
-      (ap is_lt (le_lt p.total (and_second _ _ behind) (lt_true _ (and_first _ _ before))))
-      (ap is_lt (le_lt p.total (and_first _ _ behind) (lt_true _ (and_second _ _ before))))
+      both_true
+      (ap is_lt (le_lt p.total (second_so _ _ behind) (lt_is _ (first_so _ _ before))))
+      (ap is_lt (le_lt p.total (first_so _ _ behind) (lt_is _ (second_so _ _ before))))
 
   both_hold : (a b : X) (x : K) → (k.holds a x && k.holds b x) ≡ ((is_le (l.order (l.start_place a) (at x)) && is_lt (l.order (at x) (l.end_place a))) && (is_le (l.order (l.start_place b) (at x)) && is_lt (l.order (at x) (l.end_place b))))
   both_hold a b x = ap (λ c. c && k.holds b x) (p.holds a x) ∙ ap (λ c. (is_le (l.order (l.start_place a) (at x)) && is_lt (l.order (at x) (l.end_place a))) && c) (p.holds b x)
@@ -94,7 +99,7 @@ module _ {K X P : Type 0} {k : RangeKind K X} {l : RangePlaces P X} {at cut : K 
       (λ h g. true≢false (sym g ∙ late h))
     where
       late : is_lt (l.order (at x) (l.end_place a)) ≡ true → is_le (l.order (l.start_place b) (at x)) ≡ false
-      late h = lt_not_le p.total (lt_le p.total (lt_true _ h) (unreached p a b apart))
+      late h = lt_not_le p.total (lt_le p.total (lt_is _ h) (unreached p a b apart))
 
       table : (la ha lb hb : Bool) → (ha ≡ true → lb ≡ true → ⊥) → ((la && ha) && (lb && hb)) ≡ false
       table true true true hb h = absurd (h refl refl)
@@ -118,7 +123,7 @@ module _ {K X P : Type 0} {k : RangeKind K X} {l : RangePlaces P X} {at cut : K 
       none h = sym (ap (λ c. c || covers k rest x) h)
 
       by : (c : Bool) → reaches l a b ≡ c → (d : Bool) → reaches l b a ≡ d → covers k (cond (c && d) (part ∷ rest) rest) x ≡ ((k.holds a x && k.holds b x) || covers k rest x)
-      by true e true f = covers_cons k part rest x ∙ ap (λ c. c || covers k rest x) (part_holds a b x)
+      by true e true f = covers-cons k part rest x ∙ ap (λ c. c || covers k rest x) (part_holds a b x)
       by true e false f = none (and_comm (k.holds a x) (k.holds b x) ∙ none_held b a x f)
       by false e d f = none (none_held a b x e)
 
@@ -126,36 +131,28 @@ module _ {K X P : Type 0} {k : RangeKind K X} {l : RangePlaces P X} {at cut : K 
 
   -- no later range of a canonical list holds what is before the end of the first
   later_uncovered : (a : X) (rest : List X) (x : K) → Canonical (a ∷ rest) → l.order (at x) (l.end_place a) ≡ Less → covers k rest x ≡ false
-  later_uncovered a [] x can start_place = refl
-  later_uncovered a (b ∷ rest) x can start_place =
-      let before_next = lt_le p.total start_place (p.before a b can.1.0) in
+  later_uncovered a [] x can early = refl
+  later_uncovered a (b ∷ rest) x can early =
+      let before_next = lt_le p.total early (p.before a b can.1.0) in
       let out : k.holds b x ≡ false = p.holds b x ∙ ap (λ c. c && is_lt (l.order (at x) (l.end_place b))) (lt_not_le p.total before_next) in
-      covers_cons k b rest x ∙ ap (λ c. c || covers k rest x) out ∙ later_uncovered b rest x can.2 (lt_lt p.total before_next (p.non_empty b can.2.0.non_empty))
+      covers-cons k b rest x ∙ ap (λ c. c || covers k rest x) out ∙ later_uncovered b rest x can.2 (lt_lt p.total before_next (p.non_empty b can.2.0.non_empty))
 
   held_below : (a : X) (x : K) → k.holds a x ≡ true → l.order (at x) (l.end_place a) ≡ Less
-  held_below a x h = lt_true _ (second (is_le (l.order (l.start_place a) (at x))) (is_lt (l.order (at x) (l.end_place a))) (sym (p.holds a x) ∙ h))
-    where
-      second : (c d : Bool) → (c && d) ≡ true → d ≡ true
-      second true d g = g
-      second false d g = absurd (true≢false (sym g))
+  held_below a x h = lt_is _ (second_so (is_le (l.order (l.start_place a) (at x))) (is_lt (l.order (at x) (l.end_place a))) (sym (p.holds a x) ∙ h))
 
   common_points_from : (a : X) (left : List X) → ((right : List X) (x : K) → Canonical right → covers k (intersection_items l left right) x ≡ (covers k left x && covers k right x))
       → (right : List X) (x : K) → Canonical (a ∷ left) → Canonical right → covers k (intersection_items l (a ∷ left) right) x ≡ (covers k (a ∷ left) x && covers k right x)
-  common_points_from a left on [] x can-a can-b = sym (never (covers k (a ∷ left) x))
-    where
-      never : (c : Bool) → (c && false) ≡ false
-      never true = refl
-      never false = refl
+  common_points_from a left on [] x can-a can-b = sym (and-false (covers k (a ∷ left) x))
   common_points_from a left on (b ∷ right) x can-a can-b =
       with_part a b _ x
       ∙ decided (λ rest. ((k.holds a x && k.holds b x) || covers k rest x) ≡ ((k.holds a x || covers k left x) && (k.holds b x || covers k right x))) (is_lt (l.order (l.end_place a) (l.end_place b)))
       (λ e.
-      ap (λ c. (k.holds a x && k.holds b x) || c) (on (b ∷ right) x can-b ∙ ap (λ c. covers k left x && c) (covers_cons k b right x))
-      ∙ common_left (k.holds a x) (covers k left x) (k.holds b x) (covers k right x) (λ h. later_uncovered b right x can-b (lt_lt p.total (held_below a x h) (lt_true _ e))))
+      ap (λ c. (k.holds a x && k.holds b x) || c) (on (b ∷ right) x can-b ∙ ap (λ c. covers k left x && c) (covers-cons k b right x))
+      ∙ common_left (k.holds a x) (covers k left x) (k.holds b x) (covers k right x) (λ h. later_uncovered b right x can-b (lt_lt p.total (held_below a x h) (lt_is _ e))))
       (λ e.
-      ap (λ c. (k.holds a x && k.holds b x) || c) (common_points_from a left on right x can-a can-b.2 ∙ ap (λ c. c && covers k right x) (covers_cons k a left x))
+      ap (λ c. (k.holds a x && k.holds b x) || c) (common_points_from a left on right x can-a can-b.2 ∙ ap (λ c. c && covers k right x) (covers-cons k a left x))
       ∙ common_right (k.holds a x) (covers k left x) (k.holds b x) (covers k right x) (λ h. later_uncovered a left x can-a (lt_le p.total (held_below b x h) (not_lt p.total (l.end_place a) (l.end_place b) e))))
-      ∙ sym (ap (λ c. c && covers k (b ∷ right) x) (covers_cons k a left x) ∙ ap (λ c. (k.holds a x || covers k left x) && c) (covers_cons k b right x))
+      ∙ sym (ap (λ c. c && covers k (b ∷ right) x) (covers-cons k a left x) ∙ ap (λ c. (k.holds a x || covers k left x) && c) (covers-cons k b right x))
 
   -- the items have the points of both sides
   pub common_points : (left right : List X) (x : K) → Canonical left → Canonical right → covers k (intersection_items l left right) x ≡ (covers k left x && covers k right x)
@@ -175,7 +172,7 @@ module _ {K X P : Type 0} {k : RangeKind K X} {l : RangePlaces P X} {at cut : K 
   all_from : (floor : P) (a : X) (rest : List X) → Canonical (a ∷ rest) → le floor (l.start_place a) → AllFrom floor (a ∷ rest)
   all_from floor a [] can h = (h, tt)
   all_from floor a (b ∷ rest) can h =
-      (h, all_from floor b rest can.2 (le_le p _ _ _ h (le_Less (lt_le p.total (p.non_empty a can.0.non_empty) (p.before a b can.1.0)))))
+      (h, all_from floor b rest can.2 (le_through p.total _ _ _ h (le_Less (lt_le p.total (p.non_empty a can.0.non_empty) (p.before a b can.1.0)))))
 
   -- no part starts before both of its ranges
   part_from : (floor : P) (a b : X) (rest : List X) → le floor (l.start_place (later_start l a b)) → StartsFrom floor rest → StartsFrom floor (with_common l a b rest)
@@ -185,13 +182,13 @@ module _ {K X P : Type 0} {k : RangeKind K X} {l : RangePlaces P X} {at cut : K 
 
   later_from_first : (floor : P) (a b : X) → le floor (l.start_place a) → le floor (l.start_place (later_start l a b))
   later_from_first floor a b h = decided (λ c. le floor (l.start_place c)) (is_lt (l.order (l.start_place a) (l.start_place b)))
-      (λ e. le_le p _ _ _ h (le_Less (lt_true _ e)))
+      (λ e. le_through p.total _ _ _ h (le_Less (lt_is _ e)))
       (λ _. h)
 
   later_from_second : (floor : P) (a b : X) → le floor (l.start_place b) → le floor (l.start_place (later_start l a b))
   later_from_second floor a b h = decided (λ c. le floor (l.start_place c)) (is_lt (l.order (l.start_place a) (l.start_place b)))
       (λ _. h)
-      (λ e. le_le p _ _ _ h (not_lt p.total (l.start_place a) (l.start_place b) e))
+      (λ e. le_through p.total _ _ _ h (not_lt p.total (l.start_place a) (l.start_place b) e))
 
   starts_left_from : (floor : P) (a : X) (left : List X) → ((right : List X) → StartsFrom floor (intersection_items l left right)) → le floor (l.start_place a)
       → (right : List X) → StartsFrom floor (intersection_items l (a ∷ left) right)
@@ -221,7 +218,7 @@ module _ {K X P : Type 0} {k : RangeKind K X} {l : RangePlaces P X} {at cut : K 
   followed : (item a b : X) (right items : List X) → Canonical (a ∷ b ∷ right) → le (l.end_place item) (l.end_place a) → StartsFrom (l.start_place b) items → IsFollowedBy k (unit_eq k) (item, tt) (with_unit k items)
   followed item a b right [] can ends starts = tt
   followed item a b right (c ∷ items) can ends starts = (
-    p.before_from item c (le_le p _ _ _ (le_le p _ _ _ ends (p.before a b can.1.0)) starts),
+    p.before_from item c (le_through p.total _ _ _ (le_through p.total _ _ _ ends (p.before a b can.1.0)) starts),
     λ touching. can.1.1 (p.touches_within item c a b can.1.0 ends starts touching),
   )
 

@@ -5,7 +5,7 @@ pub mod ItemLemmas
 pub mod PlaceLemmas
 pub mod UnionLemmas
 pub mod SideLemmas
-pub use Rattle.rangemap_core.proofs.IncomingRangeLemmas as IncomingLemmas
+pub use Rattle.rangemap_core.proofs.IncomingRangeLemmas
 pub use Rattle.rangemap_core.proofs.OperatorLemmas
 pub use Rattle.rangemap_core.proofs.SetLemmas
 pub use Rattle.rangemap_core.proofs.UnitValueLemmas

@@ -1,25 +1,17 @@
 -- What follows of ranges that go from place to place.
-use Rattle.std.proofs.Common.{◌≡◌, Bool, true, false, ◌&&◌, ◌||◌, cond, List, [], ◌∷◌, Some, sym, ◌∙◌, ap, refl, true≢false, Ordering, Less, Equal, Greater, is_lt, is_le, is_some, find}
+use Rattle.std.proofs.Common.{◌≡◌, Bool, true, false, ◌||◌, cond, List, [], ◌∷◌, ◌∙◌, ap, refl, Less, is_lt, is_le}
 use Rattle.std.specs.List.{list_any}
-use Rattle.rangemap_core.specs.operations.PlaceLaws.{HasPlaces, lt_true}
+use Rattle.std.specs.Cmp.Derive.{both_true}
+use Rattle.rangemap_core.specs.operations.PlaceLaws.{HasPlaces}
 use Rattle.rangemap_unions.specs.Items.{reaches, later_end}
 use Rattle.rangemap_core.specs.operations.Places.{RangePlaces}
-use Rattle.rangemap_core.specs.laws.Orders.{le_Less, le_Equal, lt_le, itself, not_lt}
+use Rattle.rangemap_core.specs.laws.Orders.{le_Less, le_Equal, itself, not_lt}
 use Rattle.rangemap_core.specs.Ranges.{RangeKind, covers}
 use Rattle.rangemap_core.specs.Sets.{is_within}
+use Rattle.rangemap_core.specs.engine.EndpointKinds.{lt_is}
+use Rattle.rangemap_core.proofs.GapLemmas.{covers-cons}
 
 -- ---- tests
-
-pub and_true : {a b : Bool} → a ≡ true → b ≡ true → (a && b) ≡ true
-and_true p q i = p i && q i
-
-pub and_first : (a b : Bool) → (a && b) ≡ true → a ≡ true
-and_first true b h = refl
-and_first false b h = h
-
-pub and_second : (a b : Bool) → (a && b) ≡ true → b ≡ true
-and_second true b h = h
-and_second false b h = absurd (true≢false (sym h))
 
 pub or_first : (a b : Bool) → a ≡ true → (a || b) ≡ true
 or_first a b h = ap (λ c. c || b) h
@@ -38,35 +30,20 @@ pub decided : {X : Type 0} (Q : X → Type 0) (test : Bool) {x y : X} → (test 
 decided Q true h g = h refl
 decided Q false h g = g refl
 
-pub covers_cons : {K X : Type 0} (k : RangeKind K X) (r : X) (rest : List X) (x : K) → covers k (r ∷ rest) x ≡ (k.holds r x || covers k rest x)
-covers_cons k r rest x = by (k.holds r x)
-  where
-    by : (b : Bool) → is_some (cond b (Some r) (find (λ s. k.holds s x) rest)) ≡ (b || covers k rest x)
-    by true = refl
-    by false = refl
-
 pub covers_any : {K X : Type 0} (k : RangeKind K X) (rs : List X) (x : K) → covers k rs x ≡ list_any (λ r. k.holds r x) rs
 covers_any k [] x = refl
-covers_any k (r ∷ rest) x = covers_cons k r rest x ∙ ap (λ b. k.holds r x || b) (covers_any k rest x)
+covers_any k (r ∷ rest) x = covers-cons k r rest x ∙ ap (λ b. k.holds r x || b) (covers_any k rest x)
 
 -- ---- ranges and their places
 
 module _ {K X P : Type 0} {k : RangeKind K X} {l : RangePlaces P X} {at cut : K → P} (p : HasPlaces k l at cut) where
-  pub le_le : (a b c : P) → is_le (l.order a b) ≡ true → is_le (l.order b c) ≡ true → is_le (l.order a c) ≡ true
-  le_le a b c h g = by (l.order a b) refl h
-    where
-      by : (r : Ordering) → l.order a b ≡ r → is_le r ≡ true → is_le (l.order a c) ≡ true
-      by Less e w = le_Less (lt_le p.total e g)
-      by Equal e w = ap is_le (p.total.congr a b c e) ∙ g
-      by Greater e w = absurd (true≢false (sym w))
-
   -- one range within another
   pub within : (item r : X) → is_le (l.order (l.start_place item) (l.start_place r)) ≡ true → is_le (l.order (l.end_place r) (l.end_place item)) ≡ true → is_within k item r ≡ true
-  within item r h g = and_true (ap is_le (p.starts item r) ∙ h) (ap is_le (p.ends r item) ∙ g)
+  within item r h g = both_true (ap is_le (p.starts item r) ∙ h) (ap is_le (p.ends r item) ∙ g)
 
   -- s starts before r ends, or not
   pub reached : (r s : X) → reaches l r s ≡ true → l.order (l.start_place s) (l.end_place r) ≡ Less
-  reached r s h = lt_true _ h
+  reached r s h = lt_is _ h
 
   pub unreached : (r s : X) → reaches l r s ≡ false → is_le (l.order (l.end_place r) (l.start_place s)) ≡ true
   unreached r s h = not_lt p.total (l.start_place s) (l.end_place r) h
@@ -76,7 +53,7 @@ module _ {K X P : Type 0} {k : RangeKind K X} {l : RangePlaces P X} {at cut : K 
   later_first r s = by (is_lt (l.order (l.end_place r) (l.end_place s))) refl
     where
       by : (b : Bool) → is_lt (l.order (l.end_place r) (l.end_place s)) ≡ b → is_le (l.order (l.end_place r) (l.end_place (cond b s r))) ≡ true
-      by true e = le_Less (lt_true _ e)
+      by true e = le_Less (lt_is _ e)
       by false e = le_Equal (itself p.total (l.end_place r))
 
   pub later_second : (r s : X) → is_le (l.order (l.end_place s) (l.end_place (later_end l r s))) ≡ true

@@ -4,13 +4,16 @@ use Rattle.std.specs.Bool.{⊤}
 use Rattle.std.proofs.Math.Bool.{or_assoc, or_comm}
 use Rattle.std.proofs.lemmas.List.Folds.{list_any-append, list_all-append}
 use Rattle.std.specs.List.{AllByRecursion, list_all, list_any}
-use Rattle.rangemap_core.specs.operations.PlaceLaws.{HasPlaces, lt_true}
+use Rattle.std.specs.Cmp.{first_so, second_so}
+use Rattle.std.specs.Cmp.Derive.{both_true}
+use Rattle.rangemap_core.specs.operations.PlaceLaws.{HasPlaces}
 use Rattle.rangemap_unions.specs.Items.{reaches, later_end, merged, items_from, items_of, union_items}
 use Rattle.rangemap_core.specs.operations.Places.{RangePlaces}
-use Rattle.rangemap_core.specs.laws.Orders.{le_Less, le_Equal, lt_le, itself, not_lt}
+use Rattle.rangemap_core.specs.laws.Orders.{le_Less, le_Equal, lt_le, itself, not_lt, le_through}
 use Rattle.rangemap_core.specs.Ranges.{RangeKind, IsStorable, IsCanonical, unit_eq, with_unit}
 use Rattle.rangemap_core.specs.Sets.{IsHull, IsApartFrom, AreApart, AreHulls, is_within}
-use Rattle.rangemap_unions.proofs.PlaceLemmas.{and_true, and_first, and_second, or_first, or_second, chosen, decided, le_le, later_first, later_second, reached, unreached, within}
+use Rattle.rangemap_core.specs.engine.EndpointKinds.{lt_is}
+use Rattle.rangemap_unions.proofs.PlaceLemmas.{or_first, or_second, chosen, decided, later_first, later_second, reached, unreached, within}
 
 -- ---- what a list is among
 
@@ -36,7 +39,7 @@ right_among ps qs test h = list_any-append test ps qs ∙ or_second (list_any te
 list_all-map : {X : Type 0} (f g : X → Bool) → ((x : X) → f x ≡ true → g x ≡ true) → (xs : List X) → list_all f xs ≡ true → list_all g xs ≡ true
 list_all-map f g step [] h = refl
 list_all-map f g step (x ∷ xs) h =
-    and_true (step x (and_first (f x) (list_all f xs) h)) (list_all-map f g step xs (and_second (f x) (list_all f xs) h))
+    both_true (step x (first_so (f x) (list_all f xs) h)) (list_all-map f g step xs (second_so (f x) (list_all f xs) h))
 
 -- ---- the merged list has the ranges of both
 
@@ -55,15 +58,15 @@ module _ {P X : Type 0} (l : RangePlaces P X) (test : X → Bool) where
   all_merged_from : (p : X) (ps : List X) → ((qs : List X) → list_all test (merged l ps qs) ≡ true → (list_all test ps && list_all test qs) ≡ true)
       → (qs : List X) → list_all test (merged l (p ∷ ps) qs) ≡ true → (list_all test (p ∷ ps) && list_all test qs) ≡ true
   all_merged_from p ps on [] h =
-      let rest = on [] (and_second (test p) (list_all test (merged l ps [])) h) in
-      and_true (and_true (and_first (test p) (list_all test (merged l ps [])) h) (and_first (list_all test ps) true rest)) refl
+      let rest = on [] (second_so (test p) (list_all test (merged l ps [])) h) in
+      both_true (both_true (first_so (test p) (list_all test (merged l ps [])) h) (first_so (list_all test ps) true rest)) refl
   all_merged_from p ps on (q ∷ qs) h = decided (λ rs. list_all test rs ≡ true → (list_all test (p ∷ ps) && list_all test (q ∷ qs)) ≡ true) (is_lt (l.order (l.start_place p) (l.start_place q)))
       (λ _ g.
-      let rest = on (q ∷ qs) (and_second (test p) (list_all test (merged l ps (q ∷ qs))) g) in
-      and_true (and_true (and_first (test p) (list_all test (merged l ps (q ∷ qs))) g) (and_first (list_all test ps) (list_all test (q ∷ qs)) rest)) (and_second (list_all test ps) (list_all test (q ∷ qs)) rest))
+      let rest = on (q ∷ qs) (second_so (test p) (list_all test (merged l ps (q ∷ qs))) g) in
+      both_true (both_true (first_so (test p) (list_all test (merged l ps (q ∷ qs))) g) (first_so (list_all test ps) (list_all test (q ∷ qs)) rest)) (second_so (list_all test ps) (list_all test (q ∷ qs)) rest))
       (λ _ g.
-      let rest = all_merged_from p ps on qs (and_second (test q) (list_all test (merged l (p ∷ ps) qs)) g) in
-      and_true (and_first (list_all test (p ∷ ps)) (list_all test qs) rest) (and_true (and_first (test q) (list_all test (merged l (p ∷ ps) qs)) g) (and_second (list_all test (p ∷ ps)) (list_all test qs) rest)))
+      let rest = all_merged_from p ps on qs (second_so (test q) (list_all test (merged l (p ∷ ps) qs)) g) in
+      both_true (first_so (list_all test (p ∷ ps)) (list_all test qs) rest) (both_true (first_so (test q) (list_all test (merged l (p ∷ ps) qs)) g) (second_so (list_all test (p ∷ ps)) (list_all test qs) rest)))
       h
 
   pub all_merged : (ps qs : List X) → list_all test (merged l ps qs) ≡ true → (list_all test ps && list_all test qs) ≡ true
@@ -88,7 +91,7 @@ module _ {K X P : Type 0} {k : RangeKind K X} {l : RangePlaces P X} {at cut : K 
       → (floor : Option P) (qs : List X) → AreReady given floor (r ∷ rest) → AreReady given floor qs → AreReady given floor (merged l (r ∷ rest) qs)
   merged_ready_from given r rest on floor [] h g = (h.0, h.1, h.2, on (Some (l.start_place r)) [] h.3 tt)
   merged_ready_from given r rest on floor (q ∷ qs) h g = decided (AreReady given floor) (is_lt (l.order (l.start_place r) (l.start_place q)))
-      (λ e. (h.0, h.1, h.2, on (Some (l.start_place r)) (q ∷ qs) h.3 (g.0, g.1, le_Less (lt_true _ e), g.3)))
+      (λ e. (h.0, h.1, h.2, on (Some (l.start_place r)) (q ∷ qs) h.3 (g.0, g.1, le_Less (lt_is _ e), g.3)))
       (λ e. (g.0, g.1, g.2, merged_ready_from given r rest on (Some (l.start_place q)) qs (h.0, h.1, not_lt p.total (l.start_place r) (l.start_place q) e, h.3) g.3))
 
   merged_ready : (given : List X) (ps : List X) (floor : Option P) (qs : List X) → AreReady given floor ps → AreReady given floor qs → AreReady given floor (merged l ps qs)
@@ -133,7 +136,7 @@ module _ {K X P : Type 0} {k : RangeKind K X} {l : RangePlaces P X} {at cut : K 
       uncut : (x : K) → l.order (l.start_place first) (cut x) ≡ Less → l.order (cut x) (l.end_place last) ≡ Less → list_any (λ r. k.is_cut r x) given ≡ true
 
     crossed : (r : X) (x : K) → IsAmong given r → l.order (l.start_place r) (cut x) ≡ Less → l.order (cut x) (l.end_place r) ≡ Less → list_any (λ s. k.is_cut s x) given ≡ true
-    crossed r x among up down = among (λ s. k.is_cut s x) (p.cuts r x ∙ and_true (ap is_lt up) (ap is_lt down))
+    crossed r x among up down = among (λ s. k.is_cut s x) (p.cuts r x ∙ both_true (ap is_lt up) (ap is_lt down))
 
     begin : (r : X) → IsAmong given r → IsStorable k r → IsBegun r r
     begin r among stored = record {
@@ -154,7 +157,7 @@ module _ {K X P : Type 0} {k : RangeKind K X} {l : RangePlaces P X} {at cut : K 
       first_stored = h.first_stored;
       last_stored = chosen (IsStorable k) longer r last stored h.last_stored;
       starts_first = chosen (λ s. is_le (l.order (l.start_place first) (l.start_place s)) ≡ true) longer r last from h.starts_first;
-      ends_last = le_le p _ _ _ h.ends_last (later_first p last r);
+      ends_last = le_through p.total _ _ _ h.ends_last (later_first p last r);
       uncut = λ x up down. by x up (is_lt (l.order (cut x) (l.end_place last))) refl longer down;
     }
       where
@@ -163,7 +166,7 @@ module _ {K X P : Type 0} {k : RangeKind K X} {l : RangePlaces P X} {at cut : K 
 
         by : (x : K) → l.order (l.start_place first) (cut x) ≡ Less → (b : Bool) → is_lt (l.order (cut x) (l.end_place last)) ≡ b
             → (c : Bool) → l.order (cut x) (l.end_place (cond c r last)) ≡ Less → list_any (λ s. k.is_cut s x) given ≡ true
-        by x up true e c down = h.uncut x up (lt_true _ e)
+        by x up true e c down = h.uncut x up (lt_is _ e)
         by x up false e true down = crossed r x among (lt_le p.total (reached p last r touching) (not_lt p.total (cut x) (l.end_place last) e)) down
         by x up false e false down = absurd (true≢false (sym (ap is_lt down) ∙ e))
 
@@ -172,18 +175,18 @@ module _ {K X P : Type 0} {k : RangeKind K X} {l : RangePlaces P X} {at cut : K 
     item_hull first last h = record {
       non_empty = p.between_non_empty first last (lt_le p.total (p.non_empty first h.first_stored.non_empty) h.ends_last);
       starts = h.first_given (λ r. is_within k (l.between first last) r && is_eq (k.cmp (k.start (l.between first last)) (k.start r)))
-          (and_true (item_within first last first (le_Equal (itself p.total (l.start_place first))) h.ends_last) (ap is_eq (p.starts (l.between first last) first ∙ ap (λ q. l.order q (l.start_place first)) (p.between_start_place first last) ∙ itself p.total (l.start_place first))));
+          (both_true (item_within first last first (le_Equal (itself p.total (l.start_place first))) h.ends_last) (ap is_eq (p.starts (l.between first last) first ∙ ap (λ q. l.order q (l.start_place first)) (p.between_start_place first last) ∙ itself p.total (l.start_place first))));
       ends = h.last_given (λ r. is_within k (l.between first last) r && is_eq (k.cmp (k.end (l.between first last)) (k.end r)))
-          (and_true (item_within first last last h.starts_first (le_Equal (itself p.total (l.end_place last)))) (ap is_eq (p.ends (l.between first last) last ∙ ap (λ q. l.order q (l.end_place last)) (p.between_end_place first last) ∙ itself p.total (l.end_place last))));
+          (both_true (item_within first last last h.starts_first (le_Equal (itself p.total (l.end_place last)))) (ap is_eq (p.ends (l.between first last) last ∙ ap (λ q. l.order q (l.end_place last)) (p.between_end_place first last) ∙ itself p.total (l.end_place last))));
       uncut = λ x key within_item.
           let both = sym (p.cuts (l.between first last) x) ∙ within_item in
-          h.uncut x (subst (λ q. l.order q (cut x) ≡ Less) (p.between_start_place first last) (lt_true _ (and_first _ _ both))) (subst (λ q. l.order (cut x) q ≡ Less) (p.between_end_place first last) (lt_true _ (and_second _ _ both)));
+          h.uncut x (subst (λ q. l.order q (cut x) ≡ Less) (p.between_start_place first last) (lt_is _ (first_so _ _ both))) (subst (λ q. l.order (cut x) q ≡ Less) (p.between_end_place first last) (lt_is _ (second_so _ _ both)));
     }
 
     all_hulls : (first last : X) (rest : List X) (floor : P) → IsBegun first last → is_le (l.order (l.start_place first) floor) ≡ true → AreReady given (Some floor) rest → AllByRecursion (IsHull k given) (items_from l first last rest)
     all_hulls first last [] floor h from ready = (item_hull first last h, tt)
     all_hulls first last (r ∷ rest) floor h from ready = decided (AllByRecursion (IsHull k given)) (reaches l last r)
-        (λ e. let above = le_le p _ _ _ from ready.2 in all_hulls first (later_end l last r) rest (l.start_place r) (extend first last r h ready.0 ready.1 above e) above ready.3)
+        (λ e. let above = le_through p.total _ _ _ from ready.2 in all_hulls first (later_end l last r) rest (l.start_place r) (extend first last r h ready.0 ready.1 above e) above ready.3)
         (λ e. (item_hull first last h, all_hulls r r rest (l.start_place r) (begin r ready.0 ready.1) (le_Equal (itself p.total (l.start_place r))) ready.3))
 
   -- an item before `first` lies before the items from there on
@@ -203,7 +206,7 @@ module _ {K X P : Type 0} {k : RangeKind K X} {l : RangePlaces P X} {at cut : K 
   within_some : (first last x : X) (rest : List X) → is_le (l.order (l.start_place first) (l.start_place x)) ≡ true → is_le (l.order (l.end_place x) (l.end_place last)) ≡ true → list_any (λ item. is_within k item x) (items_from l first last rest) ≡ true
   within_some first last x [] up down = or_first (is_within k (l.between first last) x) false (item_within first last x up down)
   within_some first last x (r ∷ rest) up down = decided (λ items. list_any (λ item. is_within k item x) items ≡ true) (reaches l last r)
-      (λ _. within_some first (later_end l last r) x rest up (le_le p _ _ _ down (later_first p last r)))
+      (λ _. within_some first (later_end l last r) x rest up (le_through p.total _ _ _ down (later_first p last r)))
       (λ _. or_first (is_within k (l.between first last) x) (list_any (λ item. is_within k item x) (items_from l r r rest)) (item_within first last x up down))
 
   all_within : (given : List X) (first last : X) (rest : List X) (floor : P) → is_le (l.order (l.start_place first) floor) ≡ true → AreReady given (Some floor) rest
@@ -211,11 +214,11 @@ module _ {K X P : Type 0} {k : RangeKind K X} {l : RangePlaces P X} {at cut : K 
   all_within given first last [] floor from ready = refl
   all_within given first last (r ∷ rest) floor from ready = decided (λ items. list_all (λ s. list_any (λ item. is_within k item s) items) (r ∷ rest) ≡ true) (reaches l last r)
       (λ _.
-      let above = le_le p _ _ _ from ready.2 in
-      and_true (within_some first (later_end l last r) r rest above (later_second p last r)) (all_within given first (later_end l last r) rest (l.start_place r) above ready.3))
+      let above = le_through p.total _ _ _ from ready.2 in
+      both_true (within_some first (later_end l last r) r rest above (later_second p last r)) (all_within given first (later_end l last r) rest (l.start_place r) above ready.3))
       (λ _.
       let same = le_Equal (itself p.total (l.start_place r)) in
-      and_true
+      both_true
       (or_second (is_within k (l.between first last) r) (list_any (λ item. is_within k item r) (items_from l r r rest)) (within_some r r r rest same (le_Equal (itself p.total (l.end_place r)))))
       (list_all-map (λ s. list_any (λ item. is_within k item s) (items_from l r r rest)) (λ s. list_any (λ item. is_within k item s) (l.between first last ∷ items_from l r r rest))
       (λ s h. or_second (is_within k (l.between first last) s) (list_any (λ item. is_within k item s) (items_from l r r rest)) h) rest (all_within given r r rest (l.start_place r) same ready.3)))
@@ -229,7 +232,7 @@ module _ {K X P : Type 0} {k : RangeKind K X} {l : RangePlaces P X} {at cut : K 
       let same = le_Equal (itself p.total (l.start_place r)) in (
         all_apart r r rest,
         all_hulls given r r rest (l.start_place r) (begin given r ready.0 ready.1) same ready.3,
-        and_true (within_some r r r rest same (le_Equal (itself p.total (l.end_place r)))) (all_within given r r rest (l.start_place r) same ready.3),
+        both_true (within_some r r r rest same (le_Equal (itself p.total (l.end_place r)))) (all_within given r r rest (l.start_place r) same ready.3),
       )
 
   -- the items of a union are the hulls of the ranges of both sides

@@ -1,25 +1,16 @@
 -- Half-open and closed ranges go from place to place.
 use Rattle.std.proofs.Common.{◌≡◌, ◌⊎◌, inl, inr, Bool, true, false, ◌&&◌, sym, ◌∙◌, ap, refl, true≢false, Ordering, Less, Equal, Greater, is_lt, is_le}
-use Rattle.std.specs.Cmp.{IsTotalOrder, then_total, on_total, bool_cmp_total}
+use Rattle.std.specs.Cmp.{IsTotalOrder, then_total, on_total, bool_cmp_total, first_so, second_so}
 use Rattle.std.specs.Ordering.{ordering_then}
 use Rattle.std.specs.declared.ops.Range.{Range}
 use Rattle.std.specs.declared.ops.RangeInclusive.{RangeInclusive}
 use Rattle.std.specs.Range.{range_inclusive_start, range_inclusive_end}
+use Rattle.std.specs.Cmp.Derive.{both_true}
 use Rattle.rangemap_core.specs.operations.Places.{side_cmp, half_open_places, closed_places}
 use Rattle.rangemap_core.specs.laws.Orders.{Less-Equal, eq_eq, eq_turn, le_Equal, le_eq, le_lt, lt_le}
 use Rattle.rangemap_core.specs.Ranges.{half_open, closed}
-use Rattle.rangemap_core.specs.operations.PlaceLaws.{HasPlaces, lt_true}
-
-and_true : {a b : Bool} → a ≡ true → b ≡ true → (a && b) ≡ true
-and_true p q i = p i && q i
-
-and_first : (a b : Bool) → (a && b) ≡ true → a ≡ true
-and_first true b h = refl
-and_first false b h = h
-
-and_second : (a b : Bool) → (a && b) ≡ true → b ≡ true
-and_second true b h = h
-and_second false b h = absurd (true≢false (sym h))
+use Rattle.rangemap_core.specs.operations.PlaceLaws.{HasPlaces}
+use Rattle.rangemap_core.specs.engine.EndpointKinds.{lt_is}
 
 lt_le_and : (c : Ordering) (b : Bool) → (is_lt c && b) ≡ true → (is_le c && b) ≡ true
 lt_le_and Less b h = h
@@ -94,7 +85,7 @@ module _ {K : Type 0} (cmp : K → K → Ordering) (o : IsTotalOrder cmp) where
           → (side_cmp cmp (x, false) (item.start, false) ≡ Equal)
           ⊎ (((r : Range K) → cmp r.start r.end ≡ Less → side_cmp cmp (item.end, false) (r.end, false) ≡ Equal → (half_open cmp).holds r x ≡ true)
           ⊎ ((is_lt (cmp item.start x) && is_lt (cmp x item.end)) ≡ true))
-      by item x Less e h = inr (inr (and_true (ap is_lt e) h))
+      by item x Less e h = inr (inr (both_true (ap is_lt e) h))
       by item x Equal e h = inl (same_side x item.start false ∙ eq_turn o e)
       by item x Greater e h = absurd (true≢false (sym h))
 
@@ -107,9 +98,9 @@ module _ {K : Type 0} (cmp : K → K → Ordering) (o : IsTotalOrder cmp) where
     total = side_total;
     starts = λ r s. sym (same_side (range_inclusive_start r) (range_inclusive_start s) false);
     ends = λ r s. sym (same_side (range_inclusive_end r) (range_inclusive_end s) true);
-    non_empty = λ r h. lt_true _ (then_Less (cmp (range_inclusive_start r) (range_inclusive_end r)) ∙ h.0);
+    non_empty = λ r h. lt_is _ (then_Less (cmp (range_inclusive_start r) (range_inclusive_end r)) ∙ h.0);
     before = λ r s h. then_Greater (cmp (range_inclusive_end r) (range_inclusive_start s)) ∙ ap is_lt h;
-    before_from = λ r s h. lt_true _ (sym (then_Greater (cmp (range_inclusive_end r) (range_inclusive_start s))) ∙ h);
+    before_from = λ r s h. lt_is _ (sym (then_Greater (cmp (range_inclusive_end r) (range_inclusive_start s))) ∙ h);
     touches_within = λ r s t u below h g touching. (
       below,
       λ z z-key up down. touching.1 z z-key
@@ -131,8 +122,8 @@ module _ {K : Type 0} (cmp : K → K → Ordering) (o : IsTotalOrder cmp) where
           → (side_cmp cmp (x, false) (range_inclusive_start item, false) ≡ Equal)
           ⊎ (((r : RangeInclusive K) → (closed is_key cmp).IsNonEmpty r → side_cmp cmp (range_inclusive_end item, true) (range_inclusive_end r, true) ≡ Equal → (closed is_key cmp).holds r x ≡ true)
           ⊎ ((is_le (cmp (range_inclusive_start item) x) && is_lt (cmp x (range_inclusive_end item))) ≡ true))
-      by item x Less e h = inr (inr (and_true (and_first _ _ h) (ap is_lt e)))
+      by item x Less e h = inr (inr (both_true (first_so _ _ h) (ap is_lt e)))
       by item x Equal e h = inr (inl (λ r full tied.
           let at_end = eq_eq o e (sym (same_side (range_inclusive_end item) (range_inclusive_end r) true) ∙ tied) in
-          and_true (le_eq o _ _ _ full.0 (eq_turn o at_end)) (le_Equal at_end)))
-      by item x Greater e h = absurd (true≢false (sym (and_second _ _ h)))
+          both_true (le_eq o _ _ _ full.0 (eq_turn o at_end)) (le_Equal at_end)))
+      by item x Greater e h = absurd (true≢false (sym (second_so _ _ h)))

@@ -1,5 +1,5 @@
 -- What it means that ranges of a kind go from place to place.
-use Rattle.std.proofs.Common.{◌≡◌, ◌&&◌, ◌⊎◌, true, sym, refl, true≢false, Ordering, Less, Equal, Greater, is_lt, is_le}
+use Rattle.std.proofs.Common.{◌≡◌, ◌&&◌, ◌⊎◌, true, Less, Equal, is_lt, is_le}
 use Rattle.std.specs.Cmp.{IsTotalOrder}
 use Rattle.rangemap_core.specs.operations.Places.{RangePlaces}
 use Rattle.rangemap_core.specs.Ranges.{RangeKind}
@@ -27,8 +27,3 @@ pub record HasPlaces {K X P : Type 0} (k : RangeKind K X) (l : RangePlaces P X) 
   pub between_start_place : (a b : X) → l.start_place (l.between a b) ≡ l.start_place a
   pub between_end_place : (a b : X) → l.end_place (l.between a b) ≡ l.end_place b
   pub between_non_empty : (a b : X) → l.order (l.start_place a) (l.end_place b) ≡ Less → k.IsNonEmpty (l.between a b)
-
-pub lt_true : (r : Ordering) → is_lt r ≡ true → r ≡ Less
-lt_true Less h = refl
-lt_true Equal h = absurd (true≢false (sym h))
-lt_true Greater h = absurd (true≢false (sym h))

@@ -1,9 +1,8 @@
 use Rattle.std.proofs.Common.{◌≡◌, [], ◌∙◌, sym, ap, refl, is_lt}
 use Rattle.std.specs.Map.Iter.{deref_pair}
 use Rattle.std.specs.declared.ops.Range.{Range}
-use Rattle.rangemap_core.specs.engine.EndpointKinds.{half_open_placed}
+use Rattle.rangemap_core.specs.engine.EndpointKinds.{half_open_placed, lt_is}
 use Rattle.rangemap_core.proofs.PlaceLemmas.{to_spaced}
-use Rattle.rangemap_core.proofs.PlaceOrderLemmas.{less_from}
 use Rattle.rangemap_tree.specs.Starts.{before}
 use Rattle.rangemap_tree.proofs.NearLemmas.{last_before, none_before, taken_none, taken_some}
 use Rattle.rangemap_tree.proofs.insert.last_before.Goals as goal
@@ -29,4 +28,4 @@ returns-then-is_lt g c =
     let r = c.args.range.now in
     let sp = to_spaced (half_open_placed o) eq ps c.requires.canonical in
     let a : Range g.row.K.Denot × g.row.V.Denot = (c.in_ok-last.last.now, c.in_ok-last.last_value.now) in
-    (c.requires.near.0, last_before o eq e r.end ps sp c.requires.near.0 a (taken_some deref_pair _ c.args.near c.requires.near (c.in_ok-last.last, c.in_ok-last.last_value) c.in_ok-last.was) r.start c.requires.range (less_from (cmp a.0.start r.start) (ap is_lt (sym c.cmp.ensures) ∙ sym c.is_lt.ensures ∙ c.if-is_lt.true)))
+    (c.requires.near.0, last_before o eq e r.end ps sp c.requires.near.0 a (taken_some deref_pair _ c.args.near c.requires.near (c.in_ok-last.last, c.in_ok-last.last_value) c.in_ok-last.was) r.start c.requires.range (lt_is (cmp a.0.start r.start) (ap is_lt (sym c.cmp.ensures) ∙ sym c.is_lt.ensures ∙ c.if-is_lt.true)))

@@ -1,10 +1,10 @@
 use Rattle.std.proofs.Common.{◌∙◌, sym, ap, is_lt, is_gt}
 use Rattle.std.specs.declared.ops.Range.{Range}
-use Rattle.rangemap_core.specs.engine.EndpointKinds.{half_open_placed}
+use Rattle.rangemap_core.specs.engine.EndpointKinds.{half_open_placed, lt_is}
 use Rattle.rangemap_core.specs.engine.PlacedKinds.{place_total}
 use Rattle.rangemap_core.proofs.PlaceLemmas.{to_spaced}
 use Rattle.rangemap_core.proofs.ListLemmas.{IsApart-from_lt}
-use Rattle.rangemap_core.proofs.PlaceOrderLemmas.{less_from, not_lt_ge}
+use Rattle.rangemap_core.proofs.PlaceOrderLemmas.{not_lt_ge}
 use Rattle.rangemap_tree.specs.Sides.{shape}
 use Rattle.rangemap_tree.proofs.StartLemmas.{turned}
 use Rattle.rangemap_tree.proofs.InsertSideLemmas.{left_none, left_apart, left_joined, left_parted}
@@ -35,7 +35,7 @@ returns-then-is_lt g c =
     let a : Range g.row.K.Denot × g.row.V.Denot = (c.in-Some.first.now, c.in-Some.first_value.now) in
     let us = c.in-Some.ensures.0 in
     let is = c.in-Some.ensures.1 in
-    left_apart o eq e ps sp r v us a is (IsApart-from_lt (shape cmp eq) (place_total o) a (r, v) (less_from (cmp a.0.end r.start) (ap is_lt (sym c.cmp-reach.ensures) ∙ sym c.is_lt.ensures ∙ c.if-is_lt.true)))
+    left_apart o eq e ps sp r v us a is (IsApart-from_lt (shape cmp eq) (place_total o) a (r, v) (lt_is (cmp a.0.end r.start) (ap is_lt (sym c.cmp-reach.ensures) ∙ sym c.is_lt.ensures ∙ c.if-is_lt.true)))
 
 pub returns-then-eq : goal.returns-then-eq
 returns-then-eq g c =

@@ -1,9 +1,8 @@
 use Rattle.std.proofs.Common.{◌∙◌, sym, ap, is_lt, is_le}
 use Rattle.std.specs.Map.Iter.{deref_pair}
 use Rattle.std.specs.declared.ops.Range.{Range}
-use Rattle.rangemap_core.specs.engine.EndpointKinds.{half_open_placed}
+use Rattle.rangemap_core.specs.engine.EndpointKinds.{half_open_placed, lt_is}
 use Rattle.rangemap_core.proofs.PlaceLemmas.{to_spaced}
-use Rattle.rangemap_core.proofs.PlaceOrderLemmas.{less_from}
 use Rattle.rangemap_tree.proofs.StartLemmas.{turned}
 use Rattle.rangemap_tree.proofs.NearLemmas.{taken_none, taken_some}
 use Rattle.rangemap_tree.proofs.SplitLemmas.{gt_of_le, less_if_above}
@@ -67,7 +66,7 @@ returns-then-is_lt g c =
     let us = c.requires.near.0 in
     let is = taken_some deref_pair _ c.args.near c.requires.near (c.in-Some.last, c.in-Some.last_value) c.in-Some.is in
     let reaches = less_if_above o b.0.end r.end (ap is_le (sym c.cmp.ensures) ∙ sym c.is_le.ensures ∙ c.if-is_le.false) in
-    right_parted o eq e ps sp r v us b is c.in_ok-rest.rest (turned o _ _ (c.requires.faithful_keys _ _ c.in_ok-rest.ensures.0)) (turned o _ _ (c.requires.faithful_keys _ _ c.in_ok-rest.ensures.1)) (turned o _ _ (c.requires.faithful_keys _ _ c.in_ok-rest.ensures.2)) (e.symm _ _ ∙ c.requires.faithful_values _ _ c.in_ok-rest.ensures.3) reaches (sym c.eq.ensures ∙ c.if-eq.false) (less_from (cmp b.0.start r.end) (ap is_lt (sym c.cmp-2.ensures) ∙ sym c.is_lt.ensures ∙ c.if-is_lt.true))
+    right_parted o eq e ps sp r v us b is c.in_ok-rest.rest (turned o _ _ (c.requires.faithful_keys _ _ c.in_ok-rest.ensures.0)) (turned o _ _ (c.requires.faithful_keys _ _ c.in_ok-rest.ensures.1)) (turned o _ _ (c.requires.faithful_keys _ _ c.in_ok-rest.ensures.2)) (e.symm _ _ ∙ c.requires.faithful_values _ _ c.in_ok-rest.ensures.3) reaches (sym c.eq.ensures ∙ c.if-eq.false) (lt_is (cmp b.0.start r.end) (ap is_lt (sym c.cmp-2.ensures) ∙ sym c.is_lt.ensures ∙ c.if-is_lt.true))
 
 pub returns : goal.returns
 returns g c =

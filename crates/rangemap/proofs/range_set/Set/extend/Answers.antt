@@ -1,7 +1,7 @@
 use Rattle.std.proofs.Common.{arith, ap, length, length-append, refl, subst, sym}
 use Rattle.rangemap_core.specs.Sets.{Adds}
 use Rattle.rangemap_core.proofs.IncomingLemmas.{none_next, none_taken, where_refused}
-use Rattle.rangemap_unions.proofs.IncomingLemmas.{at_turn}
+use Rattle.rangemap_unions.proofs.IncomingRangeLemmas.{at_turn}
 use Rattle.rangemap_unions.proofs.UnitValueLemmas.{adds_last, adds_none}
 use Rattle.rangemap.proofs.range_set.Set.extend.Goals as goal
 

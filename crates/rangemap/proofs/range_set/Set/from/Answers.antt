@@ -3,7 +3,7 @@ use Rattle.std.proofs.IntoIterSteps.{All-taken}
 use Rattle.std.proofs.lemmas.Result.{IfOk-weaker}
 use Rattle.std.specs.Vec.Iter.{into_iter_items}
 use Rattle.rangemap.specs.Ranges.{IsCanonOfPoints, covers}
-use Rattle.rangemap_unions.proofs.IncomingLemmas.{listed}
+use Rattle.rangemap_unions.proofs.IncomingRangeLemmas.{listed}
 use Rattle.rangemap.proofs.range_set.Set.from.Goals as goal
 
 pub from_iter-requires-clause-non_empty : goal.from_iter-requires-clause-non_empty
