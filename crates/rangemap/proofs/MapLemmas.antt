@@ -1,5 +1,5 @@
 -- A map's answers, as those of the set that shows its ranges.
-use Rattle.std.proofs.Common.{◌≡◌, Bool, List, [], ◌∷◌, ℕ, zero, suc, ◌-◌, Option, option_map, IfSome, slice_get, length, is_some, Some, None, refl, sym, ap, subst, ◌∙◌, nat_lt}
+use Rattle.std.proofs.Common.{◌≡◌, Bool, List, [], ◌∷◌, ℕ, zero, suc, ◌-◌, Option, option_map, slice_get, length, is_some, Some, None, refl, sym, ap, subst, ◌∙◌, nat_lt}
 use Rattle.std.specs.Bool.{⊤}
 use Rattle.std.specs.Borrow.{Bor}
 use Rattle.std.specs.Hash.{HashWrites}
@@ -101,17 +101,6 @@ module _ {K X : Type 0} (k : RangeKind K X) (ps : List (X × ⊤)) (list : List 
   -- what was found at a place is not empty
   pub found_non_empty : IsCanonical k (unit_eq k) ps → (at : ℕ) (pair : X × ⊤) → Some pair ≡ slice_get ps at → k.IsNonEmpty pair.0
   found_non_empty can at pair h = non_empty_at k (unit_eq k) ps ps can refl at pair h
-
-  -- and so is the range that is lent of it
-  pub lent_non_empty : IsCanonical k (unit_eq k) ps → (at : ℕ) (pair : Option (X × ⊤)) (range : Option (Bor X)) → pair ≡ slice_get ps at → option_map (λ r. r.now) range ≡ option_map (λ (p : X × ⊤). p.0) pair → IfSome range (λ r. k.IsNonEmpty r.now)
-  lent_non_empty can at pair None found same = tt
-  lent_non_empty can at None (Some r) found same = absurd cc
-  lent_non_empty can at (Some p) (Some r) found same = let is_p : r.now ≡ p.0 = cc in rw is_p (found_non_empty can at p found)
-
--- the range of a pair that is lent
-pub range_shown : {X : Type 0} (pair : Option (Bor X × Bor ⊤)) → option_map (λ parts. parts.0.now) pair ≡ option_map (λ (p : X × ⊤). p.0) (option_map (λ parts. (parts.0.now, parts.1.now)) pair)
-range_shown None = refl
-range_shown (Some p) = refl
 
 -- a pair was found where one is shown
 pub found_shown : {X V : Type 0} (found : Option (Bor X × Bor V)) (shown : Option (X × V)) → option_map (λ pair. (pair.0.now, pair.1.now)) found ≡ shown → is_some found ≡ is_some shown

@@ -1,14 +1,14 @@
 //! The set, over any store.
 ghost use Rattle.std.specs.Prelude.{◌≡◌, ◌-◌, [], length, slice_get, nat_eq, nat_lt, IfSome};
-ghost use Rattle.std.specs.Option.{option_copied, option_map};
+ghost use Rattle.std.specs.Option.{option_copied};
 ghost use Rattle.rangemap.specs.Ranges.{AreGaps, covers};
 ghost use Rattle.rangemap.specs.Sets.{IsCanonicalSet, met, range_at};
 
+use rangemap_containers::container::IsAny;
 use rangemap_core::gaps::{Gaps, gaps_of};
 use rangemap_core::key_range::KeyRange;
 use rangemap_core::kind::Kind;
 use rangemap_core::store::{Lends, Store, StoreMut};
-use rangemap_maps::readers::IsAny;
 use rangemap_unions::{OverlappingRanges, Ranges};
 use std::marker::{Model, PhantomData};
 
@@ -113,7 +113,8 @@ impl<S: Store<Value = ()>> Set<S> {
         ensures canonical { IsCanonicalSet S.Kind.kind self.now }
     {
         self.stored.known();
-        range_of(self.stored.covering(value))
+        let (range, _) = self.stored.covering(value)?;
+        Some(range)
     }
 
     /// Returns whether a stored range has the key.
@@ -130,7 +131,8 @@ impl<S: Store<Value = ()>> Set<S> {
         ensures non_empty { IfSome result (λ range. S.Kind.kind.IsNonEmpty range.now) }
     {
         self.stored.known();
-        range_of(self.stored.first())
+        let (range, _) = self.stored.first()?;
+        Some(range)
     }
 
     /// Returns the last stored range, if there is one.
@@ -140,7 +142,8 @@ impl<S: Store<Value = ()>> Set<S> {
         ensures non_empty { IfSome result (λ range. S.Kind.kind.IsNonEmpty range.now) }
     {
         self.stored.known();
-        range_of(self.stored.last())
+        let (range, _) = self.stored.last()?;
+        Some(range)
     }
 
     /// Returns whether `overlapping` has an item for the range.
@@ -197,15 +200,5 @@ where
         ensures { AreGaps S.Kind.kind self.now outer_range.now result }
     {
         gaps_of(&self.stored, outer_range)
-    }
-}
-
-// The range of a stored pair, if there is one.
-fn range_of<'a, R>(pair: Option<(&'a R, &'a ())>) -> Option<&'a R>
-    ensures { option_copied result ≡ option_map (λ parts. parts.0.now) pair.entry }
-{
-    match pair {
-        Some((range, _)) => Some(range),
-        None => None,
     }
 }

@@ -47,11 +47,16 @@ module _ {X : Type 0} where
       back_new_length : length back_new ≡ length back
       back_new_length = ap length from_is ∙ length-set back 0 []
 
-      pub joined_length : length new + (at + 2) ≡ length (take all (front_new ++ back_new ++ rest)) + (at + 1) → length new + 1 ≡ length chunks
-      joined_length fewer =
+      pub joined_length : length new + 1 ≡ length chunks
+      joined_length =
+          let both_new = take all (front_new ++ back_new ++ rest) in
           let halves = ap length (halves_are front_new back_new front_new_length back_new_length) in
           let sum = length-append front_new back_new in
-          omega (arith, fewer, halves, sum, front_new_length, back_new_length, front_length, back_length)
+          let all_new : length both_new ≡ length chunks = omega (arith, halves, sum, front_new_length, back_new_length, front_length, back_length) in
+          let parts = ap length new_is ∙ length-append (take (at + 1) both_new) (drop (at + 2) both_new) in
+          let before = length-take-le (at + 1) both_new (omega (arith, all_new, m)) in
+          let behind = length-drop (at + 2) both_new in
+          omega (arith, parts, before, behind, all_new, m)
 
       cut : (xs ys : List (List X)) (n : ℕ) → length xs ≡ n → (take n (xs ++ ys) ≡ xs) × ((k : ℕ) → drop (n + k) (xs ++ ys) ≡ drop k ys)
       cut xs ys n e = (

@@ -1,27 +1,17 @@
 //! Giving the keys of a range a value, and taking them out.
-ghost use Rattle.std.specs.Prelude.{◌≡◌, ◌<◌, ◌≤◌, ◌+◌, [], length, slice_index_or, IsOk, OnOk, OnErr, IfOk, IfSome, Some as SomeWord, None as NoneWord};
+ghost use Rattle.std.specs.Prelude.{◌≡◌, ◌≤◌, [], length, IsOk, OnOk, OnErr, IfOk, Some as SomeWord};
 ghost use Rattle.rangemap_core.specs.Clones.{KeysCloneFaithfully, ValuesCloneFaithfully};
 ghost use Rattle.rangemap_core.specs.Ranges.{IsCanonOf, erase, overlapped, value_at};
-ghost use Rattle.rangemap_core.specs.engine.Shape.{shape_of};
-ghost use Rattle.rangemap_sorted.specs.Changes.{IsChanged, grown};
-ghost use Rattle.rangemap_chunked.specs.Chunks.{AreChunks, AreFilled, AreFilledBut, IsClearBefore, IsClearBehind, IsCounted, IsPastBehind, whole};
+ghost use Rattle.rangemap_sorted.specs.Changes.{IsChanged};
+ghost use Rattle.rangemap_chunked.specs.Chunks.{AreChunks, AreFilled, IsCounted, whole};
 
 use crate::chunk::Chunk;
 use crate::joins::settle;
 use crate::search::{chunk_starts_by_end, end_from, first_failing, may_overflow, start_of};
-use crate::wide::change_over;
+use crate::wide::{Counts, change_over};
 use rangemap_core::key_range::KeyRange;
 use rangemap_core::kind::{Kind, known_ends};
 use std::alloc::{AllocError, Allocator};
-
-/// How many pairs stood in the stretch of chunks that a change went over, before it and after it.
-#[derive(Drop)]
-pub struct Counts {
-    /// Before it.
-    pub before: usize,
-    /// After it.
-    pub after: usize,
-}
 
 /// Gives every key of the range the value, in the chunks of a store.
 ///
@@ -118,39 +108,4 @@ pub fn remove_from<Q: Kind<R>, R: KeyRange, V: Eq + Clone, A: Allocator + Clone,
     let is_resized = at + 1 < end || counts.before != counts.after;
     settle::<R, V, A, N>(chunks, at, is_resized);
     Ok(counts)
-}
-
-/// Gives every key of the range the value, or takes it out where there is none, in the one chunk that
-/// has all that the range overlaps or touches. Without a value, that chunk may be left empty.
-///
-/// # Errors
-///
-/// Memory or a clone was refused: then no pair is changed.
-pub fn change_at<Q: Kind<R>, R: KeyRange, V: Eq + Clone, A: Allocator>(
-    chunks: &mut Vec<Chunk<R, V, A>, A>,
-    at: usize,
-    range: R,
-    value: Option<V>,
-) -> Result<Counts, AllocError>
-    requires chunked { AreChunks Q.kind V.eq chunks.old.items }
-    requires in_bounds { at < length chunks.old.items }
-    requires before { IsClearBefore (shape_of Q.kind Q.end_place V.eq) chunks.old.items range at }
-    requires behind { IsPastBehind (shape_of Q.kind Q.end_place V.eq) chunks.old.items range (at + 1) }
-    requires clear { IfSome value (λ _. IsClearBehind (shape_of Q.kind Q.end_place V.eq) chunks.old.items range (at + 1)) }
-    requires non_empty { Q.kind.IsNonEmpty range }
-    requires faithful_keys { KeysCloneFaithfully R.Key.is_clone R.Key.cmp }
-    requires faithful_values { ValuesCloneFaithfully V.is_clone V.eq }
-    ensures ok { OnOk result (IsChanged Q.kind V.eq (value_at Q.kind (whole chunks.old.items)) range value (whole chunks.new.items)) }
-    ensures filled { AreFilledBut value at chunks.new.items }
-    ensures count { length chunks.new.items ≡ length chunks.old.items }
-    ensures err { OnErr result (chunks.new.items ≡ chunks.old.items) }
-    ensures counted { IfOk result (λ counts. IsCounted V.eq (grown value) (whole chunks.old.items) (whole chunks.new.items) counts.before counts.after) }
-    ensures meets_nothing { value ≡ NoneWord → overlapped Q.kind (slice_index_or chunks.old.items at []) range ≡ [] → IsOk result × (chunks.new.items ≡ chunks.old.items) }
-{
-    known_ends::<Q, R>(&range);
-    let chunk = &mut chunks[at];
-    let before = chunk.len();
-    chunk.change::<Q>(range, value)?;
-    let after = chunk.len();
-    Ok(Counts { before, after })
 }

@@ -3,24 +3,24 @@
 //! That its pairs are canonical is said by the store, and not here, as `SortedVec` says it of its own:
 //! an iterator over chunks would have to name the kind of their ranges then, and the check takes few
 //! such iterators in one function.
-ghost use Rattle.std.specs.Prelude.{◌≡◌, ◌≤◌, ◌<◌, ◌+◌, ◌-◌, true, [], ◌++◌, length, slice_get, take, drop, IfOk, IsOk, OnErr, OnOk, None as NoneWord};
-ghost use Rattle.std.specs.Option.{option_map};
+ghost use Rattle.std.specs.Prelude.{◌≡◌, ◌≤◌, ◌<◌, ◌+◌, true, [], ◌++◌, length, take, drop, IfOk, IsOk, OnErr, OnOk, None as NoneWord};
 ghost use Rattle.std.specs.Vec.Iter.{into_iter_items};
 ghost use Rattle.rangemap_core.specs.Clones.{KeysCloneFaithfully, ValuesCloneFaithfully};
 ghost use Rattle.rangemap_core.specs.Ranges.{IsCanonical, IsCanonOf, overlapped, same_pairs, value_at};
 ghost use Rattle.rangemap_sorted.specs.Changes.{IsChanged, grown};
 
-use crate::moves::{drop_first, move_back, move_one};
+use crate::moves::{move_back, move_one};
 use rangemap_core::key_range::KeyRange;
 use rangemap_core::kind::Kind;
 use rangemap_sorted::entries::changes;
 use rangemap_sorted::entries::clones::clone_pairs;
+use rangemap_sorted::splice::cut;
 use std::alloc::{AllocError, Allocator};
 use std::marker::Model;
 use std::vec;
 
 // The fewest pairs that a chunk keeps room for when it gives room back.
-const LEAST: usize = 32;
+const LEAST_ROOM: usize = 32;
 
 /// Pairs of a range and a value in one vector.
 #[derive(Drop)]
@@ -46,32 +46,11 @@ impl<R, V, A: Allocator> Chunk<R, V, A> {
         }
     }
 
-    /// Returns a reference to the underlying allocator.
-    pub fn allocator(&self) -> &A {
-        self.pairs.allocator()
-    }
-
     /// Returns the number of pairs.
     pub fn len(&self) -> usize
         ensures { result ≡ length self.now }
     {
         self.pairs.len()
-    }
-
-    /// Returns the first pair, if there is one.
-    pub fn first(&self) -> Option<(&R, &V)>
-        ensures { option_map (λ pair. (pair.0.now, pair.1.now)) result ≡ slice_get self.now 0 }
-    {
-        let pair = self.pairs.first()?;
-        Some((&pair.0, &pair.1))
-    }
-
-    /// Returns the last pair, if there is one.
-    pub fn last(&self) -> Option<(&R, &V)>
-        ensures { option_map (λ pair. (pair.0.now, pair.1.now)) result ≡ slice_get self.now (length self.now - 1) }
-    {
-        let pair = self.pairs.last()?;
-        Some((&pair.0, &pair.1))
     }
 
     /// Returns the pairs.
@@ -120,15 +99,16 @@ impl<R, V, A: Allocator> Chunk<R, V, A> {
 
     /// Gives room back where at most half of it, and one pair, is used, as after a growth, which doubles
     /// it, or after removals. What stays is room for a third more pairs than there are, for no more than
-    /// `most`, no fewer than `LEAST`, and never fewer than there are. An empty chunk keeps its room, since
+    /// `most`, no fewer than `LEAST_ROOM`, and never fewer than there are. An empty chunk keeps its room, since
     /// it is dropped next. A refusal changes nothing.
     pub fn give_room_back(&mut self, most: usize)
         ensures { self.new ≡ self.old }
     {
         let room = self.pairs.capacity();
         let len = self.pairs.len();
-        if 0 < len && LEAST < room && len <= room / 2 + 1 {
-            self.pairs.shrink_to((len + len / 3).min(most).max(LEAST));
+        if 0 < len && LEAST_ROOM < room && len <= room / 2 + 1 {
+            self.pairs
+                .shrink_to((len + len / 3).min(most).max(LEAST_ROOM));
         }
     }
 }
@@ -188,22 +168,25 @@ impl<R: KeyRange, V: Eq + Clone, A: Allocator> Chunk<R, V, A> {
             move_back(pairs, others, place);
             return Err(AllocError);
         };
-        drop_first(others, place);
+        cut(others, 0, place);
         Ok(())
     }
 
-    /// Makes an equal chunk out of clones, in memory of `alloc`.
+    /// Makes an equal chunk out of clones, in memory of a clone of the allocator.
     ///
     /// # Errors
     ///
     /// Memory or a clone was refused.
-    pub fn copy<Q: Kind<R>>(&self, alloc: A) -> Result<Self, AllocError>
+    pub fn copy<Q: Kind<R>>(&self) -> Result<Self, AllocError>
+    where
+        A: Clone,
         requires canonical { IsCanonical Q.kind V.eq self.now }
         requires faithful_keys { KeysCloneFaithfully R.Key.is_clone R.Key.cmp }
         requires faithful_values { ValuesCloneFaithfully V.is_clone V.eq }
         ensures same { IfOk result (λ copy. same_pairs Q.kind V.eq self.now copy ≡ true) }
         ensures canon { IfOk result (λ copy. IsCanonOf Q.kind V.eq (value_at Q.kind self.now) copy) }
     {
+        let alloc = self.pairs.allocator().clone()?;
         let pairs = clone_pairs::<Q, R, V, A>(alloc, &self.pairs)?;
         Ok(Chunk { pairs })
     }

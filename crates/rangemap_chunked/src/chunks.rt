@@ -98,12 +98,14 @@ impl<Q: Kind<R>, R: KeyRange, V: Eq + Clone, A: Allocator + Clone, const N: usiz
 
     fn first(&self) -> Option<(&R, &V)> {
         let chunk = self.chunks.first()?;
-        chunk.first()
+        let pair = chunk.as_slice().first()?;
+        Some((&pair.0, &pair.1))
     }
 
     fn last(&self) -> Option<(&R, &V)> {
         let chunk = self.chunks.last()?;
-        chunk.last()
+        let pair = chunk.as_slice().last()?;
+        Some((&pair.0, &pair.1))
     }
 
     fn read<U: Reader<R, V>>(&self, state: &mut U::State) -> U::Answer {
@@ -164,8 +166,7 @@ impl<Q: Kind<R>, R: KeyRange, V: Eq + Clone, A: Allocator + Clone, const N: usiz
         let len = self.len;
         let mut chunks = Vec::with_capacity(alloc, self.chunks.len())?;
         for chunk in &self.chunks {
-            let alloc = chunk.allocator().clone()?;
-            chunks.push_reserved(chunk.copy::<Q>(alloc)?);
+            chunks.push_reserved(chunk.copy::<Q>()?);
         }
         Ok(Chunks {
             chunks,

@@ -4,6 +4,7 @@ ghost use Rattle.rangemap_chunked.specs.Chunks.{AreFilled, whole};
 
 use crate::chunk::Chunk;
 use crate::moves::insert_reserved;
+use rangemap_sorted::splice::cut;
 use std::alloc::{AllocError, Allocator};
 
 // Moves the pairs of the first chunk of one slice into a chunk of another.
@@ -19,20 +20,6 @@ fn move_first<R: Drop, V: Drop, A: Allocator>(
     ensures err { OnErr result ((from.new ≡ from.old) × (to.new ≡ to.old)) }
 {
     to[at].append(&mut from[0])
-}
-
-// Takes the chunks from one place up to another out.
-fn take_out_between<R: Drop, V: Drop, A: Allocator>(
-    chunks: &mut Vec<Chunk<R, V, A>, A>,
-    from: usize,
-    to: usize,
-)
-    requires order { from ≤ to }
-    requires in_bounds { to ≤ length chunks.old.items }
-    ensures items { chunks.new.items ≡ take from chunks.old.items ++ drop to chunks.old.items }
-    ensures len { length chunks.new.items + to ≡ length chunks.old.items + from }
-{
-    let _chunks = chunks.drain(from..to);
 }
 
 /// Has a chunk give back the memory that it does not use, as `Chunk::give_room_back` says.
@@ -62,10 +49,10 @@ pub fn drop_between<R: Drop, V: Drop, A: Allocator>(
 {
     let chunk = &chunks[last];
     if chunk.len() == 0 {
-        take_out_between(chunks, from, last + 1);
+        cut(chunks, from, last + 1);
         return;
     }
-    take_out_between(chunks, from, last);
+    cut(chunks, from, last);
 }
 
 // Cuts a chunk in two where it is long: in halves, or where it is the last one, so that it stays
@@ -121,7 +108,7 @@ pub fn settle<R: Drop, V: Drop, A: Allocator + Clone, const N: usize>(
 {
     let chunk = &chunks[at];
     if chunk.len() == 0 {
-        take_out_between(chunks, at, at + 1);
+        cut(chunks, at, at + 1);
         return;
     }
     if !is_resized {
@@ -178,6 +165,6 @@ fn join_next<R: Drop, V: Drop, A: Allocator>(
 {
     let (front, back) = chunks.split_at_mut(at + 1);
     move_first(back, front, at)?;
-    take_out_between(chunks, at + 1, at + 2);
+    cut(chunks, at + 1, at + 2);
     Ok(())
 }

@@ -47,11 +47,3 @@ pub fn move_back<T, A: Allocator>(from: &mut Vec<T, A>, to: &mut Vec<T, A>, plac
         insert_reserved(to, place, value);
     }
 }
-
-/// Drops the first `count` values.
-pub fn drop_first<T: Drop, A: Allocator>(list: &mut Vec<T, A>, count: usize)
-    requires { count ≤ length list.old.items }
-    ensures { list.new.items ≡ drop count list.old.items }
-{
-    let _first = list.drain(..count);
-}

@@ -8,7 +8,7 @@ use crate::iter::Iter;
 use crate::search::{end_from, start_of};
 use rangemap_core::key_range::KeyRange;
 use rangemap_core::kind::{Kind, known_ends};
-use rangemap_sorted::overlapping::{overlapping_pairs, overlapping_tail, take_begun};
+use rangemap_sorted::overlapping::{overlapping_tail, take_begun};
 use std::alloc::Allocator;
 
 /// Returns the pairs of the chunks that overlap the query, which may be empty or reversed, in order.
@@ -28,15 +28,15 @@ pub(crate) fn overlapping<'a, Q: Kind<R>, R: KeyRange, V: Eq, A: Allocator>(
     let at = start_of::<Q, R, V, A>(chunks, query);
     let end = end_from::<Q, R, V, A>(chunks, query, at);
     known_ends::<Q, R>(query);
-    let first = chunks[at].as_slice();
+    let first = overlapping_tail::<Q, R, V>(chunks[at].as_slice(), query);
     if end <= at + 1 {
-        return Iter::between(overlapping_pairs::<Q, R, V>(first, query), &[], &[]);
+        return Iter::between(take_begun::<R, V>(first, query), &[], &[]);
     }
     // All pairs of the first chunk start before the query ends, and none of the last before it starts:
     // so in each of them only one end is searched for.
     let last = end - 1;
     Iter::between(
-        overlapping_tail::<Q, R, V>(first, query),
+        first,
         &chunks[at + 1..last],
         take_begun::<R, V>(chunks[last].as_slice(), query),
     )

@@ -12,13 +12,21 @@ ghost use Rattle.rangemap_core.specs.engine.Shape.{shape_of};
 ghost use Rattle.rangemap_sorted.specs.Changes.{IsChanged, grown};
 ghost use Rattle.rangemap_chunked.specs.Chunks.{AreChunks, AreFilledBut, IsClearBefore, IsClearBehind, IsCounted, IsPastBehind, IsPastStart, chunk_by, whole};
 
-use crate::changes::{Counts, change_at};
 use crate::chunk::Chunk;
 use crate::joins::{drop_between, shrink_at};
 use crate::search::last_touched;
 use rangemap_core::key_range::KeyRange;
 use rangemap_core::kind::{Kind, known_ends};
 use std::alloc::{AllocError, Allocator};
+
+/// How many pairs stood in the stretch of chunks that a change went over, before it and after it.
+#[derive(Drop)]
+pub struct Counts {
+    /// Before it.
+    pub before: usize,
+    /// After it.
+    pub after: usize,
+}
 
 /// Gives every key of the range the value, or takes it out where there is none. The range overlaps
 /// or touches only chunks from `at` up to `end`. Without a value, the chunk at `at` may be left empty.
@@ -52,10 +60,16 @@ pub fn change_over<Q: Kind<R>, R: KeyRange, V: Eq + Clone, A: Allocator>(
     ensures counted { IfOk result (λ counts. IsCounted V.eq (grown value) (whole chunks.old.items) (whole chunks.new.items) counts.before counts.after) }
     ensures meets_nothing { value ≡ NoneWord → end ≤ at + 1 → overlapped Q.kind (slice_index_or chunks.old.items at []) range ≡ [] → IsOk result × (chunks.new.items ≡ chunks.old.items) }
 {
-    if end <= at + 1 {
-        return change_at::<Q, R, V, A>(chunks, at, range, value);
-    }
     known_ends::<Q, R>(&range);
+    if end <= at + 1 {
+        let chunk = &mut chunks[at];
+        let before = chunk.len();
+        chunk.change::<Q>(range, value)?;
+        return Ok(Counts {
+            before,
+            after: chunk.len(),
+        });
+    }
     let last = end - 1;
     let place = last_touched::<Q, R, V, A>(&chunks[last], &range);
     let before = count(&chunks[at..last]) + place + 1;

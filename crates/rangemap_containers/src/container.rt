@@ -17,9 +17,11 @@ use rangemap_core::key_range::KeyRange;
 use rangemap_core::kind::Kind;
 use std::alloc::{AllocError, Allocator};
 
+mod any;
 mod appends;
 mod inserts;
 
+pub use any::IsAny;
 pub use appends::Appending;
 pub use inserts::insert_pairs;
 

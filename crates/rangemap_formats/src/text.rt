@@ -2,9 +2,9 @@
 //!
 //! The plain text is written by hand, since std's `Debug` of ranges, and its builders, have no contract.
 //! Under `{:#?}` std's `debug_set` lays the pairs out, and nothing is promised of that text.
-ghost use Rattle.std.specs.Prelude.{ℕ, List, Option, Some, map};
+ghost use Rattle.std.specs.Prelude.{ℕ, List, Option};
 ghost use Rattle.std.specs.Fmt.{DisplaysOnOk};
-ghost use Rattle.rangemap_formats.specs.Texts.{braced_text, items_text, map_text, others_text, pair_text, range_text, set_text};
+ghost use Rattle.rangemap_formats.specs.Texts.{braced_text, others_text, range_text};
 
 use rangemap_core::cursor::Cursor;
 use rangemap_core::key_range::KeyRange;
@@ -15,49 +15,34 @@ use std::fmt;
 use std::fmt::{Debug, Formatter};
 use std::marker::PhantomData;
 
-/// Writes the pairs as `{0..100: "abc", 200..300: "ghi"}`. Under `{:#?}` each pair has a line of its
-/// own.
-pub fn write_map<S: Store<Range: Debug, Value: Debug>, W: fmt::Write>(
+/// Writes the pairs, each as `T` does, with `, ` between, in braces. Under `{:#?}` each has a line of
+/// its own.
+pub fn write<T: PairText<S::Range, S::Value>, S: Store, W: fmt::Write>(
     stored: &S,
     f: &mut Formatter<W>,
 ) -> fmt::Result
-where
-    <S::Range as KeyRange>::Key: Debug,
-    ensures { DisplaysOnOk W.write_str_gives f.old result (map_text S.Kind.kind S.Range.dots S.Range.Key.debug_output S.Value.debug_output (S.pairs stored.now)) f.new }
+    ensures { DisplaysOnOk W.write_str_gives f.old result (braced_text T.text (S.pairs stored.now)) f.new }
 {
     if f.alternate() {
-        return stored.read::<OnLines<RangeAndValue<S::Kind>, W>>(f);
+        return stored.read::<OnLines<T, W>>(f);
     }
-    write_all::<RangeAndValue<S::Kind>, S, W>(stored, f)
+    f.write_str("{")?;
+    stored.read::<Items<T, W>>(f)?;
+    f.write_str("}")
 }
 
-/// Writes the ranges of the pairs as `{0..100, 200..300}`, as `write_map` does the pairs.
-pub fn write_set<S: Store<Range: Debug>, W: fmt::Write>(
-    stored: &S,
-    f: &mut Formatter<W>,
-) -> fmt::Result
-where
-    <S::Range as KeyRange>::Key: Debug,
-    ensures { DisplaysOnOk W.write_str_gives f.old result (set_text S.Kind.kind S.Range.dots S.Range.Key.debug_output (map (λ pair. pair.0) (S.pairs stored.now))) f.new }
-{
-    if f.alternate() {
-        return stored.read::<OnLines<RangeAlone<S::Kind>, W>>(f);
-    }
-    write_all::<RangeAlone<S::Kind>, S, W>(stored, f)
-}
-
-// What is written of a pair.
-trait PairText<R, V> {
-    // The text.
+/// What is written of a pair.
+pub trait PairText<R, V> {
+    /// The text.
     ghost text: { R × V → Option (List ℕ) };
 
-    // Writes a range and its value.
+    /// Writes a range and its value.
     fn write_pair<W: fmt::Write>(range: &R, value: &V, f: &mut Formatter<W>) -> fmt::Result
         ensures { DisplaysOnOk W.write_str_gives f.old result (text (range.now, value.now)) f.new };
 }
 
-// The range and the value.
-struct RangeAndValue<Q>(PhantomData<Q>);
+/// The range and the value, as `0..100: "abc"`.
+pub struct RangeAndValue<Q>(PhantomData<Q>);
 
 impl<Q: Kind<R>, R: KeyRange, V: Debug> PairText<R, V> for RangeAndValue<Q>
 where
@@ -74,8 +59,8 @@ where
     }
 }
 
-// The range alone.
-struct RangeAlone<Q>(PhantomData<Q>);
+/// The range alone, as `0..100`.
+pub struct RangeAlone<Q>(PhantomData<Q>);
 
 impl<Q: Kind<R>, R: KeyRange, V> PairText<R, V> for RangeAlone<Q>
 where
@@ -132,18 +117,6 @@ impl<'a, T: PairText<R, V>, R, V> Debug for Written<'a, T, R, V> {
     fn fmt<W: fmt::Write>(&self, f: &mut Formatter<W>) -> fmt::Result {
         T::write_pair(self.range, self.value, f)
     }
-}
-
-// Writes the pairs in braces.
-fn write_all<T: PairText<S::Range, S::Value>, S: Store, W: fmt::Write>(
-    stored: &S,
-    f: &mut Formatter<W>,
-) -> fmt::Result
-    ensures { DisplaysOnOk W.write_str_gives f.old result (braced_text T.text (S.pairs stored.now)) f.new }
-{
-    f.write_str("{")?;
-    stored.read::<Items<T, W>>(f)?;
-    f.write_str("}")
 }
 
 // Writes the pairs that it reads, with `, ` between.

@@ -10,7 +10,7 @@ pub mod overlapping;
 mod probe;
 mod search;
 mod sorted_vec;
-mod splice;
+pub mod splice;
 
 pub use sorted_vec::SortedVec;
 

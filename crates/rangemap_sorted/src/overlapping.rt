@@ -135,43 +135,24 @@ pub fn overlapping_tail<'a, Q: Kind<R>, R: KeyRange, V: Eq>(
     &pairs[overlap_start::<Q, R, V>(pairs, query)..]
 }
 
-/// Returns the pairs of a canonical list that overlap the query, which may be empty or reversed.
-pub fn overlapping_pairs<'a, Q: Kind<R>, R: KeyRange, V: Eq>(
-    pairs: &'a [(R, V)],
-    query: &R,
-) -> &'a [(R, V)]
-    requires { IsCanonical Q.kind V.eq pairs.now }
-    ensures { result.now ≡ overlapped Q.kind pairs.now query.now }
-{
-    take_begun::<R, V>(overlapping_tail::<Q, R, V>(pairs, query), query)
-}
-
-/// Returns the pairs that start before the query ends, where these come first.
+/// Returns the pairs that start before the query ends, where these come first. Where they are many,
+/// std's search finds where they end, which sees whole pairs.
 pub fn take_begun<'a, R: KeyRange, V>(pairs: &'a [(R, V)], query: &R) -> &'a [(R, V)]
     requires { IsPartitionedBy (is_begun R.read R.has_end query.now) pairs.now }
     ensures { result.now ≡ take_while (is_begun R.read R.has_end query.now) pairs.now }
 {
-    &pairs[..count_begun::<R, V>(pairs, query)]
-}
-
-// How many pairs start before the query ends, where these come first: where they are many, by std's
-// search, which sees whole pairs.
-fn count_begun<R: KeyRange, V>(pairs: &[(R, V)], query: &R) -> usize
-    requires { IsPartitionedBy (is_begun R.read R.has_end query.now) pairs.now }
-    ensures bound { result ≤ length pairs.now }
-    ensures point { PassesUpTo (is_begun R.read R.has_end query.now) pairs.now result }
-{
     if QUERY_SCAN < pairs.len() && query.reaches(pairs[QUERY_SCAN].0.start()) {
-        return pairs.partition_point(|pair| query.reaches(pair.0.start()));
+        let count = pairs.partition_point(|pair| query.reaches(pair.0.start()));
+        return &pairs[..count];
     }
     let mut at = 0;
     'on: while at < pairs.len() {
         if !query.reaches(pairs[at].0.start()) {
-            return at;
+            return &pairs[..at];
         }
         at += 1;
     }
-    at
+    &pairs[..at]
 }
 
 /// Returns the places of the pairs that overlap a range which is to be changed.

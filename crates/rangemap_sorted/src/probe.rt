@@ -57,7 +57,7 @@ impl<'a, Q: Kind<R>, R: KeyRange, V> Probe<'a, Q, R, V> {
         ensures counted { self.new.1 ≡ self.old.1 + 1 }
     {
         self.asked += 1;
-        start_of::<Q, R, V>(self.pairs, at)
+        self.pairs[at].0.start()
     }
 
     /// Returns how many starts were asked for.
@@ -66,12 +66,4 @@ impl<'a, Q: Kind<R>, R: KeyRange, V> Probe<'a, Q, R, V> {
     {
         self.asked
     }
-}
-
-// The start of the pair at a place.
-fn start_of<Q: Kind<R>, R: KeyRange, V>(pairs: &[(R, V)], at: usize) -> &R::Key
-    requires { at < length pairs.now }
-    ensures { slice_get (starts_of Q.kind pairs.now) at ≡ Some result.now }
-{
-    pairs[at].0.start()
 }

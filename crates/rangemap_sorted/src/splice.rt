@@ -35,14 +35,16 @@ pub fn splice<T: Drop, A: Allocator>(
     ensures succeeds { vec_len list.old + (length (option_to_list left) + length (option_to_list middle) + length (option_to_list right) - (places.end - places.start)) ≤ vec_capacity list.old → IsOk result }
 {
     let Range { start, end } = places;
-    let added = count(&left) + count(&middle) + count(&right);
+    let added = usize::from(left.is_some())
+        + usize::from(middle.is_some())
+        + usize::from(right.is_some());
     make_room(list, added.saturating_sub(end - start))?;
     let len = list.len();
     let at = put(list, start, end, left);
     let at = put(list, at, end, middle);
     let at = put(list, at, end, right);
     let pushed = list.len() - len;
-    rotate_tail(list, end, pushed);
+    turn_right(&mut list[end..], pushed);
     cut(list, at, end);
     Ok(())
 }
@@ -64,14 +66,6 @@ fn make_room<T, A: Allocator>(list: &mut Vec<T, A>, more: usize) -> Result<(), A
     } else {
         list.reserve(more)
     }
-}
-
-// How many values an option holds.
-fn count<T>(option: &Option<T>) -> usize
-    ensures value { result ≡ length (option_to_list option.now) }
-    ensures bound { result ≤ 1 }
-{
-    usize::from(option.is_some())
 }
 
 // Puts the value over the one at `at`, or where the stretch ends there, behind all others. Answers
@@ -104,16 +98,8 @@ fn put<T: Drop, A: Allocator>(
     }
 }
 
-// Moves the last `count` values in front of those from `from` on.
-fn rotate_tail<T, A: Allocator>(list: &mut Vec<T, A>, from: usize, count: usize)
-    requires { from + count ≤ vec_len list.old }
-    ensures { list.new.items ≡ take from list.old.items ++ (drop (vec_len list.old - count) list.old.items ++ take (vec_len list.old - count - from) (drop from list.old.items)) }
-{
-    turn_right(&mut list[from..], count);
-}
-
-// Takes out the values from `start` up to `end`, if there are any.
-fn cut<T: Drop, A: Allocator>(list: &mut Vec<T, A>, start: usize, end: usize)
+/// Takes out the values from `start` up to `end`, if there are any.
+pub fn cut<T: Drop, A: Allocator>(list: &mut Vec<T, A>, start: usize, end: usize)
     requires start_le_end { start ≤ end }
     requires in_bounds { end ≤ vec_len list.old }
     ensures { list.new.items ≡ take start list.old.items ++ drop end list.old.items }
@@ -167,7 +153,7 @@ fn turn_down<T>(list: &mut [T], count: usize)
     let turned = list.len() - left;
     let (blocks, last) = list.split_at_mut(turned);
     turn_left(blocks, count);
-    swap_from(blocks, turned - count, last);
+    blocks[turned - count..turned - count + left].swap_with_slice(last);
 }
 
 // As `close_gap`, value by value, each by one exchange with a value that goes.
@@ -180,14 +166,4 @@ fn exchange_down<T>(list: &mut [T], count: usize)
     for at in count..list.len() {
         list.swap(at - count, at);
     }
-}
-
-// Has the values from `at` on and others change places.
-fn swap_from<T>(list: &mut [T], at: usize, others: &mut [T])
-    requires { at + length others.old ≤ length list.old }
-    ensures list { list.new ≡ take at list.old ++ (others.old ++ drop (at + length others.old) list.old) }
-    ensures len { length others.new ≡ length others.old }
-{
-    let end = at + others.len();
-    list[at..end].swap_with_slice(others);
 }

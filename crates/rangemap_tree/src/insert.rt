@@ -7,7 +7,6 @@ ghost use Rattle.rangemap_core.specs.Clones.{KeysCloneFaithfully, ValuesCloneFai
 ghost use Rattle.rangemap_core.specs.Ranges.{IsCanonOf, IsCanonical, IsNewest, half_open, override, value_at};
 ghost use Rattle.rangemap_tree.specs.Sides.{IsLeft, IsRight};
 ghost use Rattle.rangemap_tree.specs.Starts.{AreStarts, before, from, past, up_to};
-ghost use Rattle.std.specs.Option.{unwrap_or};
 
 use crate::by_start::ByStart;
 use crate::pieces::{piece_behind, range_before};
@@ -56,7 +55,8 @@ pub fn insert<K: Ord + Clone, V: Eq + Clone, A: Allocator + Clone>(
     let near = pairs.last_up_to(&range.end);
     let left = left_side(pairs, near, &range, &value)?;
     let right = right_side(pairs, near, &range, &value)?;
-    let middle = joined(left.start, right.end, range);
+    let Range { start, end } = range;
+    let middle = left.start.unwrap_or(start)..right.end.unwrap_or(end);
     let key = middle.start.clone()?;
     let starts = starts_within(pairs, near, &middle)?;
     pairs.replace(key, middle, value, left.cut, right.piece, starts.as_slice())
@@ -187,16 +187,4 @@ fn starts_within<K: Ord + Clone, V: Eq, A: Allocator + Clone>(
         }
         _ => Ok(Vec::new(pairs.allocator().clone()?)),
     }
-}
-
-// The new range with what is taken into it.
-fn joined<K: Drop>(start: Option<K>, end: Option<K>, range: Range<K>) -> Range<K>
-    ensures start { result.start ≡ unwrap_or start range.start }
-    ensures end { result.end ≡ unwrap_or end range.end }
-{
-    let Range {
-        start: new_start,
-        end: new_end,
-    } = range;
-    start.unwrap_or(new_start)..end.unwrap_or(new_end)
 }

@@ -1,32 +1,14 @@
-//! The pairs of a tree that overlap a range, or have a key.
+//! The pairs of a tree that overlap a range.
 ghost use Rattle.std.specs.Prelude.{◌≡◌, filter};
 ghost use Rattle.std.specs.BTreeMap.Range.{range_contains, IsLeBy, IsLtBy};
 ghost use Rattle.std.specs.Range.Bound.{bound_map, IsForward};
-ghost use Rattle.std.specs.Option.{option_map};
 ghost use Rattle.std.specs.declared.ops.Bound.TheVariants.{Excluded};
-ghost use Rattle.rangemap_core.specs.Ranges.{IsCanonical, covering, half_open, overlapped};
+ghost use Rattle.rangemap_core.specs.Ranges.{IsCanonical, half_open, overlapped};
 
 use crate::by_start::ByStart;
 use crate::pairs::Pairs;
 use std::alloc::Allocator;
 use std::ops::{Bound, Range};
-
-/// Returns the pair of a canonical list whose range has the key, if there is one: no other than the
-/// last that starts no later than the key.
-pub fn covering<'a, K: Ord, V: Eq, A: Allocator>(
-    pairs: &'a ByStart<K, V, A>,
-    key: &K,
-) -> Option<(&'a Range<K>, &'a V)>
-    requires { IsCanonical (half_open K.cmp) V.eq pairs.now }
-    ensures { option_map (λ pair. (pair.0.now, pair.1.now)) result ≡ covering (half_open K.cmp) pairs.now key.now }
-{
-    let (range, value) = pairs.last_up_to(key)?;
-    if key.cmp(&range.end).is_lt() {
-        Some((range, value))
-    } else {
-        None
-    }
-}
 
 /// Returns the pairs of a canonical list that overlap the query, which may be empty or reversed.
 ///

@@ -4,7 +4,7 @@ use crate::ahead::Ahead;
 use crate::by_start::ByStart;
 use crate::insert::insert;
 use crate::into_iter::IntoIter;
-use crate::overlapping::{covering, overlapping_pairs};
+use crate::overlapping::overlapping_pairs;
 use crate::pairs::Pairs;
 use crate::remove::remove;
 use rangemap_core::cursor::Cursor;
@@ -77,7 +77,13 @@ impl<K: Ord + Clone, V: Eq + Clone, A: Allocator + Clone> Store for Tree<K, V, A
     }
 
     fn covering(&self, key: &K) -> Option<(&Range<K>, &V)> {
-        covering(&self.pairs, key)
+        // No other can have the key than the last that starts no later.
+        let (range, value) = self.pairs.last_up_to(key)?;
+        if key.cmp(&range.end).is_lt() {
+            Some((range, value))
+        } else {
+            None
+        }
     }
 
     fn first(&self) -> Option<(&Range<K>, &V)> {

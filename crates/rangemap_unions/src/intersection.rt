@@ -1,5 +1,5 @@
 //! What two lists of ranges have in common.
-ghost use Rattle.std.specs.Prelude.{◌≡◌, ◌≢◌, ◌∷◌, ◌&&◌, List, [], false, IfOk, IfSome, IsOk, MatchOption, None as NoneWord, OnErr, Some as SomeWord, length, true};
+ghost use Rattle.std.specs.Prelude.{◌≡◌, ◌≢◌, ◌&&◌, List, [], false, IfOk, IfSome, IsOk, MatchOption, None as NoneWord, OnErr, Some as SomeWord, length, true};
 ghost use Rattle.std.specs.Iterator.{UpTo, at_most};
 ghost use Rattle.std.specs.Iterator.SizeHint.{IsWithinCount};
 ghost use Rattle.std.specs.Ordering.{is_lt};
@@ -68,7 +68,7 @@ impl<C: Peek> Intersection<C> {
         }
     }
 
-    /// Takes the next range, made of clones.
+    /// Returns the next range, made of clones.
     ///
     /// # Requires
     ///
@@ -142,22 +142,7 @@ fn common_part<R: KeyRange>(
     } else {
         left
     };
-    if left_ends_first {
-        up_to_end(first, left)
-    } else {
-        up_to_end(first, right)
-    }
-}
-
-// The part from the start of the first range up to the end of the last, where it comes before that.
-fn up_to_end<R: KeyRange>(first: &R, last: &R) -> Result<Option<R>, AllocError>
-    requires { KeysCloneFaithfully R.Key.is_clone R.Key.cmp }
-    ensures made { (rest : List R) → IfOk result (λ part. MatchOption part
-        (reaches R.places last.now first.now ≡ false)
-        (λ range. (reaches R.places last.now first.now ≡ true) × TakesRange R.read (R.places.between first.now last.now ∷ rest) (SomeWord range) rest)) }
-    ensures refused { OnErr result (reaches R.places last.now first.now ≡ true) }
-    ensures succeeds { KeysCloneInfallibly R.Key.is_infallible → IsOk result }
-{
+    let last = if left_ends_first { left } else { right };
     if is_reached(last, first) {
         between(first, last)
     } else {

@@ -4,7 +4,6 @@ ghost use Rattle.std.specs.Iterator.{UpTo, at_most};
 ghost use Rattle.std.specs.Iterator.SizeHint.{IsWithinCount};
 ghost use Rattle.rangemap_core.specs.Clones.{KeysCloneFaithfully, KeysCloneInfallibly};
 ghost use Rattle.rangemap_core.specs.MadeRanges.{GivesNext, TakesRange};
-ghost use Rattle.std.specs.Map.Iter.{TakesFirst};
 ghost use Rattle.rangemap_core.specs.Sets.{AreHulls, AreNonEmptyRanges, CoverEither, IsCanonicalSet, ranges};
 ghost use Rattle.rangemap_core.specs.Shown.{shown_range};
 ghost use Rattle.rangemap_unions.specs.Items.{items_from, items_of, merged, reaches, union_items};
@@ -77,7 +76,7 @@ impl<C: Peek> Union<C> {
         }
     }
 
-    /// Takes the next range, made of clones.
+    /// Returns the next range, made of clones.
     ///
     /// # Requires
     ///
@@ -141,17 +140,6 @@ fn is_left_first<C: Peek>(left: &mut C, right: &mut C) -> bool
         (Some(p), Some(q)) => compare_starts(C::parts(&p).0, C::parts(&q).0).is_lt(),
         (Some(_), None) => true,
         (None, _) => false,
-    }
-}
-
-// Takes the first of both.
-fn take_first<C: Peek>(left: &mut C, right: &mut C) -> Option<(C::Given, C::GivenValue)>
-    ensures { TakesFirst (shown_range C.given) (merged C.Range.places (ranges (C.left left.old)) (ranges (C.left right.old))) result (merged C.Range.places (ranges (C.left left.new)) (ranges (C.left right.new))) }
-{
-    if is_left_first(left, right) {
-        side::take(left)
-    } else {
-        side::take(right)
     }
 }
 
@@ -230,8 +218,11 @@ impl<C: Peek> Sides<C> {
         if let Some(first) = self.first.take() {
             return Some((first, self.last.take()));
         }
-        let first = take_first(&mut self.left, &mut self.right)?;
-        Some((first, None))
+        if is_left_first(&mut self.left, &mut self.right) {
+            Some((side::take(&mut self.left)?, None))
+        } else {
+            Some((side::take(&mut self.right)?, None))
+        }
     }
 
     // Takes the next item, made of clones. `Err` says that a clone was refused: no item is lost then.

@@ -4,7 +4,7 @@ use super::Set;
 use rangemap_core::key_range::KeyRange;
 use rangemap_core::kind::Kind;
 use rangemap_core::store::Store;
-use rangemap_formats::text::write_set;
+use rangemap_formats::text::{RangeAlone, write};
 use std::fmt;
 use std::fmt::{Debug, Formatter};
 
@@ -20,6 +20,6 @@ where
     /// Writes the ranges as `{0..100, 200..300}` or `{0..=100, 200..=300}`, and `{}` where there are
     /// none. Under `{:#?}` each has a line of its own, and nothing is promised of that text.
     fn fmt<W: fmt::Write>(&self, f: &mut Formatter<W>) -> fmt::Result {
-        write_set(&self.stored, f)
+        write::<RangeAlone<S::Kind>, S, W>(&self.stored, f)
     }
 }

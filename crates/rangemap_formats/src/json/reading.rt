@@ -4,7 +4,6 @@ ghost use Rattle.serde_json.specs.declared.value.Value.{Value as Json};
 ghost use Rattle.rangemap_core.specs.Clones.{KeysCloneFaithfully, ValuesCloneFaithfully};
 ghost use Rattle.rangemap_formats.specs.Json.{Breaks, EndsWith, Follows, IsEntryFault, IsRead, IsReading, IsRefusedForMemoryAlone, IsUnambiguous, Reader, RefusesToRead, list_of};
 ghost use Rattle.rangemap_core.specs.Ranges.{IsStorable};
-ghost use Rattle.rangemap_core.specs.engine.Intervals.{IsBetween};
 ghost use Rattle.rangemap_formats.specs.declared.json.Form.TheVariants.{Canonical as CanonicalWord};
 
 use super::{Form, Part, ReadError};
@@ -103,19 +102,11 @@ fn read_entry<S: Store, E, R: ReadsParts<S, E>>(
         Ok(value) => value,
         Err(fault) => return Err(ReadError::BadValue { at, fault }),
     };
-    match between::<S::Kind, S::Range>(start, end) {
-        Some(range) => Ok((range, value)),
-        None => Err(ReadError::EmptyRange { at }),
-    }
-}
-
-// The range from one key to another, where it is not empty.
-fn between<Q: Kind<R>, R: KeyRange>(start: R::Key, end: R::Key) -> Option<R>
-    ensures { IsBetween Q.kind R.has_end start end result }
-{
-    let range = R::between(start, end)?;
-    known_ends::<Q, R>(&range);
-    Some(range)
+    let Some(range) = S::Range::between(start, end) else {
+        return Err(ReadError::EmptyRange { at });
+    };
+    known_ends::<S::Kind, S::Range>(&range);
+    Ok((range, value))
 }
 
 // Whether the form lets the pair stand behind the last that is stored.

@@ -37,8 +37,16 @@ pub(super) fn answer<M: Container, A: Allocator + Clone>(
         Command::Len => Ok(Answer::Len(map.len())),
         Command::Get(key) => get(map, &key),
         Command::GetKeyValue(key) => get_key_value(map, &key),
-        Command::All => all(alloc, map),
-        Command::Overlapping(query) => overlapping(alloc, map, &query),
+        Command::All => {
+            let mut pairs = Vec::new(alloc.clone()?);
+            map.append_all(&mut pairs)?;
+            Ok(Answer::Pairs(pairs))
+        }
+        Command::Overlapping(query) => {
+            let mut pairs = Vec::new(alloc.clone()?);
+            map.append_overlapping(&query, &mut pairs)?;
+            Ok(Answer::Pairs(pairs))
+        }
     }
 }
 
@@ -73,30 +81,4 @@ fn get_key_value<M: Container, A: Allocator>(
         }
         None => Ok(Answer::Pair(None)),
     }
-}
-
-// Answers clones of all pairs.
-fn all<M: Container, A: Allocator + Clone>(alloc: &A, map: &M) -> Outcome<M::Range, M::Value, A>
-    requires faithful_keys { KeysCloneFaithfully M.Range.Key.is_clone M.Range.Key.cmp }
-    requires faithful_values { ValuesCloneFaithfully M.Value.is_clone M.Value.eq }
-    ensures { CommandStep M.Kind.kind M.Value.eq (M.pairs map.now) command_word.All result (M.pairs map.now) }
-{
-    let mut pairs = Vec::new(alloc.clone()?);
-    map.append_all(&mut pairs)?;
-    Ok(Answer::Pairs(pairs))
-}
-
-// Answers clones of the pairs that overlap a range.
-fn overlapping<M: Container, A: Allocator + Clone>(
-    alloc: &A,
-    map: &M,
-    query: &M::Range,
-) -> Outcome<M::Range, M::Value, A>
-    requires faithful_keys { KeysCloneFaithfully M.Range.Key.is_clone M.Range.Key.cmp }
-    requires faithful_values { ValuesCloneFaithfully M.Value.is_clone M.Value.eq }
-    ensures { CommandStep M.Kind.kind M.Value.eq (M.pairs map.now) (command_word.Overlapping query.now) result (M.pairs map.now) }
-{
-    let mut pairs = Vec::new(alloc.clone()?);
-    map.append_overlapping(query, &mut pairs)?;
-    Ok(Answer::Pairs(pairs))
 }

@@ -1,5 +1,5 @@
 //! The run of a list of commands on a map, whatever it is made of.
-ghost use Rattle.std.specs.Prelude.{◌≡◌, ◌≤◌, [], IfOk, OnErr, vec_len, vec_capacity};
+ghost use Rattle.std.specs.Prelude.{◌≡◌, IfOk, OnErr};
 ghost use Rattle.std.specs.List.{AllByRecursion};
 ghost use Rattle.rangemap_core.specs.Clones.{KeysCloneFaithfully, ValuesCloneFaithfully};
 ghost use Rattle.rangemap_laws.specs.Runs.{CommandStep, IsAllowed, Ran};
@@ -48,26 +48,9 @@ pub fn run<M: Container, A: Allocator + Clone>(
     ensures err { OnErr result (M.pairs map.new ≡ M.pairs map.old) }
 {
     let mut answers = Vec::with_capacity(alloc.clone()?, commands.len())?;
-    run_all(&alloc, map, commands, &mut answers);
-    Ok(answers)
-}
-
-// Runs the commands, for whose answers there is room.
-fn run_all<M: Container, A: Allocator + Clone>(
-    alloc: &A,
-    map: &mut M,
-    commands: Vec<Command<<M::Range as KeyRange>::Key, M::Range, M::Value>, A>,
-    answers: &mut Vec<Outcome<M::Range, M::Value, A>, A>,
-)
-    requires room { vec_len commands ≤ vec_capacity answers.old }
-    requires no_answers { answers.old.items ≡ [] }
-    requires allowed { AllByRecursion (IsAllowed M.Kind.kind) commands.items }
-    requires faithful_keys { KeysCloneFaithfully M.Range.Key.is_clone M.Range.Key.cmp }
-    requires faithful_values { ValuesCloneFaithfully M.Value.is_clone M.Value.eq }
-    ensures { Ran (CommandStep M.Kind.kind M.Value.eq) (M.pairs map.old) commands.items answers.new.items (M.pairs map.new) }
-{
     for command in commands {
-        let given = answer(alloc, map, command);
+        let given = answer(&alloc, map, command);
         answers.push_reserved(given);
     }
+    Ok(answers)
 }

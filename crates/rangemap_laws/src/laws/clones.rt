@@ -1,11 +1,11 @@
 //! Calls with clones of a range and a value, which the laws make more than once.
-ghost use Rattle.std.specs.Prelude.{◌≡◌, IfOk, OnErr, OnOk};
-ghost use Rattle.rangemap_core.specs.MadeRanges.{IsSame};
+ghost use Rattle.std.specs.Prelude.{◌≡◌, OnErr, OnOk};
 ghost use Rattle.rangemap_core.specs.Clones.{KeysCloneFaithfully, ValuesCloneFaithfully};
-ghost use Rattle.rangemap_core.specs.Ranges.{IsCanonOf, IsCanonical, IsStorable, erase, override, value_at};
+ghost use Rattle.rangemap_core.specs.Ranges.{IsCanonOf, IsCanonical, erase, override, value_at};
 
 use rangemap_containers::container::Container;
 use rangemap_core::kind::{Endpoint, Kind, known_ends};
+use rangemap_core::pairs::clone_pair;
 use std::alloc::AllocError;
 
 /// Inserts clones of a range and a value. The map is canonical before, which the laws need of what
@@ -23,11 +23,12 @@ pub fn insert_clone<M: Container>(
     ensures err { OnErr result (M.pairs map.new ≡ M.pairs map.old) }
 {
     map.known();
-    let range = clone_range::<M>(range)?;
-    map.insert(range, value.clone()?)
+    known_ends::<M::Kind, M::Range>(range);
+    let (range, value) = clone_pair::<M::Kind, M::Range, M::Value>(range, value)?;
+    map.insert(range, value)
 }
 
-/// Removes a clone of a range.
+/// Removes a clone of a range: the part from its own start up to its own end.
 pub fn remove_clone<M: Container>(map: &mut M, range: &M::Range) -> Result<(), AllocError>
     requires non_empty { M.Kind.kind.IsNonEmpty range.now }
     requires faithful_keys { KeysCloneFaithfully M.Range.Key.is_clone M.Range.Key.cmp }
@@ -37,16 +38,6 @@ pub fn remove_clone<M: Container>(map: &mut M, range: &M::Range) -> Result<(), A
     ensures err { OnErr result (M.pairs map.new ≡ M.pairs map.old) }
 {
     map.known();
-    map.remove(clone_range::<M>(range)?)
-}
-
-// A range with the same ends: the part from its own start up to its own end.
-fn clone_range<M: Container>(range: &M::Range) -> Result<M::Range, AllocError>
-    requires non_empty { M.Kind.kind.IsNonEmpty range.now }
-    requires faithful_keys { KeysCloneFaithfully M.Range.Key.is_clone M.Range.Key.cmp }
-    ensures stored { IsStorable M.Kind.kind range.now }
-    ensures same { IfOk result (IsSame M.Kind.kind range.now) }
-{
     known_ends::<M::Kind, M::Range>(range);
-    M::Kind::part(Endpoint::Start(range), Endpoint::End(range))
+    map.remove(M::Kind::part(Endpoint::Start(range), Endpoint::End(range))?)
 }

@@ -4,7 +4,7 @@ use super::Map;
 use rangemap_core::key_range::KeyRange;
 use rangemap_core::kind::Kind;
 use rangemap_core::store::Store;
-use rangemap_formats::text::write_map;
+use rangemap_formats::text::{RangeAndValue, write};
 use std::fmt;
 use std::fmt::{Debug, Formatter};
 
@@ -20,6 +20,6 @@ where
     /// Writes the pairs as `{0..100: "abc", 200..300: "ghi"}`, and `{}` where there are none. Under
     /// `{:#?}` each has a line of its own, and nothing is promised of that text.
     fn fmt<W: fmt::Write>(&self, f: &mut Formatter<W>) -> fmt::Result {
-        write_map(&self.stored, f)
+        write::<RangeAndValue<S::Kind>, S, W>(&self.stored, f)
     }
 }

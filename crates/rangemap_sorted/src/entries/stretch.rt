@@ -1,11 +1,11 @@
 //! The stretch of a list of pairs that an insert replaces.
-ghost use Rattle.std.specs.Prelude.{◌≡◌, ◌-◌, ◌≤◌, true, false, None as NoneWord, Some as SomeWord, IfOk};
+ghost use Rattle.std.specs.Prelude.{◌≡◌, ◌-◌, true, false, None as NoneWord, Some as SomeWord, IfOk};
 ghost use Rattle.rangemap_core.specs.Clones.{KeysCloneFaithfully, ValuesCloneFaithfully};
 ghost use Rattle.rangemap_core.specs.engine.Endpoints.{IsAskedAt, endpoint_of};
 ghost use Rattle.rangemap_core.specs.engine.Places.{Spans};
 ghost use Rattle.rangemap_core.specs.Ranges.{IsCanonical, IsStorable};
-ghost use Rattle.rangemap_core.specs.engine.Shape.{PassesUpTo, shape_of};
-ghost use Rattle.rangemap_core.specs.engine.Stretch.{are_apart, taken_or_new, IsOverlap, IsStretch, IsLeftSide, IsRightSide, IsPiece, IsTaken};
+ghost use Rattle.rangemap_core.specs.engine.Shape.{shape_of};
+ghost use Rattle.rangemap_core.specs.engine.Stretch.{are_apart, taken_or_new, IsStretch, IsLeftSide, IsRightSide, IsPiece, IsTaken};
 ghost use Rattle.rangemap_sorted.specs.Sides.{IsSide};
 
 use crate::overlapping::overlap;
@@ -49,17 +49,20 @@ pub fn stretch<Q: Kind<R>, R: KeyRange, V: Eq>(
     requires range { IsStorable Q.kind range.now }
     ensures { IsStretch (shape_of Q.kind Q.end_place V.eq) pairs.now (range.now, value.now) result.start result.end }
 {
-    let met = overlap::<Q, R, V>(pairs, range);
-    let start = stretch_start::<Q, R, V>(pairs, &met, range, value);
-    if met.end == pairs.len() {
-        return start..met.end;
+    let mut places = overlap::<Q, R, V>(pairs, range);
+    if 0 < places.start {
+        let before = &pairs[places.start - 1];
+        if !is_apart::<Q, R, V>(&before.0, &before.1, range, value) {
+            places.start -= 1;
+        }
     }
-    let behind = &pairs[met.end];
-    if is_apart::<Q, R, V>(range, value, &behind.0, &behind.1) {
-        start..met.end
-    } else {
-        start..met.end + 1
+    if places.end < pairs.len() {
+        let behind = &pairs[places.end];
+        if !is_apart::<Q, R, V>(range, value, &behind.0, &behind.1) {
+            places.end += 1;
+        }
     }
+    places
 }
 
 /// Returns what an insert leaves of the first pair of its stretch, and of the last.
@@ -158,30 +161,6 @@ pub fn middle<Q: Kind<R>, R: KeyRange, V: Eq + Clone>(
         &range
     };
     Q::part(Endpoint::Start(first), Endpoint::End(last))
-}
-
-// Where a stretch starts: at the pair before those that overlap the range, if it is to be joined.
-fn stretch_start<Q: Kind<R>, R: KeyRange, V: Eq>(
-    pairs: &[(R, V)],
-    met: &Range<usize>,
-    range: &R,
-    value: &V,
-) -> usize
-    requires canonical { IsCanonical Q.kind V.eq pairs.now }
-    requires range { IsStorable Q.kind range.now }
-    requires overlap { IsOverlap (shape_of Q.kind Q.end_place V.eq) pairs.now range.now met.now.start met.now.end }
-    ensures before { result ≤ met.now.start }
-    ensures point { PassesUpTo (λ a. are_apart (shape_of Q.kind Q.end_place V.eq) a (range.now, value.now)) pairs.now result }
-{
-    if met.start == 0 {
-        return 0;
-    }
-    let pair = &pairs[met.start - 1];
-    if is_apart::<Q, R, V>(&pair.0, &pair.1, range, value) {
-        met.start
-    } else {
-        met.start - 1
-    }
 }
 
 // Whether the first pair lies wholly before the second, and they are not to be joined into one.

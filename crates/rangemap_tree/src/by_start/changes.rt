@@ -1,11 +1,10 @@
 //! What is put into a tree of pairs, and taken out.
-ghost use Rattle.std.specs.Prelude.{◌≡◌, ◌∷◌, ◌++◌, [], filter, IfErr, IsOk, None as NoneWord, OnErr, OnOk, Some as SomeWord};
-ghost use Rattle.std.specs.BTreeMap.{insert_entry, is_at, values, IsOrdered};
-ghost use Rattle.std.specs.Map.{remove_entry};
+ghost use Rattle.std.specs.Prelude.{◌≡◌, ◌∷◌, ◌++◌, [], filter, IfErr, IsOk, None as NoneWord, OnErr, OnOk};
+ghost use Rattle.std.specs.BTreeMap.{insert_entry, IsOrdered};
 ghost use Rattle.std.specs.BTreeMap.Range.{range_contains};
 ghost use Rattle.std.specs.declared.ops.Bound.TheVariants.{Excluded, Included};
 ghost use Rattle.std.specs.declared.cmp.Ordering.TheVariants.{Equal, Less};
-ghost use Rattle.rangemap_tree.specs.Starts.{AreKeyed, AreStarts, before, from, past, piece_list, recut, with_piece, without, without_all, IsCutThere, IsKeyed, IsNewAt, IsRecut};
+ghost use Rattle.rangemap_tree.specs.Starts.{AreStarts, before, from, past, piece_list, recut, with_piece, without, without_all, IsCutThere, IsKeyed, IsNewAt, IsRecut};
 
 use super::ByStart;
 use std::alloc::{AllocError, Allocator};
@@ -25,7 +24,9 @@ impl<K: Ord + Drop, V: Drop, A: Allocator> ByStart<K, V, A> {
         ensures { self.new ≡ without K.cmp key.now self.old }
     {
         if let Some(tree) = &mut self.tree {
-            remove(tree, key);
+            // `len` tells that the keys of a tree at hand are in order.
+            let _ = tree.len();
+            tree.remove(key);
         }
     }
 
@@ -49,7 +50,9 @@ impl<K: Ord + Drop, V: Drop, A: Allocator> ByStart<K, V, A> {
             return;
         };
         if let Some(tree) = &mut self.tree {
-            set_range(tree, range);
+            if let Some(pair) = tree.get_mut(&range.start) {
+                pair.0 = range;
+            }
         }
     }
 }
@@ -196,28 +199,5 @@ fn insert<K: Ord + Drop, V: Drop, A: Allocator + Clone>(
             let (_, pair) = refused.value;
             Err(pair.0)
         }
-    }
-}
-
-// Takes the pair out of a tree that stands at a key, if one does.
-fn remove<K: Ord + Drop, V: Drop, A: Allocator>(tree: &mut BTreeMap<K, (Range<K>, V), A>, key: &K)
-    ensures removed { tree.new.entries ≡ remove_entry (is_at (K.cmp key.now)) tree.old.entries }
-    ensures was_ordered { IsOrdered K.cmp tree.old }
-{
-    // `len` tells that the keys of a tree at hand are in order.
-    let _ = tree.len();
-    tree.remove(key);
-}
-
-// Puts another range at the pair of a tree that starts where it does.
-fn set_range<K: Ord + Drop, V: Drop, A: Allocator>(
-    tree: &mut BTreeMap<K, (Range<K>, V), A>,
-    range: Range<K>,
-)
-    ensures keyed { AreKeyed K.cmp tree.old.entries → AreKeyed K.cmp tree.new.entries }
-    ensures set { AreKeyed K.cmp tree.old.entries → IsRecut K.cmp (SomeWord range) (values tree.old) (values tree.new) }
-{
-    if let Some(pair) = tree.get_mut(&range.start) {
-        pair.0 = range;
     }
 }

@@ -7,18 +7,18 @@ returns-clause-whole g c =
     joined_whole c.args.chunks.now.items c.split_at_mut-front.result.0.now c.split_at_mut-front.result.1.now c.args.at c.requires.in_bounds
     (c.split_at_mut-front.ensures.front ∙ ap (take (c.args.at + 1)) c.deref_mut.ensures.value) (c.split_at_mut-front.ensures.back ∙ ap (drop (c.args.at + 1)) c.deref_mut.ensures.value)
     _ c.args.chunks.now.len (sym (sym (ap length c.deref_mut.ensures.value) ∙ c.deref_mut.ensures.len))
-    c.move_first.new.to c.move_first.new.from c.take_out_between.new.chunks.items c.in_ok-move_first.ensures.to c.in_ok-move_first.ensures.from c.take_out_between.ensures.items
+    c.move_first.new.to c.move_first.new.from c.cut.new.list.items c.in_ok-move_first.ensures.to c.in_ok-move_first.ensures.from c.cut.ensures
 
 pub returns-clause-filled : goal.returns-clause-filled
 returns-clause-filled g c =
     joined_filled c.args.chunks.now.items c.split_at_mut-front.result.0.now c.split_at_mut-front.result.1.now c.args.at c.requires.in_bounds
     (c.split_at_mut-front.ensures.front ∙ ap (take (c.args.at + 1)) c.deref_mut.ensures.value) (c.split_at_mut-front.ensures.back ∙ ap (drop (c.args.at + 1)) c.deref_mut.ensures.value)
     _ c.args.chunks.now.len (sym (sym (ap length c.deref_mut.ensures.value) ∙ c.deref_mut.ensures.len))
-    c.move_first.new.to c.move_first.new.from c.take_out_between.new.chunks.items c.in_ok-move_first.ensures.to c.in_ok-move_first.ensures.from c.take_out_between.ensures.items c.requires.filled
+    c.move_first.new.to c.move_first.new.from c.cut.new.list.items c.in_ok-move_first.ensures.to c.in_ok-move_first.ensures.from c.cut.ensures c.requires.filled
 
 pub returns-clause-fewer : goal.returns-clause-fewer
 returns-clause-fewer g c =
     joined_length c.args.chunks.now.items c.split_at_mut-front.result.0.now c.split_at_mut-front.result.1.now c.args.at c.requires.in_bounds
     (c.split_at_mut-front.ensures.front ∙ ap (take (c.args.at + 1)) c.deref_mut.ensures.value) (c.split_at_mut-front.ensures.back ∙ ap (drop (c.args.at + 1)) c.deref_mut.ensures.value)
     _ c.args.chunks.now.len (sym (sym (ap length c.deref_mut.ensures.value) ∙ c.deref_mut.ensures.len))
-    c.move_first.new.to c.move_first.new.from c.take_out_between.new.chunks.items c.in_ok-move_first.ensures.to c.in_ok-move_first.ensures.from c.take_out_between.ensures.items c.take_out_between.ensures.len
+    c.move_first.new.to c.move_first.new.from c.cut.new.list.items c.in_ok-move_first.ensures.to c.in_ok-move_first.ensures.from c.cut.ensures

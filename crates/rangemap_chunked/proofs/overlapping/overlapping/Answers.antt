@@ -12,31 +12,23 @@ use Rattle.rangemap_chunked.proofs.CutLemmas.{canonical_chunk}
 use Rattle.rangemap_chunked.proofs.OverlapLemmas.{first_begun, last_past, met_alone, met_over, pairs_at}
 use Rattle.rangemap_chunked.proofs.overlapping.overlapping.Goals as goal
 
-pub overlapping_pairs-requires : goal.overlapping_pairs-requires
-overlapping_pairs-requires g c =
+pub overlapping_tail-first-requires : goal.overlapping_tail-first-requires
+overlapping_tail-first-requires g c =
     let k = g.Q.Kind.kind in
     let eq = g.V.PartialEq.eq in
     let chunks = c.args.chunks.now in
     let here : c.start_of-at.result < length chunks = c.start_of-at.ensures.in_bounds (omega (arith, c.if-chunks-eq0.false)) in
-    subst (IsCanonical k eq) (sym (c.as_slice-first.ensures ∙ c.index-chunks-at.is)) (canonical_chunk k eq chunks c.requires.canonical c.start_of-at.result c.index-chunks-at.result here)
+    subst (IsCanonical k eq) (sym (c.as_slice.ensures ∙ c.index-chunks-at.is)) (canonical_chunk k eq chunks c.requires.canonical c.start_of-at.result c.index-chunks-at.result here)
 
-pub overlapping_tail-requires : goal.overlapping_tail-requires
-overlapping_tail-requires g c =
-    let k = g.Q.Kind.kind in
-    let eq = g.V.PartialEq.eq in
-    let chunks = c.args.chunks.now in
-    let here : c.start_of-at.result < length chunks = c.start_of-at.ensures.in_bounds (omega (arith, c.if-chunks-eq0.false)) in
-    subst (IsCanonical k eq) (sym (c.as_slice-first.ensures ∙ c.index-chunks-at.is)) (canonical_chunk k eq chunks c.requires.canonical c.start_of-at.result c.index-chunks-at.result here)
-
-pub take_begun-requires : goal.take_begun-requires
-take_begun-requires g c =
+pub take_begun-requires-2 : goal.take_begun-requires-2
+take_begun-requires-2 g c =
     let k = g.Q.Kind.kind in
     let eq = g.V.PartialEq.eq in
     let chunks = c.args.chunks.now in
     let query = c.args.query.now in
-    let pairs = c.as_slice.result.now in
+    let pairs = c.as_slice-2.result.now in
     let there : c.end_from-end.result - 1 < length chunks = omega (arith, c.end_from-end.ensures.bound, c.end_from-end.ensures.behind) in
-    let canonical : IsCanonical k eq pairs = subst (IsCanonical k eq) (sym (c.as_slice.ensures ∙ c.index-chunks-last.is)) (canonical_chunk k eq chunks c.requires.canonical (c.end_from-end.result - 1) c.index-chunks-last.result there) in
+    let canonical : IsCanonical k eq pairs = subst (IsCanonical k eq) (sym (c.as_slice-2.ensures ∙ c.index-chunks-last.is)) (canonical_chunk k eq chunks c.requires.canonical (c.end_from-end.result - 1) c.index-chunks-last.result there) in
     subst (λ test. IsPartitionedBy test pairs) (begun_alike g.met.Q.Kind.reads g.R.KeyRange.has_end {V = g.row.V.Denot} query)
     (begun_first g.met.Q.Kind.placed eq g.met.Q.Kind.interval query pairs canonical)
 
@@ -48,8 +40,8 @@ returns-then-end-at g c =
     let at = c.start_of-at.result in
     let end = c.end_from-end.result in
     let here : at < length chunks = c.start_of-at.ensures.in_bounds (omega (arith, c.if-chunks-eq0.false)) in
-    let first = pairs_at chunks at here c.index-chunks-at.result c.as_slice-first.result.now c.as_slice-first.ensures c.index-chunks-at.is in
-    c.between.ensures ∙ append-nil c.overlapping_pairs.result.now ∙ c.overlapping_pairs.ensures
+    let first = pairs_at chunks at here c.index-chunks-at.result c.as_slice.result.now c.as_slice.ensures c.index-chunks-at.is in
+    c.between.ensures ∙ append-nil c.take_begun.result.now ∙ c.take_begun.ensures ∙ c.overlapping_tail-first.ensures.overlapped
     ∙ ap (λ (pairs : List (g.row.R.Denot × g.row.V.Denot)). overlapped k pairs query) first
     ∙ sym (met_alone g.met.Q.Kind.placed g.met.V.Eq.laws query c.known_ends.ensures chunks c.requires at end here c.end_from-end.ensures.bound c.start_of-at.ensures.clear c.end_from-end.ensures.clear (omega (arith, c.if-end-at.true)))
 
@@ -73,17 +65,17 @@ returns g c =
     let here : at < length chunks = c.start_of-at.ensures.in_bounds (omega (arith, c.if-chunks-eq0.false)) in
     let there : end - 1 < length chunks = omega (arith, bound, more) in
     let is : end ≡ suc (end - 1) = omega (arith, more) in
-    let tail = c.as_slice-first.result.now in
-    let head = c.as_slice.result.now in
-    let first : tail ≡ get_or chunks at [] = pairs_at chunks at here c.index-chunks-at.result tail c.as_slice-first.ensures c.index-chunks-at.is in
-    let last : head ≡ get_or chunks (end - 1) [] = pairs_at chunks (end - 1) there c.index-chunks-last.result head c.as_slice.ensures c.index-chunks-last.is in
+    let tail = c.as_slice.result.now in
+    let head = c.as_slice-2.result.now in
+    let first : tail ≡ get_or chunks at [] = pairs_at chunks at here c.index-chunks-at.result tail c.as_slice.ensures c.index-chunks-at.is in
+    let last : head ≡ get_or chunks (end - 1) [] = pairs_at chunks (end - 1) there c.index-chunks-last.result head c.as_slice-2.ensures c.index-chunks-last.is in
     let canonical : IsCanonical k eq head = subst (IsCanonical k eq) (sym last) (canonical_chunk k eq chunks c.requires.canonical (end - 1) [] there) in
-    let of_first : c.overlapping_tail.result.now ≡ overlapped k (get_or chunks at []) query =
-    c.overlapping_tail.ensures.all
+    let of_first : c.overlapping_tail-first.result.now ≡ overlapped k (get_or chunks at []) query =
+    c.overlapping_tail-first.ensures.all
     (subst (Every (λ (a : g.row.R.Denot × g.row.V.Denot). starts_within (S p eq) query a ≡ true)) (sym first) (first_begun p e query asked chunks c.requires at end here bound clear behind (end - 1) is (omega (arith, more)) past begun))
     ∙ ap (λ (pairs : List (g.row.R.Denot × g.row.V.Denot)). overlapped k pairs query) first in
-    let of_last : c.take_begun.result.now ≡ overlapped k (get_or chunks (end - 1) []) query =
-    c.take_begun.ensures
+    let of_last : c.take_begun-2.result.now ≡ overlapped k (get_or chunks (end - 1) []) query =
+    c.take_begun-2.ensures
     ∙ subst (λ test. take_while test head ≡ overlapped k head query) (begun_alike g.met.Q.Kind.reads g.R.KeyRange.has_end {V = g.row.V.Denot} query)
     (begun_of_past p eq g.met.Q.Kind.interval query asked head canonical
     (subst (Every (λ (b : g.row.R.Denot × g.row.V.Denot). is_gt (place_cmp k.cmp (Some (k.start query)) (Some (k.start b.0))) ≡ false)) (sym last) (last_past p e query asked chunks c.requires at end here bound clear behind (end - 1) is (omega (arith, more)) past begun)))

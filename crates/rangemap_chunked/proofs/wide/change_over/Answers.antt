@@ -1,8 +1,8 @@
-use Rattle.std.proofs.Common.{arith, ◌≡◌, ◌∙◌, ◌+◌, ◌-◌, ◌<◌, ◌++◌, [], List, Less, Some, ap, drop, false, get_or, is_gt, length, refl, subst, suc, sym, take}
+use Rattle.std.proofs.Common.{arith, ◌≡◌, ◌∙◌, ◌+◌, ◌-◌, ◌<◌, ◌++◌, [], List, Less, Some, add-one, ap, drop, false, get_or, is_gt, length, refl, subst, suc, sym, take, true≢false}
 use Rattle.std.specs.Option.{IfSome}
 use Rattle.std.proofs.Math.ListN.{set}
 use Rattle.std.proofs.lemmas.List.{get_or_default}
-use Rattle.rangemap_core.specs.Ranges.{IsCanonical, IsStorable, value_at}
+use Rattle.rangemap_core.specs.Ranges.{IsCanonical, IsStorable, overlapped, value_at}
 use Rattle.rangemap_core.specs.engine.Places.{place_cmp}
 use Rattle.rangemap_core.proofs.PlaceLemmas.{S}
 use Rattle.rangemap_core.proofs.SearchLemmas.{Every-at}
@@ -11,7 +11,7 @@ use Rattle.rangemap_chunked.specs.Chunks.{AreFilled, AreFilledBut, IsClearBehind
 use Rattle.rangemap_chunked.proofs.ChunkLemmas.{Every-further}
 use Rattle.rangemap_chunked.proofs.CutLemmas.{canonical_chunk}
 use Rattle.rangemap_chunked.proofs.OverLemmas.{all_filled, changed_behind, changed_whole, count_less, count_more, kept_front, over_canonical, over_changed, set_length, still_filled, sums}
-use Rattle.rangemap_chunked.proofs.StoreLemmas.{Every-drop_n, Every-take_n, changed_fills, if_some_weaker}
+use Rattle.rangemap_chunked.proofs.StoreLemmas.{Every-drop_n, Every-set, Every-take_n, changed_fills, changed_length, chunk_changed, chunk_length, drop_set, if_some_weaker, set_same, take_set}
 use Rattle.rangemap_chunked.proofs.wide.change_over.Goals as goal
 
 pub last_touched-place-requires-clause-filled : goal.last_touched-place-requires-clause-filled
@@ -180,15 +180,49 @@ pub returns-in_err-change_between-clause-filled : goal.returns-in_err-change_bet
 returns-in_err-change_between-clause-filled g c =
     subst (λ (ps : List (List (g.row.R.Denot × g.row.V.Denot))). AreFilledBut c.args.value c.args.at ps) (sym c.in_err-change_between.ensures.err) (still_filled c.args.value c.args.at c.args.chunks.now.items c.requires.chunked.filled)
 
-pub change_at-requires-clause-behind : goal.change_at-requires-clause-behind
-change_at-requires-clause-behind g c =
-    let k = g.Q.Kind.kind in
-    Every-further (λ (b : g.row.R.Denot × g.row.V.Denot). is_gt (place_cmp k.cmp (g.Q.Kind.end_place c.args.range) (Some (k.start b.0))) ≡ false) c.args.chunks.now.items c.args.end (c.args.at + 1) (omega (arith, c.if-end-at.true)) c.requires.behind
+pub returns-then-end-at-clause-ok : goal.returns-then-end-at-clause-ok
+returns-then-end-at-clause-ok g c =
+    let behind = Every-further (λ (b : g.row.R.Denot × g.row.V.Denot). is_gt (place_cmp g.Q.Kind.kind.cmp (g.Q.Kind.end_place c.args.range) (Some (g.Q.Kind.kind.start b.0))) ≡ false) c.args.chunks.now.items c.args.end (c.args.at + 1) (omega (arith, c.if-end-at.true)) c.requires.behind in
+    let clear = if_some_weaker c.args.value (Every-further (λ (b : g.row.R.Denot × g.row.V.Denot). place_cmp g.Q.Kind.kind.cmp (g.Q.Kind.end_place c.args.range) (Some (g.Q.Kind.kind.start b.0)) ≡ Less) c.args.chunks.now.items c.args.end (c.args.at + 1) (omega (arith, c.if-end-at.true))) c.requires.clear in
+    let stored : IsStorable g.Q.Kind.kind c.args.range = record { start_is_key = c.known_ends.ensures.start_is_key; end_is_key = c.known_ends.ensures.end_is_key; non_empty = c.requires.non_empty } in
+    chunk_changed g.met.Q.Kind.placed g.met.V.Eq.laws c.args.chunks.now.items c.requires.chunked c.args.at c.requires.start c.index_mut-chunk.result.now c.change.new.self c.index_mut-chunk.ensures.value c.args.range stored c.requires.before c.args.value c.in_ok-change.ensures.ok behind clear
 
-pub change_at-requires-clause-clear : goal.change_at-requires-clause-clear
-change_at-requires-clause-clear g c =
+pub returns-in_err-change-clause-meets_nothing : goal.returns-in_err-change-clause-meets_nothing
+returns-in_err-change-clause-meets_nothing g c = λ out alone none.
+    let here = ap (λ (xs : List (g.row.R.Denot × g.row.V.Denot)). overlapped g.Q.Kind.kind xs c.args.range) (c.index_mut-chunk.ensures.value ∙ get_or_default c.args.chunks.now.items c.args.at c.index_mut-chunk.result.now [] c.requires.start) ∙ none in
+    absurd (true≢false (sym (c.in_err-change.ensures.meets_nothing out here).0))
+
+pub returns-then-end-at-clause-meets_nothing : goal.returns-then-end-at-clause-meets_nothing
+returns-then-end-at-clause-meets_nothing g c = λ out alone none.
+    let here = ap (λ (xs : List (g.row.R.Denot × g.row.V.Denot)). overlapped g.Q.Kind.kind xs c.args.range) (c.index_mut-chunk.ensures.value ∙ get_or_default c.args.chunks.now.items c.args.at c.index_mut-chunk.result.now [] c.requires.start) ∙ none in
+    let same = c.in_ok-change.ensures.meets_nothing out here in
+    (same.0, ap (λ (xs : List (g.row.R.Denot × g.row.V.Denot)). set c.args.chunks.now.items c.args.at xs) (same.1 ∙ c.index_mut-chunk.ensures.value) ∙ set_same c.args.chunks.now.items c.args.at c.index_mut-chunk.result.now c.requires.start)
+
+pub change-requires-clause-canonical : goal.change-requires-clause-canonical
+change-requires-clause-canonical g c =
     let k = g.Q.Kind.kind in
-    if_some_weaker c.args.value (Every-further (λ (b : g.row.R.Denot × g.row.V.Denot). place_cmp k.cmp (g.Q.Kind.end_place c.args.range) (Some (k.start b.0)) ≡ Less) c.args.chunks.now.items c.args.end (c.args.at + 1) (omega (arith, c.if-end-at.true))) c.requires.clear
+    let eq = g.V.PartialEq.eq in
+    subst (IsCanonical k eq) (sym c.index_mut-chunk.ensures.value) (canonical_chunk k eq c.args.chunks.now.items c.requires.chunked.canonical c.args.at c.index_mut-chunk.result.now c.requires.start)
+
+pub returns-then-end-at-clause-filled : goal.returns-then-end-at-clause-filled
+returns-then-end-at-clause-filled g c =
+    let stored : IsStorable g.Q.Kind.kind c.args.range = record { start_is_key = c.known_ends.ensures.start_is_key; end_is_key = c.known_ends.ensures.end_is_key; non_empty = c.requires.non_empty } in
+    record {
+      all = if_some_weaker c.args.value (Every-set _ c.args.chunks.now.items c.args.at c.change.new.self c.requires.chunked.filled) (changed_fills g.met.Q.Kind.placed g.met.V.Eq.laws (value_at g.Q.Kind.kind c.index_mut-chunk.result.now) c.args.range c.args.value c.change.new.self stored c.in_ok-change.ensures.ok);
+      before = rw (take_set c.args.chunks.now.items c.args.at c.change.new.self) (Every-take_n _ c.args.at c.args.chunks.now.items c.requires.chunked.filled);
+      behind = rw (add-one c.args.at, drop_set c.args.chunks.now.items c.args.at c.change.new.self, ← add-one c.args.at) (Every-drop_n _ (c.args.at + 1) c.args.chunks.now.items c.requires.chunked.filled);
+    }
+
+pub returns-then-end-at-clause-counted : goal.returns-then-end-at-clause-counted
+returns-then-end-at-clause-counted g c =
+    let more = changed_length c.args.chunks.now.items c.args.at c.index_mut-chunk.result.now c.change.new.self c.requires.start c.index_mut-chunk.ensures.value in
+    let less = chunk_length c.args.chunks.now.items c.args.at c.index_mut-chunk.result.now c.requires.start c.index_mut-chunk.ensures.value in
+    record {
+      sum = omega (arith, more, c.len-before.ensures, c.len.ensures);
+      some = omega (arith, less, c.len-before.ensures);
+      growth = omega (arith, c.len-before.ensures, c.len.ensures, c.in_ok-change.ensures.growth);
+      growth_where_all_are_equal = λ equal. let one = c.in_ok-change.ensures.growth_where_all_are_equal equal in omega (arith, c.len-before.ensures, c.len.ensures, one);
+    }
 
 pub returns-clause-meets_nothing : goal.returns-clause-meets_nothing
 returns-clause-meets_nothing g c = λ out alone none. absurd (omega (arith, c.if-end-at.false, alone))

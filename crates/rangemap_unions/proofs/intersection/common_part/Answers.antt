@@ -1,50 +1,43 @@
-use Rattle.std.proofs.Common.{◌≡◌, ◌∙◌, ap, rules}
+use Rattle.std.proofs.Common.{◌≡◌, ◌∙◌, true, ap, rules}
 use Rattle.std.specs.Ordering.{is_lt}
-use Rattle.rangemap_unions.specs.Items.{earlier_end, later_start}
+use Rattle.rangemap_unions.specs.Items.{earlier_end, later_start, reaches}
 use Rattle.rangemap_unions.proofs.IntersectionLemmas.{both_reached}
-use Rattle.rangemap_unions.proofs.SideLemmas.{common_made, common_refused}
+use Rattle.rangemap_unions.proofs.SideLemmas.{common_made, common_none, on_err_anyway}
 use Rattle.rangemap_unions.proofs.intersection.common_part.Goals as goal
 
-pub returns-then-left_ends_first-clause-made : goal.returns-then-left_ends_first-clause-made
-returns-then-left_ends_first-clause-made g c =
+pub returns-then-is_reached-clause-made : goal.returns-then-is_reached-clause-made
+returns-then-is_reached-clause-made g c =
     let l = g.R.KeyRange.places in
     let left = c.args.left.now in
     let right = c.args.right.now in
     let first = c.if-is_lt.first.now in
+    let last = c.if-left_ends_first.last.now in
     let starts : first ≡ later_start l left right = search rules in
-    let ends : left ≡ earlier_end l left right = search rules in
-    λ rest. common_made g.R.KeyRange.read l left right first left starts ends (both_reached g.met.R.KeyRange.has_places left right first left starts ends)
-    (λ both. ap (λ r. is_lt (l.order (l.start_place r) (l.end_place left))) starts ∙ ap (λ r. is_lt (l.order (l.start_place (later_start l left right)) (l.end_place r))) ends ∙ ap is_lt (c.requires.in_order both))
-    rest c.up_to_end.result (c.up_to_end.ensures.made rest)
+    let ends : last ≡ earlier_end l left right = search rules in
+    let reached : reaches l last first ≡ true = search rules in
+    λ rest. common_made g.R.KeyRange.read l left right first last starts ends (both_reached g.met.R.KeyRange.has_places left right first last starts ends reached) rest c.between.result (c.between.ensures.made rest)
 
-pub returns-then-left_ends_first-clause-refused : goal.returns-then-left_ends_first-clause-refused
-returns-then-left_ends_first-clause-refused g c =
+pub returns-then-is_reached-clause-refused : goal.returns-then-is_reached-clause-refused
+returns-then-is_reached-clause-refused g c =
     let l = g.R.KeyRange.places in
     let left = c.args.left.now in
     let right = c.args.right.now in
     let first = c.if-is_lt.first.now in
+    let last = c.if-left_ends_first.last.now in
     let starts : first ≡ later_start l left right = search rules in
-    let ends : left ≡ earlier_end l left right = search rules in
-    common_refused g.R.KeyRange.read l left right first left starts ends (both_reached g.met.R.KeyRange.has_places left right first left starts ends) c.up_to_end.result c.up_to_end.ensures.refused
+    let ends : last ≡ earlier_end l left right = search rules in
+    let reached : reaches l last first ≡ true = search rules in
+    on_err_anyway c.between.result (both_reached g.met.R.KeyRange.has_places left right first last starts ends reached)
 
-pub returns-else-left_ends_first-clause-made : goal.returns-else-left_ends_first-clause-made
-returns-else-left_ends_first-clause-made g c =
+pub returns-else-is_reached-clause-made : goal.returns-else-is_reached-clause-made
+returns-else-is_reached-clause-made g c =
     let l = g.R.KeyRange.places in
     let left = c.args.left.now in
     let right = c.args.right.now in
     let first = c.if-is_lt.first.now in
+    let last = c.if-left_ends_first.last.now in
     let starts : first ≡ later_start l left right = search rules in
-    let ends : right ≡ earlier_end l left right = search rules in
-    λ rest. common_made g.R.KeyRange.read l left right first right starts ends (both_reached g.met.R.KeyRange.has_places left right first right starts ends)
-    (λ both. ap (λ r. is_lt (l.order (l.start_place r) (l.end_place right))) starts ∙ ap (λ r. is_lt (l.order (l.start_place (later_start l left right)) (l.end_place r))) ends ∙ ap is_lt (c.requires.in_order both))
-    rest c.up_to_end-else-left_ends_first.result (c.up_to_end-else-left_ends_first.ensures.made rest)
-
-pub returns-else-left_ends_first-clause-refused : goal.returns-else-left_ends_first-clause-refused
-returns-else-left_ends_first-clause-refused g c =
-    let l = g.R.KeyRange.places in
-    let left = c.args.left.now in
-    let right = c.args.right.now in
-    let first = c.if-is_lt.first.now in
-    let starts : first ≡ later_start l left right = search rules in
-    let ends : right ≡ earlier_end l left right = search rules in
-    common_refused g.R.KeyRange.read l left right first right starts ends (both_reached g.met.R.KeyRange.has_places left right first right starts ends) c.up_to_end-else-left_ends_first.result c.up_to_end-else-left_ends_first.ensures.refused
+    let ends : last ≡ earlier_end l left right = search rules in
+    λ rest. common_none l left right first last
+    (λ both. ap (λ r. is_lt (l.order (l.start_place r) (l.end_place last))) starts ∙ ap (λ r. is_lt (l.order (l.start_place (later_start l left right)) (l.end_place r))) ends ∙ ap is_lt (c.requires.in_order both))
+    (search rules) rest

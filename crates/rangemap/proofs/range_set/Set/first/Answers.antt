@@ -1,12 +1,20 @@
-use Rattle.std.proofs.Common.{◌∙◌}
-use Rattle.rangemap.proofs.MapLemmas.{canonical, lent_non_empty, range_shown, shown}
+use Rattle.std.proofs.Common.{rules}
+use Rattle.rangemap.proofs.MapLemmas.{canonical, found_non_empty, shown}
 use Rattle.rangemap.proofs.range_set.Set.first.Goals as goal
 
 pub returns-clause-found : goal.returns-clause-found
-returns-clause-found g c = c.range_of.ensures ∙ range_shown c.first.result ∙ shown g.S.Kind.Kind.kind _ _ c.self.view_is 0 _ c.first.ensures
+returns-clause-found g c = shown g.S.Kind.Kind.kind _ _ c.self.view_is 0 _ c.in_ok-range.ensures
+
+pub returns-in_err-range-clause-found : goal.returns-in_err-range-clause-found
+returns-in_err-range-clause-found g c =
+    let there = shown g.S.Kind.Kind.kind _ _ c.self.view_is 0 _ c.in_err-range.ensures in
+    search (rules, there)
 
 pub returns-clause-canonical : goal.returns-clause-canonical
 returns-clause-canonical g c = canonical g.S.Kind.Kind.kind _ _ c.self.view_is c.known.ensures
 
+pub returns-in_err-range-clause-canonical : goal.returns-in_err-range-clause-canonical
+returns-in_err-range-clause-canonical g c = canonical g.S.Kind.Kind.kind _ _ c.self.view_is c.known.ensures
+
 pub returns-clause-non_empty : goal.returns-clause-non_empty
-returns-clause-non_empty g c = lent_non_empty g.S.Kind.Kind.kind _ _ c.self.view_is c.known.ensures 0 _ c.range_of.result c.first.ensures (c.range_of.ensures ∙ range_shown c.first.result)
+returns-clause-non_empty g c = found_non_empty g.S.Kind.Kind.kind _ _ c.self.view_is c.known.ensures 0 _ c.in_ok-range.ensures

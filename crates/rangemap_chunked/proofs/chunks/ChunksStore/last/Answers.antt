@@ -7,6 +7,13 @@ use Rattle.rangemap_chunked.proofs.chunks.ChunksStore.last.Goals as goal
 pub returns : goal.returns
 returns g c =
     let item = c.in_ok-chunk.ensures.item in
-    c.last-2.ensures
+    c.in_ok-pair.ensures.value ∙ ap (λ (xs : List (g.row.R.Denot × g.row.V.Denot)). slice_get xs (length xs - 1)) c.as_slice.ensures
     ∙ last_pair c.deref.result.now c.in_ok-chunk.chunk.now item.3.0 (subst (λ (ps : List (List (g.row.R.Denot × g.row.V.Denot))). AreFilled ps) (sym c.deref.ensures.value) c.self.invariant.0.filled) item.1
     ∙ ap (λ (ps : List (g.row.R.Denot × g.row.V.Denot)). slice_get ps (length ps - 1)) (ap (λ (ps : List (List (g.row.R.Denot × g.row.V.Denot))). whole ps) c.deref.ensures.value ∙ c.self.view_is)
+
+pub returns-in_err-pair : goal.returns-in_err-pair
+returns-in_err-pair g c =
+    let item = c.in_ok-chunk.ensures.item in
+    rw c.from_residual-in_err-pair.ensures (c.in_err-pair.ensures.value ∙ ap (λ (xs : List (g.row.R.Denot × g.row.V.Denot)). slice_get xs (length xs - 1)) c.as_slice.ensures
+    ∙ last_pair c.deref.result.now c.in_ok-chunk.chunk.now item.3.0 (subst (λ (ps : List (List (g.row.R.Denot × g.row.V.Denot))). AreFilled ps) (sym c.deref.ensures.value) c.self.invariant.0.filled) item.1
+    ∙ ap (λ (ps : List (g.row.R.Denot × g.row.V.Denot)). slice_get ps (length ps - 1)) (ap (λ (ps : List (List (g.row.R.Denot × g.row.V.Denot))). whole ps) c.deref.ensures.value ∙ c.self.view_is))

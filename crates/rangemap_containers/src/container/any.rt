@@ -1,5 +1,4 @@
-//! What maps and sets ask of all pairs that a query overlaps.
-ghost use Rattle.std.specs.Prelude.{◌≡◌, length, nat_lt};
+//! What maps and sets ask of the pairs that a query overlaps.
 
 use rangemap_core::cursor::Cursor;
 use rangemap_core::key_range::KeyRange;

@@ -1,7 +1,7 @@
 use Rattle.std.proofs.Common.{◌≡◌, ◌-◌, ◌≤◌, length, true}
 use Rattle.std.specs.List.{AllWithin}
 use Rattle.rangemap_core.specs.engine.Intervals.{is_begun}
-use Rattle.rangemap_sorted.proofs.overlapping.count_begun.Given as goal
+use Rattle.rangemap_sorted.proofs.overlapping.take_begun.Given as goal
 
 abbrev pub invariant-on : goal.invariant-on
 invariant-on g l = record {
