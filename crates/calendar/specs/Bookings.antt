@@ -37,11 +37,11 @@ holder_of list = value_at days list
 abbrev pub booked : ℕ → ℕ → ℕ → (ℕ → Option ℕ) → ℕ → Option ℕ
 booked first last guest f day = if is_within first last day then Some guest else f day
 
--- nobody holds one of the days, and the others are held as before
+-- nobody holds any of the days, and the others are held as before
 abbrev pub cancelled : ℕ → ℕ → (ℕ → Option ℕ) → ℕ → Option ℕ
 cancelled first last f day = if is_within first last day then None else f day
 
--- nobody holds one of the days
+-- nobody holds any of the days
 abbrev pub AreFree : (ℕ → Option ℕ) → ℕ → ℕ → Type 0
 AreFree f first last = (day : ℕ) → IsDay day → first ≤ day → day ≤ last → f day ≡ None
 
@@ -53,8 +53,9 @@ pub record IsHeld (f : ℕ → Option ℕ) (first last : ℕ) : Type 0 where
   pub to : day ≤ last
   pub held : f day ≢ None
 
--- The answer to a booking. In whichever case is said, the others can't be: so each is answered
--- exactly where it is said.
+-- The answer to a booking. Of the first three cases no two can be at once, so `Empty` is answered
+-- exactly where the first day comes after the last, and `Taken` exactly where else a day is held. A
+-- refusal for memory says what an accepted booking does, since no contract says that there is memory.
 abbrev pub IsBookAnswer : (ℕ → Option ℕ) → ℕ → ℕ → Answer → Type 0
 IsBookAnswer f first last (Ok _) = (first ≤ last) × AreFree f first last
 IsBookAnswer f first last (Err Empty) = last < first

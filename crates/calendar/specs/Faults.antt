@@ -5,6 +5,6 @@ use Rattle.calendar.specs.declared.BookError.TheVariants.{Empty, Taken, OutOfMem
 
 -- what was wrong with the days, or that there was no memory
 abbrev pub book_error_text : BookError → List ℕ
-book_error_text Empty = codes "there is no day to book"
+book_error_text Empty = codes "there is no day in the range"
 book_error_text Taken = codes "a guest holds one of the days"
 book_error_text OutOfMemory = codes "out of memory"

@@ -51,7 +51,7 @@ impl fmt::Display for BookError {
 
     fn fmt<W: fmt::Write>(&self, f: &mut fmt::Formatter<W>) -> fmt::Result {
         match self {
-            BookError::Empty => f.write_str("there is no day to book"),
+            BookError::Empty => f.write_str("there is no day in the range"),
             BookError::Taken => f.write_str("a guest holds one of the days"),
             BookError::OutOfMemory => f.write_str("out of memory"),
         }

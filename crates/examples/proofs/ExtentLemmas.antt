@@ -1,7 +1,7 @@
 -- What a change of an extent table leaves.
-use Rattle.std.proofs.Common.{arith, ◌≡◌, ℕ, ◌+◌, ◌%◌, ◌<◌, ◌≤◌, ◌^◌, Bool, true, false, cond, List, Option, Some, None, option_map, Result, Ok, Err, refl, sym, ap, subst, ◌∙◌}
+use Rattle.std.proofs.Common.{arith, ◌≡◌, ℕ, ◌+◌, ◌%◌, ◌<◌, ◌≤◌, ◌^◌, Bool, true, false, cond, List, Option, Some, None, option_map, refl, sym, ap, ◌∙◌}
 use Rattle.std.proofs.lemmas.Map.Keys.{le_from_is_le}
-use Rattle.std.specs.Prelude.{nat_eq, OnErr, OnOk}
+use Rattle.std.specs.Prelude.{nat_eq}
 use Rattle.std.specs.declared.ops.RangeInclusive.{RangeInclusive}
 use Rattle.std.specs.Range.{range_inclusive_start, range_inclusive_end}
 use Rattle.rangemap.specs.Ranges.{IsCanonOf, erase, override, value_at}
@@ -11,11 +11,6 @@ use Rattle.rangemap.proofs.NumberLemmas.{same_number}
 use Rattle.rangemap.proofs.PairLoopLemmas.{ComesFrom, IsStored}
 use Rattle.examples.proofs.RingLemmas.{same_on_ring}
 use Rattle.examples.specs.Places.{IsOneToOne, IsOutside, IsUsed, LiesOn, blocks, place_of}
-
--- what holds after a call that changed nothing where it was refused
-pub after_either : {E : Type 0} (P : List (RangeInclusive ℕ × ℕ) → Type 0) (old new : List (RangeInclusive ℕ × ℕ)) (r : Result (Unit {0}) E) {A : Type 0} → (A → P new) → P old → OnOk r A → OnErr r (new ≡ old) → P new
-after_either P old new (Ok u) f before ok err = f ok
-after_either P old new (Err e) f before ok err = subst P (sym err) before
 
 module _ (old new : List (RangeInclusive ℕ × ℕ)) (r : RangeInclusive ℕ) where
   placed : (shift : ℕ) → IsCanonOf blocks nat_eq (override blocks (value_at blocks old) r shift) new → (x : ℕ) → x < 2 ^ 32 → place_of new x ≡ cond (blocks.holds r x) (Some ((x + shift) % 2 ^ 32)) (place_of old x)

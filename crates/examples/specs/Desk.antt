@@ -1,5 +1,5 @@
 -- Which days nobody has the desk, and how a number stands in JSON.
-use Rattle.std.specs.Prelude.{◌<◌, ◌^◌, ◌≡◌, ◌≢◌, ℕ, Bool, IfOk, List, MatchResult, Result, Some, option_and_then}
+use Rattle.std.specs.Prelude.{◌<◌, ◌^◌, ◌≡◌, ◌≢◌, ℕ, Bool, List, MatchResult, Result, Some, option_and_then}
 use Rattle.std.specs.Ordering.{nat_cmp}
 use Rattle.std.specs.declared.ops.RangeInclusive.{RangeInclusive}
 use Rattle.serde_json.specs.declared.value.Value.{Value}
@@ -17,9 +17,9 @@ days = closed (λ x. x < 2 ^ 32) nat_cmp
 abbrev pub is_closed : List (RangeInclusive ℕ) → ℕ → Bool
 is_closed list day = covers days list day
 
--- a number is written as itself
+-- a number is written as itself, and never refused
 abbrev pub writes_number : ℕ → Result Value NotANumber → Type 0
-writes_number n result = IfOk result (λ value. view value ≡ number (unsigned n))
+writes_number n result = MatchResult result (λ value. view value ≡ number (unsigned n)) (λ _. ⊥)
 
 -- a number of 32 bits is read as itself, and nothing else is read
 abbrev pub reads_number : Value → Result ℕ NotANumber → Type 0

@@ -1,6 +1,6 @@
 //! The snippets of README.md and docs/CALLING.md, whole, and a caller of each other lemma that the
 //! page names.
-ghost use Rattle.std.specs.Prelude.{◌≡◌, ◌+◌, ◌<◌, ◌≤◌, ◌^◌, ◌&&◌, ◌||◌, ℕ, IfNone, IfOk, IfSome, OnErr, OnOk, map, nat_le, nat_lt, Some, None, false, true};
+ghost use Rattle.std.specs.Prelude.{◌≡◌, ◌≢◌, ◌+◌, ◌<◌, ◌≤◌, ◌^◌, ◌&&◌, ◌||◌, ℕ, IfNone, IfOk, IfSome, OnErr, OnOk, map, nat_le, nat_lt, Some, None, false, true};
 ghost use Rattle.std.specs.Ordering.{nat_cmp};
 ghost use Rattle.rangemap.specs.Ranges.{AreGaps, closed, covers, half_open, value_at};
 ghost use Rattle.rangemap.specs.Sets.{AreCommon, CoverEither};
@@ -54,7 +54,8 @@ pub fn ends(alloc: Global) -> Result<RangeInclusiveMap<u8, u32>, AllocError>
 /// Adds the keys of a range to a set.
 pub fn add(set: &mut RangeSet<u64>, from: u64, to: u64) -> Result<(), AllocError>
     requires { from < to }
-    ensures { OnOk result ((key : ℕ) → covers (half_open nat_cmp) set.new key ≡ (covers (half_open nat_cmp) set.old key || (nat_le from key && nat_lt key to))) }
+    ensures added { OnOk result ((key : ℕ) → covers (half_open nat_cmp) set.new key ≡ (covers (half_open nat_cmp) set.old key || (nat_le from key && nat_lt key to))) }
+    ensures refused { OnErr result (set.new ≡ set.old) }
 {
     set.insert(from..to)
 }
@@ -74,7 +75,7 @@ pub fn chain(ranges: &mut Vec<Range<u64>>, more: &mut Vec<Range<u64>>) -> Result
     Ok(())
 }
 
-/// Adds the texts from one up to another to a set, if there are any.
+/// Adds the texts from one up to another to a set, if there are any. No clause says what it adds.
 pub fn add_texts(set: &mut RangeSet<String>, from: String, to: String) -> Result<(), AllocError>
     ensures { OnErr result (set.new ≡ set.old) }
 {
@@ -85,7 +86,8 @@ pub fn add_texts(set: &mut RangeSet<String>, from: String, to: String) -> Result
     set.insert(range)
 }
 
-/// Puts the temperatures from one up to and without another into a class, if there are any.
+/// Puts the temperatures from one up to and without another into a class, if there are any. No
+/// clause says what it puts there.
 pub fn classify(
     classes: &mut RangeMap<OrderedFloat<f64>, u8>,
     from: OrderedFloat<f64>,
@@ -120,13 +122,12 @@ pub fn uncovered(
 pub fn free_until(map: &RangeMap<u64, u8>, at: u64, limit: u64) -> Result<u64, AllocError>
     requires forward { at < limit }
     requires free { value_at (half_open nat_cmp) map.now at ≡ None }
-    ensures { IfOk result (λ end. (key : ℕ) → at ≤ key → key < end → value_at (half_open nat_cmp) map.now key ≡ None) }
+    ensures { IfOk result (λ end. (at < end) × (end ≤ limit) × ((key : ℕ) → at ≤ key → key < end → value_at (half_open nat_cmp) map.now key ≡ None) × (end < limit → value_at (half_open nat_cmp) map.now end ≢ None)) }
 {
     let rest = at..limit;
-    let mut gaps = map.gaps(&rest);
-    match gaps.next() {
+    match map.gaps(&rest).next() {
         Some(gap) => Ok(gap?.end),
-        None => Ok(at),
+        None => unreachable!(),
     }
 }
 
@@ -134,7 +135,7 @@ pub fn free_until(map: &RangeMap<u64, u8>, at: u64, limit: u64) -> Result<u64, A
 pub fn gap_end(map: &RangeMap<u64, u8>, at: u64, limit: u64) -> u64
     requires forward { at < limit }
     requires free { value_at (half_open nat_cmp) map.now at ≡ None }
-    ensures { (at < result) × (result ≤ limit) × ((key : ℕ) → at ≤ key → key < result → value_at (half_open nat_cmp) map.now key ≡ None) }
+    ensures { (at < result) × (result ≤ limit) × ((key : ℕ) → at ≤ key → key < result → value_at (half_open nat_cmp) map.now key ≡ None) × (result < limit → value_at (half_open nat_cmp) map.now result ≢ None) }
 {
     let rest = at..limit;
     match map.gaps(&rest).try_next() {
@@ -144,7 +145,7 @@ pub fn gap_end(map: &RangeMap<u64, u8>, at: u64, limit: u64) -> u64
     }
 }
 
-/// Returns whether every person's number is below a limit.
+/// Returns true only where every person's number is below a limit.
 pub fn all_below(shifts: &RangeMap<u32, u32>, limit: u32) -> bool
     ensures { result ≡ true → (hour person : ℕ) → value_at (half_open nat_cmp) shifts.now hour ≡ Some person → person < limit }
 {
@@ -156,7 +157,7 @@ pub fn all_below(shifts: &RangeMap<u32, u32>, limit: u32) -> bool
     true
 }
 
-/// Returns whether every key of a set is below a limit.
+/// Returns true only where every key of a set is below a limit.
 pub fn is_below(set: &RangeSet<u32>, limit: u32) -> bool
     ensures { result ≡ true → (key : ℕ) → covers (half_open nat_cmp) set.now key ≡ true → key < limit }
 {
@@ -168,7 +169,7 @@ pub fn is_below(set: &RangeSet<u32>, limit: u32) -> bool
     true
 }
 
-/// Returns whether every key of a set of closed ranges is at most a limit.
+/// Returns true only where every key of a set of closed ranges is at most a limit.
 pub fn is_at_most(set: &RangeInclusiveSet<u32>, limit: u32) -> bool
     ensures { result ≡ true → (key : ℕ) → key < 2 ^ 32 → covers (closed (λ x. x < 2 ^ 32) nat_cmp) set.now key ≡ true → key ≤ limit }
 {
@@ -205,7 +206,8 @@ pub fn are_equal(left: &RangeSet<u32>, right: &RangeSet<u32>) -> bool
 /// Notes that the numbers from one up to and without another were seen.
 pub fn note(seen: &mut tree_set::RangeSet<u64>, from: u64, to: u64) -> Result<(), AllocError>
     requires { from < to }
-    ensures { OnOk result ((number : ℕ) → covers (half_open nat_cmp) seen.new number ≡ (covers (half_open nat_cmp) seen.old number || (nat_le from number && nat_lt number to))) }
+    ensures noted { OnOk result ((number : ℕ) → covers (half_open nat_cmp) seen.new number ≡ (covers (half_open nat_cmp) seen.old number || (nat_le from number && nat_lt number to))) }
+    ensures refused { OnErr result (seen.new ≡ seen.old) }
 {
     seen.insert(from..to)
 }
@@ -216,7 +218,8 @@ pub fn either_way(
     right: &mut RangeInclusiveMap<u8, u32>,
 ) -> Result<bool, AllocError>
     requires { left.old ≡ right.old }
-    ensures { IfOk result (λ equal. equal ≡ true) }
+    ensures equal { IfOk result (λ equal. equal ≡ true) }
+    ensures inserted { OnOk result ((key : ℕ) → key < 10 → value_at (closed (λ x. x < 2 ^ 8) nat_cmp) left.new key ≡ Some 1) }
 {
     left.insert(0..=9, 1)?;
     left.insert(20..=29, 2)?;
@@ -255,7 +258,7 @@ pub fn intersection_of(
     Ok(ranges)
 }
 
-/// Returns whether each value within a range is below a limit.
+/// Returns true only where each value within a range is below a limit.
 pub fn are_below(stock: &tree_map::RangeMap<u32, u32>, from: u32, to: u32, limit: u32) -> bool
     requires { from < to }
     ensures { result ≡ true → (x v : ℕ) → from ≤ x → x < to → value_at (half_open nat_cmp) stock.now x ≡ Some v → v < limit }
@@ -271,20 +274,16 @@ pub fn are_below(stock: &tree_map::RangeMap<u32, u32>, from: u32, to: u32, limit
 }
 
 /// Returns where so many keys of a range begin that the set lacks, if it lacks so many in a row.
-pub fn room_for(
-    held: &RangeSet<u32>,
-    within: &Range<u32>,
-    size: u32,
-) -> Result<Option<u32>, AllocError>
+pub fn room_for(held: &RangeSet<u32>, within: &Range<u32>, size: u32) -> Option<u32>
     requires { 0 < size }
-    ensures found { IfOk result (λ found. IfSome found (λ first. (x : ℕ) → first ≤ x → x < first + size → covers (half_open nat_cmp) held.now x ≡ false)) }
-    ensures none { IfOk result (λ found. IfNone found ((first : ℕ) → within.now.start ≤ first → first + size ≤ within.now.end → ¬ ((x : ℕ) → first ≤ x → x < first + size → covers (half_open nat_cmp) held.now x ≡ false))) }
+    ensures found { IfSome result (λ first. (within.now.start ≤ first) × (first + size ≤ within.now.end) × ((x : ℕ) → first ≤ x → x < first + size → covers (half_open nat_cmp) held.now x ≡ false)) }
+    ensures none { IfNone result ((first : ℕ) → within.now.start ≤ first → first + size ≤ within.now.end → ¬ ((x : ℕ) → first ≤ x → x < first + size → covers (half_open nat_cmp) held.now x ≡ false)) }
 {
     for gap in held.gaps(within) {
-        let gap = gap?;
+        let Ok(gap) = gap else { unreachable!() };
         if gap.end - gap.start >= size {
-            return Ok(Some(gap.start));
+            return Some(gap.start);
         }
     }
-    Ok(None)
+    None
 }

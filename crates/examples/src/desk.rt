@@ -1,8 +1,8 @@
 //! A desk that guests share: who has it at which hour, on which days nobody has, and the bookings
 //! as JSON.
 ghost use Rattle.std.specs.Ordering.{nat_cmp};
-ghost use Rattle.std.specs.Prelude.{◌<◌, ◌^◌, ◌≡◌, ◌↔◌, ◌≤◌, IfOk, IsTrue, count_by, nat_eq, true, ℕ};
-ghost use Rattle.rangemap.specs.Json.{IsForm, IsReading, map_reader, map_writer};
+ghost use Rattle.std.specs.Prelude.{◌<◌, ◌^◌, ◌≡◌, ◌↔◌, ◌≤◌, IfErr, IfOk, IsTrue, count_by, nat_eq, true, ℕ};
+ghost use Rattle.rangemap.specs.Json.{IsForm, IsReading, RefusesToRead, map_reader, map_writer};
 ghost use Rattle.rangemap.specs.Ranges.{half_open, overlapped};
 ghost use Rattle.examples.specs.Desk.{is_closed, reads_number, writes_number};
 
@@ -19,6 +19,7 @@ pub struct NotANumber;
 pub fn bookings_of(sheet: &RangeMap<u32, u32>, hours: &Range<u32>, guest: u32) -> usize
     ensures { result ≡ count_by (λ booking. nat_eq booking.1 guest) (overlapped (half_open nat_cmp) sheet.now hours.now) }
 {
+    // The count is at most this `usize`, so it does not wrap.
     let _stored = sheet.len();
     let mut count = 0;
     for (_, who) in sheet.overlapping(hours) {
@@ -70,7 +71,8 @@ pub fn read_number(value: &Value) -> Result<u32, NotANumber>
 ///
 /// Memory was refused.
 pub fn to_json(alloc: Global, sheet: &RangeMap<u32, u32>) -> Result<Value, WriteError<NotANumber>>
-    ensures { IfOk result (IsForm (half_open nat_cmp) (map_writer writes_number writes_number) sheet.now) }
+    ensures form { IfOk result (IsForm (half_open nat_cmp) (map_writer writes_number writes_number) sheet.now) }
+    ensures refused { IfErr result (λ error. error ≡ WriteError.OutOfMemory) }
 {
     sheet.to_value(
         alloc,
@@ -86,7 +88,8 @@ pub fn to_json(alloc: Global, sheet: &RangeMap<u32, u32>) -> Result<Value, Write
 /// The value is no list of such entries: then the first that is at fault is named, and how. Or memory
 /// was refused.
 pub fn from_json(alloc: Global, value: &Value) -> Result<RangeMap<u32, u32>, ReadError<NotANumber>>
-    ensures { IfOk result (IsReading (half_open nat_cmp) (map_reader reads_number reads_number) nat_eq Form.Canonical value.now) }
+    ensures reading { IfOk result (IsReading (half_open nat_cmp) (map_reader reads_number reads_number) nat_eq Form.Canonical value.now) }
+    ensures refused { IfErr result (RefusesToRead (half_open nat_cmp) (map_reader reads_number reads_number) nat_eq Form.Canonical value.now) }
 {
     RangeMap::from_value(
         alloc,

@@ -1,5 +1,5 @@
 //! The memory of a process: which addresses are mapped, what may be done there, and what is free.
-ghost use Rattle.std.specs.Prelude.{◌≡◌, ◌+◌, ◌<◌, ◌≤◌, ◌↔◌, ℕ, [], Err, IfNone, IfOk, IfSome, None, Ok, OnErr, OnOk, Some, false, true};
+ghost use Rattle.std.specs.Prelude.{◌≡◌, ◌+◌, ◌<◌, ◌≤◌, ◌↔◌, ℕ, [], IfNone, IfSome, IsTrue, OnErr, OnOk, Some};
 ghost use Rattle.examples.specs.Memory.{IsBoth, IsFree, IsLowestFree, IsShown, allows, answer_at, region_at};
 
 use rangemap::chunked::RangeMap;
@@ -81,15 +81,11 @@ impl MemoryMap {
     pub fn check(&self, address: u64, access: Access) -> Result<(), Fault>
         ensures { result ≡ answer_at self.now.regions address access }
     {
-        match self.regions.get(&address) {
-            None => Err(Fault::Unmapped),
-            Some(region) => {
-                if region.allows(access) {
-                    Ok(())
-                } else {
-                    Err(Fault::Forbidden)
-                }
-            }
+        let region = self.regions.get(&address).ok_or(Fault::Unmapped)?;
+        if region.allows(access) {
+            Ok(())
+        } else {
+            Err(Fault::Forbidden)
         }
     }
 
@@ -138,7 +134,7 @@ impl MemoryMap {
     /// There is such an address.
     pub fn is_free(&self, start: u64, end: u64) -> bool
         requires { start < end }
-        ensures { result ≡ true ↔ IsFree self.now.regions start end }
+        ensures { IsTrue result ↔ IsFree self.now.regions start end }
     {
         let range = start..end;
         !self.regions.overlaps(&range)
@@ -150,24 +146,20 @@ impl MemoryMap {
     /// # Requires
     ///
     /// The size is not 0.
-    ///
-    /// # Errors
-    ///
-    /// None in fact: a gap is made of clones, and those of a `u64` are never refused. The contract
-    /// of `try_next` says so; what a loop learns of `next` does not, so the answer is a `Result`.
-    pub fn find_free(&self, start: u64, end: u64, size: u64) -> Result<Option<u64>, AllocError>
+    pub fn find_free(&self, start: u64, end: u64, size: u64) -> Option<u64>
         requires { 0 < size }
-        ensures found { IfOk result (λ found. IfSome found (λ first. IsLowestFree self.now.regions start end size first)) }
-        ensures none { IfOk result (λ found. IfNone found ((first : ℕ) → start ≤ first → first + size ≤ end → ¬ (IsFree self.now.regions first (first + size)))) }
+        ensures found { IfSome result (λ first. IsLowestFree self.now.regions start end size first) }
+        ensures none { IfNone result ((first : ℕ) → start ≤ first → first + size ≤ end → ¬ (IsFree self.now.regions first (first + size))) }
     {
         let range = start..end;
         for gap in self.regions.gaps(&range) {
-            let gap = gap?;
+            // A gap is made of clones, and those of a `u64` are never refused.
+            let Ok(gap) = gap else { unreachable!() };
             if gap.end - gap.start >= size {
-                return Ok(Some(gap.start));
+                return Some(gap.start);
             }
         }
-        Ok(None)
+        None
     }
 
     /// Returns whether the file stands behind some address from `start` up to and without `end`.
@@ -177,8 +169,7 @@ impl MemoryMap {
     /// There is such an address.
     pub fn shows(&self, start: u64, end: u64, file: u32) -> bool
         requires { start < end }
-        ensures yes { result ≡ true → IsShown self.now.regions start end file }
-        ensures no { result ≡ false → ¬ (IsShown self.now.regions start end file) }
+        ensures { IsTrue result ↔ IsShown self.now.regions start end file }
     {
         self.regions.known();
         let range = start..end;
@@ -193,8 +184,7 @@ impl MemoryMap {
     /// Returns whether bytes of some address may be changed and run, which lets an attacker who
     /// writes there run code.
     pub fn has_writable_code(&self) -> bool
-        ensures yes { result ≡ true → IsBoth self.now.regions }
-        ensures no { result ≡ false → ¬ (IsBoth self.now.regions) }
+        ensures { IsTrue result ↔ IsBoth self.now.regions }
     {
         for (_, region) in self.regions.iter() {
             if region.writable && region.executable {

@@ -80,25 +80,21 @@ impl Planner {
     /// # Requires
     ///
     /// The size is not 0.
-    ///
-    /// # Errors
-    ///
-    /// None in fact: a gap is made of clones, and those of a `u32` are never refused. The contract
-    /// of `try_next` says so; what a loop learns of `next` does not, so the answer is a `Result`.
-    pub fn first_free(&self, size: u32) -> Result<Option<u32>, AllocError>
+    pub fn first_free(&self, size: u32) -> Option<u32>
         requires { 0 < size }
-        ensures found { IfOk result (λ found. IfSome found (λ first. IsLowestFree self.now.blocks size first)) }
-        ensures none { IfOk result (λ found. IfNone found ((first : ℕ) → first + size ≤ 2 ^ 32 → ¬ (IsFree self.now.blocks first (first + size)))) }
+        ensures found { IfSome result (λ first. IsLowestFree self.now.blocks size first) }
+        ensures none { IfNone result ((first : ℕ) → first + size ≤ 2 ^ 32 → ¬ (IsFree self.now.blocks first (first + size))) }
     {
         let all = 0..=u32::MAX;
         for gap in self.blocks.gaps(&all) {
-            let gap = gap?;
+            // A gap is made of clones, and those of a `u32` are never refused.
+            let Ok(gap) = gap else { unreachable!() };
             let first = *gap.start();
             let last = *gap.end();
             if last - first >= size - 1 {
-                return Ok(Some(first));
+                return Some(first);
             }
         }
-        Ok(None)
+        None
     }
 }

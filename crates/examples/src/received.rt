@@ -44,16 +44,14 @@ impl Received {
         ensures found { IfSome result (λ number. IsLowestMissing self.now.numbers start number) }
         ensures none { IfNone result ((other : ℕ) → start ≤ other → other < 2 ^ 64 → is_in self.now.numbers other ≡ true) }
     {
-        match self.numbers.get(&start) {
-            None => Some(start),
-            Some(run) => {
-                let last = *run.end();
-                if last < u64::MAX {
-                    Some(last + 1)
-                } else {
-                    None
-                }
-            }
+        let Some(run) = self.numbers.get(&start) else {
+            return Some(start);
+        };
+        let last = *run.end();
+        if last < u64::MAX {
+            Some(last + 1)
+        } else {
+            None
         }
     }
 

@@ -1,5 +1,5 @@
 //! A rota: who is on duty at which hour.
-ghost use Rattle.std.specs.Prelude.{◌≡◌, ◌<◌, ◌≤◌, ◌⊎◌, ℕ, [], None, IfOk, OnErr, OnOk, Some, false, true};
+ghost use Rattle.std.specs.Prelude.{◌≡◌, ◌≢◌, ◌<◌, ◌≤◌, ◌⊎◌, ℕ, [], None, IfOk, OnErr, OnOk, Some, false, true};
 ghost use Rattle.examples.specs.Duty.{AreUncovered, IsSwapped, on_duty};
 
 use rangemap::RangeMap;
@@ -42,6 +42,7 @@ impl Rota {
         ensures forward { hour < result }
         ensures within { result ≤ limit }
         ensures off { (later : ℕ) → hour ≤ later → later < result → on_duty self.now.shifts later ≡ None }
+        ensures ends { result < limit → on_duty self.now.shifts result ≢ None }
     {
         let rest = hour..limit;
         match self.shifts.gaps(&rest).try_next() {

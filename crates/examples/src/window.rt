@@ -1,5 +1,5 @@
 //! Which numbers wait behind those that were delivered.
-ghost use Rattle.std.specs.Prelude.{◌≡◌, ◌<◌, ◌&&◌, ◌||◌, ℕ, [], OnErr, OnOk, nat_le, nat_lt, not};
+ghost use Rattle.std.specs.Prelude.{◌≡◌, ◌<◌, ◌≤◌, ◌&&◌, ◌||◌, ℕ, [], OnErr, OnOk, nat_le, nat_lt, not, true};
 ghost use Rattle.std.specs.Ordering.{nat_cmp};
 ghost use Rattle.rangemap.specs.Ranges.{covers, half_open};
 
@@ -12,6 +12,7 @@ use std::alloc::{AllocError, Global};
 pub struct Window {
     waiting: RangeSet<u64>,
     next: u64,
+    ghost none_delivered: { (number : ℕ) → covers (half_open nat_cmp) waiting number ≡ true → next ≤ number },
 }
 
 impl Window {
@@ -25,7 +26,8 @@ impl Window {
         }
     }
 
-    /// Notes that the numbers from `from` up to and without `to` were received.
+    /// Notes that the numbers from `from` up to and without `to` were received. Those that were
+    /// delivered already are passed over.
     ///
     /// # Requires
     ///
@@ -36,11 +38,15 @@ impl Window {
     /// Memory was refused. Then nothing has changed.
     pub fn receive(&mut self, from: u64, to: u64) -> Result<(), AllocError>
         requires { from < to }
-        ensures noted { OnOk result ((number : ℕ) → covers (half_open nat_cmp) self.new.waiting number ≡ (covers (half_open nat_cmp) self.old.waiting number || (nat_le from number && nat_lt number to))) }
+        ensures noted { OnOk result ((number : ℕ) → covers (half_open nat_cmp) self.new.waiting number ≡ (covers (half_open nat_cmp) self.old.waiting number || ((nat_le from number && nat_lt number to) && nat_le self.old.next number))) }
         ensures refused { OnErr result (self.new.waiting ≡ self.old.waiting) }
         ensures next { self.new.next ≡ self.old.next }
     {
-        self.waiting.insert(from..to)
+        let from = from.max(self.next);
+        if from < to {
+            self.waiting.insert(from..to)?;
+        }
+        Ok(())
     }
 
     /// Drops the numbers up to and without `to`, which were delivered.

@@ -1,5 +1,5 @@
 -- A set's keys after a change, as one equation of truth values over plain numbers, and the first gap of a range without a loop.
-use Rattle.std.proofs.Common.{◌≡◌, ◌<◌, ◌≤◌, ◌+◌, ◌&&◌, ◌||◌, ◌⊎◌, inl, inr, ℕ, List, [], ◌∷◌, ◌++◌, Bool, true, false, Option, Some, None, Result, Ok, IsOkAnd, map, cond, is_some, length, take, get_or, nat_le, nat_lt, not, arith, ap, ◌∙◌, sym, refl, subst}
+use Rattle.std.proofs.Common.{◌≡◌, ◌≢◌, ◌<◌, ◌≤◌, ◌+◌, ◌&&◌, ◌||◌, ◌⊎◌, inl, inr, ℕ, List, [], ◌∷◌, ◌++◌, Bool, true, false, Option, Some, None, Result, Ok, IsOkAnd, map, cond, is_some, length, take, get_or, nat_le, nat_lt, not, arith, ap, ◌∙◌, sym, refl, subst, true≢false}
 use Rattle.std.proofs.lemmas.Bool.Decides.{nat_tests}
 use Rattle.std.proofs.lemmas.List.{take_more}
 use Rattle.std.proofs.lemmas.List.Elements.{All-nil}
@@ -9,11 +9,15 @@ use Rattle.std.specs.Range.{range_inclusive_end, range_inclusive_start}
 use Rattle.std.specs.declared.alloc.AllocError.{AllocError}
 use Rattle.std.specs.declared.ops.Range.{Range}
 use Rattle.std.specs.declared.ops.RangeInclusive.{RangeInclusive}
+use Rattle.rangemap_core.specs.MadeRanges.{GivesRange}
 use Rattle.rangemap.specs.Ranges.{RangeKind, closed, covers, half_open, value_at}
-use Rattle.rangemap.specs.Sets.{Adds, TakesOut}
+use Rattle.rangemap.specs.Sets.{Adds, IsCanonicalSet, TakesOut, range_at}
+use Rattle.rangemap.proofs.CallerLemmas.{gap_keys}
+use Rattle.rangemap.proofs.LoopLemmas.{exact_half_open}
 use Rattle.rangemap.proofs.Loops.{AsksForGaps}
 use Rattle.rangemap.proofs.NumberKinds.{closed_unsigned, half_open_unsigned}
 use Rattle.rangemap.proofs.NumberLemmas.{IsFreeBetween, last_gap, next_gap, not_before, not_behind}
+use Rattle.rangemap.proofs.SetCallerLemmas.{set_run_found}
 
 -- ---- the numbers of a range, as a test
 
@@ -115,17 +119,35 @@ one_more_added old before here h i j = grind (arith, h, i, j)
 alone : {V : Type 0} (list : List (Range ℕ × V)) (at : ℕ) → value_at (half_open nat_cmp) list at ≡ None → IsFreeBetween half_open_unsigned list at (at + 1)
 alone {V} list at bare x from to = let same : at ≡ x = omega arith in let P : ℕ → Type 0 = λ y. value_at (half_open nat_cmp) list y ≡ None in subst P same bare
 
--- the gap has the first number of the range, lies within it, and from there on none of its numbers has a value
+-- The gap has the first number of the range, lies within it, and from there on none of its numbers has a value; where it ends
+-- before the range does, its end has one.
 pub record IsFirstGap {V : Type 0} (list : List (Range ℕ × V)) (q : Range ℕ) (gap : Range ℕ) : Type 0 where
   pub starts : gap.start ≤ q.start
   pub forward : q.start < gap.end
   pub within : gap.end ≤ q.end
   pub free : (x : ℕ) → q.start ≤ x → x < gap.end → value_at (half_open nat_cmp) list x ≡ None
+  pub ends : gap.end < q.end → value_at (half_open nat_cmp) list gap.end ≢ None
 
 not_above : (a b : ℕ) → (a < b → ⊥) → b ≤ a
 not_above a b h = grind arith
 
 module _ {V : Type 0} (list : List (Range ℕ × V)) (q : Range ℕ) {result : Option (Result (Range ℕ) AllocError)} (asks : AsksForGaps (half_open nat_cmp) (map (λ pair. pair.0) list) q [] result) where
+  -- of all gaps it is the first
+  is_first : {item : Result (Range ℕ) AllocError} {gap : Range ℕ} → (result ≡ Some item) × (item ≡ Ok gap) → asks.all ≡ gap ∷ asks.asks.new
+  is_first {gap = gap} given =
+      let taken = subst (λ answer. GivesRange (half_open nat_cmp) asks.asks.left answer asks.asks.new) (given.0 ∙ ap Some given.1) asks.asks.step in
+      let whole : asks.all ≡ taken.0 ∷ asks.asks.new = sym asks.asks.is ∙ asks.asks.so_far ∙ taken.1 in
+      whole ∙ ap (λ r. r ∷ asks.asks.new) (exact_half_open taken.0 gap (subst (IsCanonicalSet (half_open nat_cmp)) whole asks.are.canonical).0.non_empty taken.2)
+
+  -- and the number behind it, if it is one of the range, has a value, since gaps do not touch
+  valued_behind : {item : Result (Range ℕ) AllocError} {gap : Range ℕ} → (result ≡ Some item) × (item ≡ Ok gap) → gap.start ≤ q.start → q.start < gap.end → gap.end < q.end → value_at (half_open nat_cmp) list gap.end ≢ None
+  valued_behind {gap = gap} given at forward below none =
+      let k = half_open nat_cmp in
+      let here : Some gap ≡ range_at k asks.all q.start = sym (ap (λ rs. range_at k rs q.start) (is_first given) ∙ ap (λ b. cond b (Some gap) (range_at k asks.asks.new q.start)) (half_open_unsigned.holds gap q.start at forward)) in
+      let run = set_run_found half_open_unsigned asks.all asks.are.canonical {x = q.start} tt here in
+      let there = (gap_keys k list q asks.all asks.are).all gap.end tt (half_open_unsigned.holds q gap.end (omega (arith, forward)) below) none in
+      true≢false (sym there ∙ run.ends tt)
+
   -- of half-open ranges: the first gap of a range whose first number has no value
   pub first_gap : {item : Result (Range ℕ) AllocError} {gap : Range ℕ} → (result ≡ Some item) × (item ≡ Ok gap) → q.start < q.end → value_at (half_open nat_cmp) list q.start ≡ None → IsFirstGap list q gap
   first_gap {item} {gap} given forward bare =
@@ -137,6 +159,7 @@ module _ {V : Type 0} (list : List (Range ℕ × V)) (q : Range ℕ) {result : O
         forward = omega (arith, next.from, next.forward);
         within = next.to;
         free = λ x low high. next.free x (omega (arith, at, low)) high;
+        ends = valued_behind given at (omega (arith, next.from, next.forward));
       }
 
   -- of half-open ranges: a range whose first number has no value has a gap

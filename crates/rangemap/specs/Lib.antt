@@ -1,5 +1,6 @@
 -- The words of the contracts, by the name of the crate that users list.
 pub use Rattle.rangemap_core.specs.Ranges
+pub use Rattle.rangemap_core.specs.Appends
 pub use Rattle.rangemap_core.specs.Clones
 pub use Rattle.rangemap_core.specs.NonEmptyPairs
 pub use Rattle.rangemap_core.specs.ListOrder
@@ -8,6 +9,9 @@ pub use Rattle.rangemap_core.specs.MadeRanges
 pub use Rattle.rangemap_core.specs.Operators
 pub use Rattle.rangemap_core.specs.Segments
 pub use Rattle.rangemap_core.specs.Sets
+pub use Rattle.rangemap_core.specs.Shown
+pub use Rattle.rangemap_unions.specs.Items
+pub use Rattle.rangemap_formats.specs.Faults
 pub use Rattle.rangemap_formats.specs.Json
 pub use Rattle.rangemap_formats.specs.Texts
 pub use Rattle.rangemap_steps.specs.Steps

@@ -78,8 +78,8 @@ pub type Union<'a, T> = unions::Union<Ahead<Pairs<'a, T, ()>>>;
 /// The parts that two sets have in common, in order.
 pub type Intersection<'a, T> = unions::Intersection<Ahead<Pairs<'a, T, ()>>>;
 
-/// A call that makes a set or changes the one at a place of a list.
-pub type Call<T, A = Global> = SetCall<Range<T>, A>;
-
 /// A call that every such set has, as a `Call` holds it.
 pub type Change<T> = calls::Change<Range<T>, ()>;
+
+/// A call that makes a set or changes the one at a place of a list.
+pub type Call<T, A = Global> = SetCall<Range<T>, A>;

@@ -99,8 +99,8 @@ impl<R, V, A: Allocator> Chunk<R, V, A> {
 
     /// Gives room back where at most half of it, and one pair, is used, as after a growth, which doubles
     /// it, or after removals. What stays is room for a third more pairs than there are, for no more than
-    /// `most`, no fewer than `LEAST_ROOM`, and never fewer than there are. An empty chunk keeps its room, since
-    /// it is dropped next. A refusal changes nothing.
+    /// `most`, no fewer than `LEAST_ROOM`, and never fewer than there are. An empty chunk keeps its room,
+    /// since it is dropped next. A refusal changes nothing.
     pub fn give_room_back(&mut self, most: usize)
         ensures { self.new ≡ self.old }
     {

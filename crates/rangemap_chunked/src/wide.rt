@@ -1,9 +1,9 @@
-//! Changes of a range that reaches over chunks.
+//! A change of the chunks that a range overlaps or touches: of one, or of several at once.
 //!
-//! Only one pair behind the first chunk can reach past the range, or touch it: the last that starts
-//! before the range ends, or there. It is moved into the first chunk, which is changed as any other
-//! then. Where memory is refused it goes back, and nothing changed. Else the chunks between are dropped
-//! whole, and none of their pairs is moved; what stays of the last chunk moves to its front.
+//! Of several only one pair behind the first chunk can reach past the range, or touch it: the last
+//! that starts before the range ends, or there. It is moved into the first, which is changed as one
+//! alone then. Where memory is refused it goes back, and nothing changed. Else the chunks between are
+//! dropped whole, and none of their pairs is moved; what stays of the last chunk moves to its front.
 ghost use Rattle.std.specs.Prelude.{◌≡◌, true, ◌<◌, ◌≤◌, ◌+◌, ◌++◌, [], length, take, drop, slice_index_or, slice_set, IsOk, OnOk, OnErr, IfOk, IfSome, None as NoneWord};
 ghost use Rattle.std.specs.List.{AllWithin};
 ghost use Rattle.rangemap_core.specs.Clones.{KeysCloneFaithfully, ValuesCloneFaithfully};

@@ -31,12 +31,12 @@ pub fn write<T: PairText<S::Range, S::Value>, S: Store, W: fmt::Write>(
     f.write_str("}")
 }
 
-/// What is written of a pair.
-pub trait PairText<R, V> {
-    /// The text.
+// What is written of a pair.
+trait PairText<R, V> {
+    // The text.
     ghost text: { R × V → Option (List ℕ) };
 
-    /// Writes a range and its value.
+    // Writes a range and its value.
     fn write_pair<W: fmt::Write>(range: &R, value: &V, f: &mut Formatter<W>) -> fmt::Result
         ensures { DisplaysOnOk W.write_str_gives f.old result (text (range.now, value.now)) f.new };
 }

@@ -5,9 +5,8 @@
 //! every map and every set of the library: what they are to it is said by `Container`. No range that
 //! is inserted or removed is empty, and clones are faithful, as for `insert`.
 //!
-//! A law holds where all of its calls are accepted. `Err(AllocError)` says that one was refused. A
-//! law of one call says that nothing changed then. A law of more says that each container is as it was,
-//! or as one of the calls that it got left it; in its body the calls before the refused one were made.
+//! A law holds where all of its calls are accepted. Where one of several was refused, those before it
+//! were made; the clauses say that each container is as it was, or as one of its calls left it.
 //!
 //! A contract speaks of what is held, not of how often or in which order it was written. So a law
 //! can't tell one insert from two equal ones, nor the order of two inserts that share no key; that
@@ -60,6 +59,10 @@ pub fn equal_exactly_when_alike<M: Container>(left: &M, right: &M) -> (bool, boo
 
 /// After an insert each key of the range has the value, and any other key is covered exactly as
 /// before, with an equal value.
+///
+/// # Errors
+///
+/// The insert was refused. The map is as it was.
 pub fn insert_changes_its_range_alone<M: Container>(
     map: &mut M,
     range: M::Range,
@@ -78,6 +81,10 @@ pub fn insert_changes_its_range_alone<M: Container>(
 
 /// After a remove no key of the range is covered, and any other key is covered exactly as before,
 /// with an equal value. Where no stored range overlaps it, the remove succeeds and changes nothing.
+///
+/// # Errors
+///
+/// The remove was refused. The map is as it was.
 pub fn remove_changes_its_range_alone<M: Container>(
     map: &mut M,
     range: M::Range,
@@ -96,6 +103,10 @@ pub fn remove_changes_its_range_alone<M: Container>(
 
 /// The same insert twice leaves what it leaves once: given two equal maps, it inserts into `once` a
 /// single time and into `twice` two times, and they are equal again.
+///
+/// # Errors
+///
+/// An insert was refused. Each map is as it was, or as one insert leaves it.
 pub fn insert_twice_equals_once<M: Container>(
     once: &mut M,
     twice: &mut M,
@@ -119,6 +130,10 @@ pub fn insert_twice_equals_once<M: Container>(
 
 /// Inserts on ranges with no common point commute: given two equal maps, it makes both inserts into
 /// each, in the one order and in the other, and the maps are equal again.
+///
+/// # Errors
+///
+/// An insert was refused. Each map is as it was, or as one of its inserts left it.
 pub fn inserts_commute<M: Container>(
     forth: &mut M,
     back: &mut M,
@@ -145,6 +160,11 @@ pub fn inserts_commute<M: Container>(
 
 /// A remove takes back the insert before it: given two equal maps, it inserts into `changed` and
 /// removes the range again, removes it from `removed` alone, and the maps are equal again.
+///
+/// # Errors
+///
+/// A call was refused. `changed` is as it was, or as one of its calls left it, and `removed` is as it
+/// was.
 pub fn remove_after_insert_equals_remove<M: Container>(
     changed: &mut M,
     removed: &mut M,
@@ -170,6 +190,10 @@ pub fn remove_after_insert_equals_remove<M: Container>(
 /// share no key, and together they have all its keys. No gap is empty, and no two touch.
 ///
 /// Returns what `collect_gaps` does, at its cost.
+///
+/// # Errors
+///
+/// As of `collect_gaps`.
 pub fn gaps_and_covered_keys_make_up_a_range<M: Container, B: Allocator>(
     alloc: B,
     stored: &M,

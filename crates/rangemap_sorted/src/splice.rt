@@ -10,8 +10,13 @@ mod turn;
 
 /// Puts the values in the place of those at `places`, in order.
 ///
-/// The values that stand behind the stretch are moved at most once, and not at all
-/// where as many values come as go, but where the vector gets other memory, which moves all.
+/// The values that stand behind the stretch are moved at most once, and not at all where as many
+/// come as go. Two things are apart: a vector that gets other memory moves all, and where three or
+/// more values go that take under 16 bytes together, those behind may be moved twice (`turn_down`).
+///
+/// # Requires
+///
+/// The stretch lies in the vector.
 ///
 /// # Errors
 ///
@@ -98,7 +103,12 @@ fn put<T: Drop, A: Allocator>(
     }
 }
 
-/// Takes out the values from `start` up to `end`, if there are any.
+/// Takes out the values from `start` up to `end`, if there are any. Those behind are moved as `splice`
+/// says.
+///
+/// # Requires
+///
+/// `start` is at most `end`, and `end` at most the length.
 pub fn cut<T: Drop, A: Allocator>(list: &mut Vec<T, A>, start: usize, end: usize)
     requires start_le_end { start ≤ end }
     requires in_bounds { end ≤ vec_len list.old }

@@ -101,8 +101,8 @@ impl<C: Peek> Iterator for Intersection<C> {
 
     ghost remaining = { λ s. at_most (length s) };
 
-    /// Returns the next item, made of clones. Where a clone was refused it says so once, as
-    /// `Some(Err(AllocError))`, and has ended then.
+    /// Returns the next item, made of clones. Where one was refused, which those of numbers and their
+    /// like never are, it says so once, as `Some(Err(AllocError))`, and has ended then.
     fn next(&mut self) -> Option<Result<C::Range, AllocError>> {
         let item = self.try_next();
         if item.is_err() {

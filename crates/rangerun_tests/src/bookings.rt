@@ -54,7 +54,7 @@ fn days_come_as_a_range(rt: HostRuntime) -> Result<(), Fail> {
 fn errors_print_what_is_wrong(rt: HostRuntime) -> Result<(), Fail> {
     let alloc = rt.alloc();
     let told = [
-        (BookError::Empty, "there is no day to book"),
+        (BookError::Empty, "there is no day in the range"),
         (BookError::Taken, "a guest holds one of the days"),
         (BookError::OutOfMemory, "out of memory"),
     ];

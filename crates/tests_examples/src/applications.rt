@@ -130,11 +130,11 @@ fn blocks_are_reserved_and_released(rt: HostRuntime) -> Result<(), Fail> {
     assert_same(&rt, planner.reserve(FIRST, LAST, 7)?, true);
     assert_same(&rt, planner.reserve(LAST, LAST + 1, 8)?, false);
     assert_same(&rt, planner.owner(LAST), Some(7));
-    assert_same(&rt, planner.first_free(FIRST)?, Some(0));
-    assert_same(&rt, planner.first_free(FIRST + 1)?, Some(LAST + 1));
-    assert_same(&rt, planner.first_free(u32::MAX)?, None);
+    assert_same(&rt, planner.first_free(FIRST), Some(0));
+    assert_same(&rt, planner.first_free(FIRST + 1), Some(LAST + 1));
+    assert_same(&rt, planner.first_free(u32::MAX), None);
     planner.release(FIRST, LAST)?;
-    assert_same(&rt, planner.first_free(u32::MAX)?, Some(0));
+    assert_same(&rt, planner.first_free(u32::MAX), Some(0));
     Ok(())
 }
 
@@ -241,6 +241,9 @@ fn numbers_wait_until_they_are_delivered(rt: HostRuntime) -> Result<(), Fail> {
         window.is_waiting(7),
     );
     assert_same(&rt, waiting, (false, false, true));
+    window.receive(0, 7)?;
+    let waiting = (window.is_waiting(1), window.is_waiting(6));
+    assert_same(&rt, waiting, (false, true));
     Ok(())
 }
 
@@ -272,10 +275,10 @@ fn memory_is_mapped_and_checked(rt: HostRuntime) -> Result<(), Fail> {
         memory.check(0x3000, Access::Read),
         Err(Fault::Unmapped),
     );
-    assert_same(&rt, memory.find_free(0, 0x8000, 0x2000)?, Some(0x5000));
+    assert_same(&rt, memory.find_free(0, 0x8000, 0x2000), Some(0x5000));
     memory.unmap(0x2000, 0x3000)?;
-    assert_same(&rt, memory.find_free(0, 0x8000, 0x2000)?, Some(0x2000));
-    assert_same(&rt, memory.find_free(0, 0x8000, 0x4000)?, None);
+    assert_same(&rt, memory.find_free(0, 0x8000, 0x2000), Some(0x2000));
+    assert_same(&rt, memory.find_free(0, 0x8000, 0x4000), None);
     let free = (
         memory.is_free(0x2000, 0x4000),
         memory.is_free(0x1FFF, 0x4000),

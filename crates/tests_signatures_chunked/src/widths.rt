@@ -1,7 +1,7 @@
 //! Calls at given types of keys, as users make them, and what they promise there.
 ghost use Rattle.std.specs.Prelude.{◌≡◌, ◌≤◌, ◌<◌, ◌^◌, ◌||◌, ℕ, IfOk, OnErr, OnOk, Some as SomeWord, false};
 ghost use Rattle.std.specs.Ordering.{nat_cmp};
-ghost use Rattle.rangemap.specs.Ranges.{IsCanonOf, IsCanonOfPoints, closed, covers, half_open, override, value_at};
+ghost use Rattle.rangemap.specs.Ranges.{IsCanonOfPoints, closed, covers, half_open, value_at};
 
 use rangemap::chunked::{RangeInclusiveSet, RangeMap, RangeSet};
 use std::alloc::AllocError;

@@ -1,8 +1,7 @@
 //! The laws of `|` and `&`, of every set that has them.
 //!
 //! Each function is told which operator its law is to be of. It makes the operators that the law
-//! speaks of, and answers the sets that they make, which are equal. A law holds where every operator
-//! in it succeeds; `Err(AllocError)` says that one was refused.
+//! speaks of, and answers the sets that they make, which are equal.
 //!
 //! A contract speaks of the keys that a set has, not of how it was made: of `is_idempotent` and
 //! `absorbs` a clone of the first set would meet it, and of the others a clone of the other side.
@@ -26,6 +25,10 @@ use std::alloc::AllocError;
 pub type BothSides<M> = Result<(M, M), AllocError>;
 
 /// `a | b` equals `b | a`, and `a & b` equals `b & a`.
+///
+/// # Errors
+///
+/// An operator was refused.
 pub fn commutes<S: StoreMut<Value = ()> + Drop>(
     operator: Operator,
     first: &Set<S>,
@@ -45,6 +48,10 @@ where
 }
 
 /// `(a | b) | c` equals `a | (b | c)`, and `(a & b) & c` equals `a & (b & c)`.
+///
+/// # Errors
+///
+/// An operator was refused.
 pub fn associates<S: StoreMut<Value = ()> + Drop>(
     operator: Operator,
     first: &Set<S>,
@@ -69,6 +76,10 @@ where
 }
 
 /// `a | a` equals `a`, and so does `a & a`.
+///
+/// # Errors
+///
+/// An operator was refused.
 pub fn is_idempotent<S: StoreMut<Value = ()> + Drop>(
     operator: Operator,
     first: &Set<S>,
@@ -85,6 +96,10 @@ where
 }
 
 /// `a | (a & b)` equals `a`, and so does `a & (a | b)`. The operator is the outer one.
+///
+/// # Errors
+///
+/// An operator was refused.
 pub fn absorbs<S: StoreMut<Value = ()> + Drop>(
     operator: Operator,
     first: &Set<S>,
@@ -104,6 +119,10 @@ where
 
 /// `a | (b & c)` equals `(a | b) & (a | c)`, and `a & (b | c)` equals `(a & b) | (a & c)`. The operator
 /// is the outer one of the left side.
+///
+/// # Errors
+///
+/// An operator was refused.
 pub fn distributes<S: StoreMut<Value = ()> + Drop>(
     operator: Operator,
     first: &Set<S>,

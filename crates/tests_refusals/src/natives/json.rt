@@ -1,6 +1,5 @@
 //! Reading where a request for memory is refused. `to_value` takes memory of the `Global` that the
 //! JSON value is made in, and of no other; `from_value` takes that of the container.
-ghost use Rattle.rangemap.specs.Clones.{KeysCloneFaithfully, ValuesCloneFaithfully};
 
 use super::made::Made;
 use rangemap::map::Map;

@@ -10,7 +10,7 @@ pub returns : goal.returns
 returns c =
     let taken = subst (λ item. TakesRange (half_open nat_cmp) c.gaps.result item c.try_next.new.self) c.in-Ok-Some.field-0-is c.in-Ok-Some.ensures.ok in
     let gap = first_gap c.args.map.now (record { start = c.args.at; end = c.args.limit }) (asks_first_gap {result = Some (Ok c.in-Ok-Some.gap)} _ _ c.gaps.ensures taken) (refl, refl) c.requires.forward c.requires.free in
-    (gap.forward, gap.within, gap.free)
+    (gap.forward, gap.within, gap.free, gap.ends)
 
 pub unreachable-requires : goal.unreachable-requires
 unreachable-requires c =

@@ -8,6 +8,5 @@ use Rattle.examples.proofs.calling.is_at_most.Goals as goal
 pub returns : goal.returns
 returns c = λ yes key is_key there.
     let numbers = closed_unsigned (2 ^ 32) in
-    let each = covered_by_items numbers.kind c.args.set.now (λ range. range_inclusive_end range ≤ c.args.limit) (search lends_again) c.loop-range.invariant c.in-None.is in
-    let one = each key there in
+    let one = covered_by_items numbers.kind c.args.set.now (λ range. range_inclusive_end range ≤ c.args.limit) (search lends_again) c.loop-range.invariant c.in-None.is key there in
     omega (arith, one.kept, numbers.to one.range key one.holds)

@@ -5,9 +5,9 @@ use Rattle.rangemap.proofs.NumberKinds.{half_open_unsigned}
 use Rattle.examples.proofs.calling.room_for.Goals as goal
 
 pub returns-then-gap-size-clause-found : goal.returns-then-gap-size-clause-found
-returns-then-gap-size-clause-found c = λ x from to.
-    let gap = next_set_gap half_open_unsigned c.args.held.now c.args.within.now (search asks_for_gaps) c.loop-gap.invariant (c.in-Some.is, c.in_ok-gap.was) in
-    gap.lacks x from (omega (arith, gap.forward, c.if-gap-size.true))
+returns-then-gap-size-clause-found c =
+    let gap = next_set_gap half_open_unsigned c.args.held.now c.args.within.now (search asks_for_gaps) c.loop-gap.invariant (c.in-Some.is, c.in-Ok.is) in
+    (gap.from, omega (arith, gap.to, gap.forward, c.if-gap-size.true), λ x from to. gap.lacks x from (omega (arith, gap.forward, c.if-gap-size.true)))
 
 pub returns-clause-none : goal.returns-clause-none
 returns-clause-none c = λ first from to lacks.

@@ -2,7 +2,8 @@ use Rattle.std.proofs.Common.{ap, arith, ◌+◌, ◌-◌, ◌%◌, ◌^◌}
 use Rattle.std.specs.Prelude.{option_map}
 use Rattle.rangemap.proofs.NumberKinds.{closed_unsigned}
 use Rattle.rangemap.proofs.NumberLemmas.{inserted, same_number}
-use Rattle.examples.proofs.ExtentLemmas.{after_either, one_to_one_mapped}
+use Rattle.examples.proofs.ChangeLemmas.{after_either}
+use Rattle.examples.proofs.ExtentLemmas.{one_to_one_mapped}
 use Rattle.examples.proofs.RingLemmas.{lies_within}
 use Rattle.examples.specs.Places.{IsOneToOne}
 use Rattle.examples.proofs.extents.Extents.map.Goals as goal

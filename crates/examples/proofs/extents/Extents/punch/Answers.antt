@@ -2,7 +2,8 @@ use Rattle.std.proofs.Common.{arith, option_map, ap, ◌%◌, ◌+◌, ◌^◌}
 use Rattle.std.proofs.lemmas.Result.{on_ok_weaker}
 use Rattle.rangemap.proofs.NumberKinds.{closed_unsigned}
 use Rattle.rangemap.proofs.NumberLemmas.{removed, same_number}
-use Rattle.examples.proofs.ExtentLemmas.{after_either, one_to_one_punched}
+use Rattle.examples.proofs.ChangeLemmas.{after_either}
+use Rattle.examples.proofs.ExtentLemmas.{one_to_one_punched}
 use Rattle.examples.specs.Places.{IsOneToOne}
 use Rattle.examples.proofs.extents.Extents.punch.Goals as goal
 

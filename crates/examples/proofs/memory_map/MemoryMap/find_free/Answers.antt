@@ -6,7 +6,7 @@ use Rattle.examples.proofs.memory_map.MemoryMap.find_free.Goals as goal
 
 pub returns-then-gap-size-clause-found : goal.returns-then-gap-size-clause-found
 returns-then-gap-size-clause-found c =
-    let gap = next_gap half_open_unsigned c.args.self.now.regions (record { start = c.args.start; end = c.args.end }) (search asks_for_gaps) c.loop-gap.invariant (c.in-Some.is, c.in_ok-gap.was) in
+    let gap = next_gap half_open_unsigned c.args.self.now.regions (record { start = c.args.start; end = c.args.end }) (search asks_for_gaps) c.loop-gap.invariant (c.in-Some.is, c.in-Ok.is) in
     record {
       from = gap.from;
       fits = omega (arith, gap.to, gap.forward, c.if-gap-size.true);

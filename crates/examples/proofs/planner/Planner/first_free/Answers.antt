@@ -6,7 +6,7 @@ use Rattle.examples.proofs.planner.Planner.first_free.Goals as goal
 
 pub returns-then-last-first-clause-found : goal.returns-then-last-first-clause-found
 returns-then-last-first-clause-found c =
-    let gap = next_gap (closed_unsigned (2 ^ 32)) c.args.self.now.blocks c.new-all.result (search asks_for_gaps) c.loop-gap.invariant (c.in-Some.is, c.in_ok-gap.was) in
+    let gap = next_gap (closed_unsigned (2 ^ 32)) c.args.self.now.blocks c.new-all.result (search asks_for_gaps) c.loop-gap.invariant (c.in-Some.is, c.in-Ok.is) in
     record {
       fits = omega (arith, gap.stored.end_is_key, gap.forward, c.start-first.ensures, c.end-last.ensures);
       free = λ at from to. gap.free at (omega (arith, c.start-first.ensures)) (omega (arith, gap.forward, c.start-first.ensures, c.end-last.ensures));

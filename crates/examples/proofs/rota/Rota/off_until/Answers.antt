@@ -9,7 +9,7 @@ pub returns : goal.returns
 returns c =
     let taken = subst (λ item. TakesRange hours c.gaps.result item c.try_next.new.self) c.in-Ok-Some.field-0-is c.in-Ok-Some.ensures.ok in
     let gap = first_gap c.args.self.now.shifts (record { start = c.args.hour; end = c.args.limit }) (asks_first_gap {result = Some (Ok c.in-Ok-Some.gap)} _ _ c.gaps.ensures taken) (refl, refl) c.requires.forward c.requires.off in
-    record { forward = gap.forward; within = gap.within; off = gap.free }
+    record { forward = gap.forward; within = gap.within; off = gap.free; ends = gap.ends }
 
 pub unreachable-requires : goal.unreachable-requires
 unreachable-requires c =
