@@ -2,7 +2,7 @@
 use Rattle.std.proofs.Common.{arith, ◌≡◌, ℕ, zero, suc, ◌+◌, ◌-◌, ◌<◌, ◌≤◌, Bool, false, List, [], ◌∷◌, ◌++◌, length, take, drop, get_or, Option, Some, None, refl, sym, ap, ◌∙◌, subst, append_assoc, append-nil, length-append, length-drop, add-one, Less, is_gt}
 use Rattle.std.proofs.Math.ListN.{set}
 use Rattle.std.proofs.Math.Seq.{drop-cons}
-use Rattle.std.proofs.lemmas.List.{drop-drop, get_or-drop, length-take-le, take-append-drop, take-take, take_at}
+use Rattle.std.proofs.lemmas.List.{drop-drop, drop_at, get_or-drop, get_or_default, length-take-le, take-append-drop, take-take, take_at}
 use Rattle.std.specs.Prelude.{IfSome}
 use Rattle.std.specs.Cmp.{IsEquivalence}
 use Rattle.rangemap_core.specs.Ranges.{RangeKind, IsCanonical, IsStorable, value_at}
@@ -17,7 +17,7 @@ use Rattle.rangemap_chunked.proofs.MoveLemmas.{one_at, put_back}
 use Rattle.rangemap_chunked.specs.Chunks.{AreChunks, AreFilled, AreFilledBut, IsClearBefore, IsClearBehind, IsLastTouched, IsPastBehind, IsPastStart, whole}
 use Rattle.rangemap_chunked.proofs.BorderLemmas.{Every-left}
 use Rattle.rangemap_chunked.proofs.ChunkLemmas.{whole_append, whole_around}
-use Rattle.rangemap_chunked.proofs.StoreLemmas.{Every-drop_n, Every-take_n}
+use Rattle.rangemap_chunked.proofs.StoreLemmas.{Every-drop_n, Every-take_n, whole_empty}
 use Rattle.rangemap_chunked.proofs.WideLemmas.{first_canonical, wide_changed}
 
 if_some_always : {T P : Type 0} (m : Option T) → P → IfSome m (λ _. P)
@@ -57,6 +57,43 @@ module _ {X : Type 0} where
   set_length [] (suc n) y = refl
   set_length (x ∷ xs) zero y = refl
   set_length (x ∷ xs) (suc n) y = ap suc (set_length xs n y)
+
+-- the chunks between two places were taken out, with that at the second where it was empty
+pub record IsCut {X : Type 0} (old new : List (List X)) (from last : ℕ) : Type 0 where
+  pub whole_is : whole new ≡ whole (take from old) ++ whole (drop last old)
+  pub before : take from new ≡ take from old
+  pub longer : from ≤ length new
+  pub filled : AreFilled (drop (last + 1) old) → AreFilled (drop from new)
+
+module _ {X : Type 0} (old new : List (List X)) (from last : ℕ) (order : from ≤ last) (bound : last < length old) where
+  front_length : length (take from old) ≡ from
+  front_length = length-take-le from old (omega (arith, order, bound))
+
+  module _ (rest : List (List X)) (is : new ≡ take from old ++ rest) where
+    cut_before : take from new ≡ take from old
+    cut_before = ap (take from) is ∙ take_at (take from old) rest from front_length
+
+    cut_behind : drop from new ≡ rest
+    cut_behind = ap (drop from) is ∙ drop_at (take from old) rest from front_length
+
+    cut_longer : from ≤ length new
+    cut_longer = let all = ap length is in let sum = length-append (take from old) rest in omega (arith, all, sum, front_length)
+
+  pub cut_through : length (get_or old last []) ≡ 0 → new ≡ take from old ++ drop (last + 1) old → IsCut old new from last
+  cut_through none is = record {
+    whole_is = ap whole is ∙ whole_append (take from old) (drop (last + 1) old) ∙ whole_empty old last (get_or old last []) bound (get_or_default old last [] (get_or old last []) bound) none (whole (take from old));
+    before = cut_before (drop (last + 1) old) is;
+    longer = cut_longer (drop (last + 1) old) is;
+    filled = λ h. subst AreFilled (sym (cut_behind (drop (last + 1) old) is)) h;
+  }
+
+  pub cut_up_to : 0 < length (get_or old last []) → new ≡ take from old ++ drop last old → IsCut old new from last
+  cut_up_to some is = record {
+    whole_is = ap whole is ∙ whole_append (take from old) (drop last old);
+    before = cut_before (drop last old) is;
+    longer = cut_longer (drop last old) is;
+    filled = λ h. subst AreFilled (sym (cut_behind (drop last old) is ∙ drop-cons old last [] bound)) (some, subst (λ n. AreFilled (drop n old)) (add-one last) h);
+  }
 
 module _ {X : Type 0} (chunks : List (List X)) (at last : ℕ) (order : at < last) (bound : last < length chunks) where
   abbrev pub between : List (List X)

@@ -32,6 +32,15 @@ Every-drop_n Q zero xs h = h
 Every-drop_n Q (suc n) [] h = tt
 Every-drop_n Q (suc n) (x ∷ xs) h = Every-drop_n Q n xs h.1
 
+pub set_same : {Y : Type 0} (xs : List Y) (at : ℕ) (d : Y) → at < length xs → set xs at (get_or xs at d) ≡ xs
+set_same [] at d l = absurd (omega arith)
+set_same (x ∷ xs) zero d l = refl
+set_same (x ∷ xs) (suc at) d l = ap (λ ys. x ∷ ys) (set_same xs at d (omega arith))
+
+-- a value put where it stands
+pub set_own : {Y : Type 0} (xs : List Y) (at : ℕ) (y : Y) → at < length xs → y ≡ get_or xs at y → set xs at y ≡ xs
+set_own xs at y l own = ap (λ z. set xs at z) own ∙ set_same xs at y l
+
 module _ {X : Type 0} where
   pub whole_set : (chunks : List (List X)) (at : ℕ) (new : List X) → at < length chunks → whole (set chunks at new) ≡ whole (take at chunks) ++ (new ++ whole (drop (suc at) chunks))
   whole_set [] at new l = absurd (omega arith)
@@ -55,11 +64,6 @@ module _ {X : Type 0} where
   drop_set [] (suc at) new = refl
   drop_set (x ∷ xs) zero new = refl
   drop_set (x ∷ xs) (suc at) new = drop_set xs at new
-
-  pub set_same : (chunks : List (List X)) (at : ℕ) (d : List X) → at < length chunks → set chunks at (get_or chunks at d) ≡ chunks
-  set_same [] at d l = absurd (omega arith)
-  set_same (x ∷ xs) zero d l = refl
-  set_same (x ∷ xs) (suc at) d l = ap (λ ys. x ∷ ys) (set_same xs at d (omega arith))
 
   -- how many values there are
   pub length_around : (chunks : List (List X)) (at : ℕ) (mid : List X) → at < length chunks → mid ≡ get_or chunks at mid → length (whole chunks) ≡ length (whole (take at chunks)) + (length mid + length (whole (drop (suc at) chunks)))

@@ -34,7 +34,12 @@ pub fn insert_into<Q: Kind<R>, R: KeyRange, V: Eq + Clone, A: Allocator + Clone,
     ensures counted { IfOk result (λ counts. IsCounted V.eq 2 (whole chunks.old.items) (whole chunks.new.items) counts.before counts.after) }
 {
     if chunks.is_empty() {
-        return insert_first::<Q, R, V, A>(chunks, range, value);
+        known_ends::<Q, R>(&range);
+        let mut chunk = Chunk::empty(chunks.allocator().clone()?);
+        chunk.change::<Q>(range, Some(value))?;
+        let after = chunk.len();
+        chunks.push(chunk)?;
+        return Ok(Counts { before: 0, after });
     }
     let at = start_of::<Q, R, V, A>(chunks, &range);
     let end = first_failing(
@@ -45,29 +50,6 @@ pub fn insert_into<Q: Kind<R>, R: KeyRange, V: Eq + Clone, A: Allocator + Clone,
     let counts = change_over::<Q, R, V, A>(chunks, at, end, range, Some(value))?;
     settle::<R, V, A, N>(chunks, at, true);
     Ok(counts)
-}
-
-// Gives every key of the range the value, where there is no chunk yet.
-fn insert_first<Q: Kind<R>, R: KeyRange, V: Eq + Clone, A: Allocator + Clone>(
-    chunks: &mut Vec<Chunk<R, V, A>, A>,
-    range: R,
-    value: V,
-) -> Result<Counts, AllocError>
-    requires none { chunks.old.items ≡ [] }
-    requires non_empty { Q.kind.IsNonEmpty range }
-    requires faithful_keys { KeysCloneFaithfully R.Key.is_clone R.Key.cmp }
-    requires faithful_values { ValuesCloneFaithfully V.is_clone V.eq }
-    ensures ok { OnOk result (IsChanged Q.kind V.eq (value_at Q.kind (whole chunks.old.items)) range (SomeWord value) (whole chunks.new.items)) }
-    ensures filled { AreFilled chunks.new.items }
-    ensures err { OnErr result (chunks.new.items ≡ chunks.old.items) }
-    ensures counted { IfOk result (λ counts. IsCounted V.eq 2 (whole chunks.old.items) (whole chunks.new.items) counts.before counts.after) }
-{
-    known_ends::<Q, R>(&range);
-    let mut chunk = Chunk::empty(chunks.allocator().clone()?);
-    chunk.change::<Q>(range, Some(value))?;
-    let after = chunk.len();
-    chunks.push(chunk)?;
-    Ok(Counts { before: 0, after })
 }
 
 /// Takes every key of the range out of the chunks of a store.

@@ -9,7 +9,7 @@ ghost use Rattle.rangemap_core.specs.Clones.{KeysCloneFaithfully, ValuesCloneFai
 ghost use Rattle.rangemap_core.specs.Ranges.{IsCanonical, IsCanonOf, overlapped, same_pairs, value_at};
 ghost use Rattle.rangemap_sorted.specs.Changes.{IsChanged, grown};
 
-use crate::moves::{move_back, move_one};
+use crate::moves::insert_reserved;
 use rangemap_core::key_range::KeyRange;
 use rangemap_core::kind::Kind;
 use rangemap_sorted::entries::changes;
@@ -163,9 +163,12 @@ impl<R: KeyRange, V: Eq + Clone, A: Allocator> Chunk<R, V, A> {
     {
         let pairs = &mut self.pairs;
         let others = &mut other.pairs;
-        move_one(pairs, others, place)?;
+        pairs.reserve(1)?;
+        pairs.push_reserved(others.remove(place));
         let Ok(()) = changes::change::<Q, R, V, A>(pairs, range, value) else {
-            move_back(pairs, others, place);
+            if let Some(pair) = pairs.pop() {
+                insert_reserved(others, place, pair);
+            }
             return Err(AllocError);
         };
         cut(others, 0, place);

@@ -1,7 +1,7 @@
 //! Where a key or a range lies among the chunks.
 //!
 //! No chunk is empty, and their lists, one after the other, are canonical.
-ghost use Rattle.std.specs.Prelude.{◌≡◌, ◌⊎◌, Bool, true, false, ◌+◌, ◌<◌, ◌≤◌, [], length, slice_index_or, nat_lt, IfSome, Some as SomeWord, None as NoneWord, MatchOption};
+ghost use Rattle.std.specs.Prelude.{◌≡◌, ◌⊎◌, Bool, true, false, ◌+◌, ◌<◌, ◌≤◌, [], length, slice_index_or, IfSome, Some as SomeWord, None as NoneWord, MatchOption};
 ghost use Rattle.std.specs.Fn.{ComputesKey};
 ghost use Rattle.std.specs.List.{AllWithin};
 ghost use Rattle.std.specs.List.Sorted.{IsPartitionedBy};
@@ -158,16 +158,6 @@ pub fn last_touched<Q: Kind<R>, R: KeyRange, V: Eq, A: Allocator>(
     count.saturating_sub(1)
 }
 
-// Whether a pair of the chunk overlaps the range.
-fn overlaps<Q: Kind<R>, R: KeyRange, V: Eq, A: Allocator>(chunk: &Chunk<R, V, A>, range: &R) -> bool
-    requires { IsCanonical Q.kind V.eq chunk.now }
-    ensures { result ≡ nat_lt 0 (length (overlapped Q.kind chunk.now range.now)) }
-{
-    Overlapping::new::<Q>(chunk.as_slice(), range)
-        .take_first()
-        .is_some()
-}
-
 /// Returns whether a removal may leave more pairs than a `usize` can count, so that it is to be refused.
 /// The range overlaps only chunks from `at` up to `end`.
 pub fn may_overflow<Q: Kind<R>, R: KeyRange, V: Eq, A: Allocator>(
@@ -194,5 +184,7 @@ pub fn may_overflow<Q: Kind<R>, R: KeyRange, V: Eq, A: Allocator>(
     if at + 1 < end {
         return true;
     }
-    overlaps::<Q, R, V, A>(&chunks[at], range)
+    Overlapping::new::<Q>(chunks[at].as_slice(), range)
+        .take_first()
+        .is_some()
 }

@@ -4,19 +4,19 @@
 //! that starts before the range ends, or there. It is moved into the first, which is changed as one
 //! alone then. Where memory is refused it goes back, and nothing changed. Else the chunks between are
 //! dropped whole, and none of their pairs is moved; what stays of the last chunk moves to its front.
-ghost use Rattle.std.specs.Prelude.{◌≡◌, true, ◌<◌, ◌≤◌, ◌+◌, ◌++◌, [], length, take, drop, slice_index_or, slice_set, IsOk, OnOk, OnErr, IfOk, IfSome, None as NoneWord};
+ghost use Rattle.std.specs.Prelude.{◌≡◌, true, ◌<◌, ◌≤◌, ◌+◌, [], length, slice_index_or, IsOk, OnOk, OnErr, IfOk, IfSome, None as NoneWord};
 ghost use Rattle.std.specs.List.{AllWithin};
 ghost use Rattle.rangemap_core.specs.Clones.{KeysCloneFaithfully, ValuesCloneFaithfully};
-ghost use Rattle.rangemap_core.specs.Ranges.{IsCanonical, overlapped, value_at};
+ghost use Rattle.rangemap_core.specs.Ranges.{overlapped, value_at};
 ghost use Rattle.rangemap_core.specs.engine.Shape.{shape_of};
 ghost use Rattle.rangemap_sorted.specs.Changes.{IsChanged, grown};
 ghost use Rattle.rangemap_chunked.specs.Chunks.{AreChunks, AreFilledBut, IsClearBefore, IsClearBehind, IsCounted, IsPastBehind, IsPastStart, chunk_by, whole};
 
 use crate::chunk::Chunk;
-use crate::joins::{drop_between, shrink_at};
 use crate::search::last_touched;
 use rangemap_core::key_range::KeyRange;
 use rangemap_core::kind::{Kind, known_ends};
+use rangemap_sorted::splice::cut;
 use std::alloc::{AllocError, Allocator};
 
 /// How many pairs stood in the stretch of chunks that a change went over, before it and after it.
@@ -73,10 +73,15 @@ pub fn change_over<Q: Kind<R>, R: KeyRange, V: Eq + Clone, A: Allocator>(
     let last = end - 1;
     let place = last_touched::<Q, R, V, A>(&chunks[last], &range);
     let before = count(&chunks[at..last]) + place + 1;
-    change_between::<Q, R, V, A>(chunks, at, last, place, range, value)?;
-    let after = chunks[at].len();
-    shrink_at(chunks, last, usize::MAX);
-    drop_between(chunks, at + 1, last);
+    let (front, back) = chunks.split_at_mut(last);
+    let first = &mut front[at];
+    let later = &mut back[0];
+    first.change_with::<Q>(later, place, range, value)?;
+    later.give_room_back(usize::MAX);
+    let after = first.len();
+    // The last chunk goes with those between where nothing is left of it.
+    let gone = if later.len() == 0 { last + 1 } else { last };
+    cut(chunks, at + 1, gone);
     Ok(Counts { before, after })
 }
 
@@ -90,58 +95,4 @@ fn count<R, V, A: Allocator>(chunks: &[Chunk<R, V, A>]) -> usize
         count += chunk.len();
     }
     count
-}
-
-// Changes one chunk so, with the pair of a later one at a place.
-fn change_between<Q: Kind<R>, R: KeyRange, V: Eq + Clone, A: Allocator>(
-    chunks: &mut Vec<Chunk<R, V, A>, A>,
-    at: usize,
-    last: usize,
-    place: usize,
-    range: R,
-    value: Option<V>,
-) -> Result<(), AllocError>
-    requires order { at < last }
-    requires last { last < length chunks.old.items }
-    requires in_bounds { place < length (slice_index_or chunks.old.items last []) }
-    requires canonical { IsCanonical Q.kind V.eq (slice_index_or chunks.old.items at [] ++ take 1 (drop place (slice_index_or chunks.old.items last []))) }
-    requires non_empty { Q.kind.IsNonEmpty range }
-    requires faithful_keys { KeysCloneFaithfully R.Key.is_clone R.Key.cmp }
-    requires faithful_values { ValuesCloneFaithfully V.is_clone V.eq }
-    ensures ok { OnOk result (IsChanged Q.kind V.eq (value_at Q.kind (slice_index_or chunks.old.items at [] ++ take 1 (drop place (slice_index_or chunks.old.items last [])))) range value (slice_index_or chunks.new.items at [])) }
-    ensures items { OnOk result (chunks.new.items ≡ slice_set (slice_set chunks.old.items at (slice_index_or chunks.new.items at [])) last (drop (place + 1) (slice_index_or chunks.old.items last []))) }
-    ensures err { OnErr result (chunks.new.items ≡ chunks.old.items) }
-    ensures growth { OnOk result (length (slice_index_or chunks.new.items at []) ≤ length (slice_index_or chunks.old.items at []) + 1 + grown value) }
-    ensures growth_where_all_are_equal { OnOk result (((v w : V) → V.eq v w ≡ true) → length (slice_index_or chunks.new.items at []) ≤ length (slice_index_or chunks.old.items at []) + 2) }
-{
-    let (front, back) = chunks.split_at_mut(last);
-    change_in::<Q, R, V, A>(front, at, back, place, range, value)
-}
-
-// The same, where the later chunk is the first of another slice.
-fn change_in<Q: Kind<R>, R: KeyRange, V: Eq + Clone, A: Allocator>(
-    front: &mut [Chunk<R, V, A>],
-    at: usize,
-    back: &mut [Chunk<R, V, A>],
-    place: usize,
-    range: R,
-    value: Option<V>,
-) -> Result<(), AllocError>
-    requires at { at < length front.old }
-    requires some { 0 < length back.old }
-    requires in_bounds { place < length (slice_index_or back.old 0 []) }
-    requires canonical { IsCanonical Q.kind V.eq (slice_index_or front.old at [] ++ take 1 (drop place (slice_index_or back.old 0 []))) }
-    requires non_empty { Q.kind.IsNonEmpty range }
-    requires faithful_keys { KeysCloneFaithfully R.Key.is_clone R.Key.cmp }
-    requires faithful_values { ValuesCloneFaithfully V.is_clone V.eq }
-    ensures ok { OnOk result (IsChanged Q.kind V.eq (value_at Q.kind (slice_index_or front.old at [] ++ take 1 (drop place (slice_index_or back.old 0 [])))) range value (slice_index_or front.new at [])) }
-    ensures front { front.new ≡ slice_set front.old at (slice_index_or front.new at []) }
-    ensures back { OnOk result (back.new ≡ slice_set back.old 0 (drop (place + 1) (slice_index_or back.old 0 []))) }
-    ensures err { OnErr result ((front.new ≡ front.old) × (back.new ≡ back.old)) }
-    ensures growth { OnOk result (length (slice_index_or front.new at []) ≤ length (slice_index_or front.old at []) + 1 + grown value) }
-    ensures growth_where_all_are_equal { OnOk result (((v w : V) → V.eq v w ≡ true) → length (slice_index_or front.new at []) ≤ length (slice_index_or front.old at []) + 2) }
-{
-    let first = &mut front[at];
-    let last = &mut back[0];
-    first.change_with::<Q>(last, place, range, value)
 }

@@ -1,7 +1,7 @@
 -- What the first items of two lists say of how the lists compare.
 use Rattle.std.proofs.Common.{◌≡◌, Bool, true, false, List, ◌∷◌, refl, sym}
 use Rattle.std.specs.Cmp.Lexicographic.{pointwise, slice_cmp}
-use Rattle.std.specs.Ordering.{is_ne, ordering_then}
+use Rattle.std.specs.Ordering.{MatchOrdering, is_ne, ordering_then}
 use Rattle.std.specs.declared.cmp.Ordering.{Ordering}
 use Rattle.std.specs.declared.cmp.Ordering.TheVariants.{Less, Equal, Greater}
 
@@ -31,3 +31,9 @@ module _ {A : Type 0} (cmp : A → A → Ordering) (xs ys ps qs : List A) (x y :
   -- and else what is behind them
   pub firsts_defer : (found : Ordering) → found ≡ cmp x y → is_ne found ≡ false → slice_cmp cmp ps qs ≡ slice_cmp cmp xs ys
   firsts_defer found is h = rw (left, right, ← is) (sym (defers found (slice_cmp cmp ps qs) h))
+
+-- what `then_with` answers, where its function answers `second`
+pub chained : (first second found : Ordering) (Says : Type 0) → MatchOrdering first (found ≡ Less) Says (found ≡ Greater) → (Says → found ≡ second) → found ≡ ordering_then first second
+chained Less second found Says h is = h
+chained Equal second found Says h is = is h
+chained Greater second found Says h is = h

@@ -1,5 +1,5 @@
 -- The entries of pairs that are written one after another.
-use Rattle.std.proofs.Common.{◌≡◌, ℕ, List, [], ◌∷◌, ◌++◌, length, take, Some, append_assoc, append-nil, refl, sym, ap, subst, ◌∙◌}
+use Rattle.std.proofs.Common.{◌≡◌, ℕ, List, [], ◌∷◌, ◌++◌, length, take, Some, Ok, Err, inl, inr, append_assoc, append-nil, refl, sym, ap, subst, ◌∙◌}
 use Rattle.std.proofs.Math.Seq.{take-append_seam}
 use Rattle.std.specs.List.{AllByRecursion, AllZip, slice_get}
 use Rattle.serde_json.specs.declared.value.Value.{Value}
@@ -24,6 +24,33 @@ module _ {K X V E : Type 0} (k : RangeKind K X) (w : Writer K V E) where
   written_all [] entries h = tt
   written_all (a ∷ pairs) [] h = absurd h
   written_all (a ∷ pairs) (v ∷ entries) h = ((h.0.start, h.0.end, h.0.value, h.0.start_is, h.0.end_is, h.0.value_is), written_all pairs entries h.1)
+
+  module _ (pair : X × V) (start : K) (starts : start ≡ k.start pair.0) where
+    -- the start was refused
+    pub start_refused : (fault : E) → w.key start (Err fault) → IsRefusedIn k w pair fault
+    start_refused fault h = inl (subst (λ x. w.key x (Err fault)) starts h)
+
+    module _ (s : Value) (start_is : w.key start (Ok s)) (end : K) (ends : end ≡ k.end pair.0) where
+      -- or the end
+      pub end_refused : (fault : E) → w.key end (Err fault) → IsRefusedIn k w pair fault
+      end_refused fault h = inr (inl (s, subst (λ x. w.key x (Ok s)) starts start_is, subst (λ x. w.key x (Err fault)) ends h))
+
+      module _ (t : Value) (end_is : w.key end (Ok t)) (value : V) (values : value ≡ pair.1) where
+        -- or the value
+        pub value_refused : (fault : E) → w.value value (Err fault) → IsRefusedIn k w pair fault
+        value_refused fault h = inr (inr (s, t, subst (λ x. w.key x (Ok s)) starts start_is, subst (λ x. w.key x (Ok t)) ends end_is, subst (λ x. w.value x (Err fault)) values h))
+
+        -- or all were written
+        pub parts_written : (part entry : Value) → w.value value (Ok part) → w.shape entry s t part → IsWritten k w pair entry
+        parts_written part entry value_is shape = record {
+          start = s;
+          end = t;
+          value = part;
+          shape = shape;
+          start_is = subst (λ x. w.key x (Ok s)) starts start_is;
+          end_is = subst (λ x. w.key x (Ok t)) ends end_is;
+          value_is = subst (λ x. w.value x (Ok part)) values value_is;
+        }
 
   -- the first refusal of a list, from that of a pair
   refused_part : (pairs : List (X × V)) (at : ℕ) (pair : X × V) → slice_get pairs at ≡ Some pair → AllByRecursion (IsWritable k w) (take at pairs)

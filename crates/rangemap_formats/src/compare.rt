@@ -1,7 +1,7 @@
 //! Equality and order of what two stores hold, pair by pair: a store hands its pairs and those of
 //! another to a reader of both, so that no store compares pairs itself.
 ghost use Rattle.std.specs.Prelude.{◌≡◌};
-ghost use Rattle.rangemap_core.specs.ListOrder.{pair_cmp, pairs_cmp};
+ghost use Rattle.rangemap_core.specs.ListOrder.{pairs_cmp};
 ghost use Rattle.rangemap_core.specs.Ranges.{same_pairs};
 
 use rangemap_core::cursor::Peek;
@@ -78,7 +78,13 @@ impl<Q: Kind<R>, R: KeyRange, V: Ord> ReaderOfBoth<R, V> for Compared<Q> {
             };
             let (range, value) = C::parts(&our);
             let (other, other_value) = C::parts(&their);
-            let found = compare_pairs::<Q, R, V>(range, value, other, other_value);
+            // By the starts, where these are equal by the ends, and where the ranges are equal by the
+            // values.
+            let found = range
+                .start()
+                .cmp(other.start())
+                .then_with(|| range.end().cmp(other.end()))
+                .then_with(|| value.cmp(other_value));
             if found.is_ne() {
                 return found;
             }
@@ -89,25 +95,4 @@ impl<Q: Kind<R>, R: KeyRange, V: Ord> ReaderOfBoth<R, V> for Compared<Q> {
             Ordering::Less
         }
     }
-}
-
-// Compares two pairs: by the starts, where these are equal by the ends, and where the ranges are equal
-// by the values.
-fn compare_pairs<Q: Kind<R>, R: KeyRange, V: Ord>(
-    range: &R,
-    value: &V,
-    other: &R,
-    other_value: &V,
-) -> Ordering
-    ensures { result ≡ pair_cmp Q.kind V.cmp (range.now, value.now) (other.now, other_value.now) }
-{
-    let starts = range.start().cmp(other.start());
-    if starts.is_ne() {
-        return starts;
-    }
-    let ends = range.end().cmp(other.end());
-    if ends.is_ne() {
-        return ends;
-    }
-    value.cmp(other_value)
 }

@@ -4,7 +4,7 @@
 //! Under `{:#?}` std's `debug_set` lays the pairs out, and nothing is promised of that text.
 ghost use Rattle.std.specs.Prelude.{ℕ, List, Option};
 ghost use Rattle.std.specs.Fmt.{DisplaysOnOk};
-ghost use Rattle.rangemap_formats.specs.Texts.{braced_text, others_text, range_text};
+ghost use Rattle.rangemap_formats.specs.Texts.{braced_text};
 
 use rangemap_core::cursor::Cursor;
 use rangemap_core::key_range::KeyRange;
@@ -53,7 +53,7 @@ where
     ghost text = { pair_text Q.kind R.dots R.Key.debug_output V.debug_output };
 
     fn write_pair<W: fmt::Write>(range: &R, value: &V, f: &mut Formatter<W>) -> fmt::Result {
-        write_range::<Q, R, W>(range, f)?;
+        <RangeAlone<Q> as PairText<R, V>>::write_pair::<W>(range, value, f)?;
         f.write_str(": ")?;
         value.fmt(f)
     }
@@ -71,7 +71,9 @@ where
     ghost text = { λ pair. range_text Q.kind R.dots R.Key.debug_output pair.0 };
 
     fn write_pair<W: fmt::Write>(range: &R, _value: &V, f: &mut Formatter<W>) -> fmt::Result {
-        write_range::<Q, R, W>(range, f)
+        range.start().fmt(f)?;
+        f.write_str(R::dots())?;
+        range.end().fmt(f)
     }
 }
 
@@ -142,37 +144,11 @@ impl<T: PairText<R, V>, R: KeyRange, V, W: fmt::Write> Reader<R, V> for Items<T,
         };
         let (range, value) = C::parts(&first);
         T::write_pair(range, value, f)?;
-        write_others::<T, C, W>(rest, f)
+        'pairs: while let Some(pair) = rest.take_first() {
+            f.write_str(", ")?;
+            let (range, value) = C::parts(&pair);
+            T::write_pair(range, value, f)?;
+        }
+        Ok(())
     }
-}
-
-// Each pair, after `, `.
-fn write_others<
-    T: PairText<C::Range, C::Value>,
-    C: Cursor<Given: Drop, GivenValue: Drop>,
-    W: fmt::Write,
->(pairs: C, f: &mut Formatter<W>) -> fmt::Result
-    ensures { DisplaysOnOk W.write_str_gives f.old result (others_text T.text (C.left pairs)) f.new }
-{
-    let mut rest = pairs;
-    'pairs: while let Some(pair) = rest.take_first() {
-        f.write_str(", ")?;
-        let (range, value) = C::parts(&pair);
-        T::write_pair(range, value, f)?;
-    }
-    Ok(())
-}
-
-// Writes the start, the dots and the end.
-fn write_range<Q: Kind<R>, R: KeyRange, W: fmt::Write>(
-    range: &R,
-    f: &mut Formatter<W>,
-) -> fmt::Result
-where
-    R::Key: Debug,
-    ensures { DisplaysOnOk W.write_str_gives f.old result (range_text Q.kind R.dots R.Key.debug_output range.now) f.new }
-{
-    range.start().fmt(f)?;
-    f.write_str(R::dots())?;
-    range.end().fmt(f)
 }

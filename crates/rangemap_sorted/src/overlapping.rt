@@ -187,6 +187,10 @@ fn overlap_start<Q: Kind<R>, R: KeyRange, V: Eq>(pairs: &[(R, V)], query: &R) ->
 }
 
 // The place of the first pair from `start` on that does not start before the query ends.
+//
+// Of the pairs that start no later than the query's end, only the last can start there, and it
+// overlaps only where the end is a point of the query. So where the place is far, a search among the
+// starts and one look find it.
 fn overlap_end<Q: Kind<R>, R: KeyRange, V: Eq>(pairs: &[(R, V)], query: &R, start: usize) -> usize
     requires canonical { IsCanonical Q.kind V.eq pairs.now }
     requires in_bounds { start ≤ length pairs.now }
@@ -196,7 +200,13 @@ fn overlap_end<Q: Kind<R>, R: KeyRange, V: Eq>(pairs: &[(R, V)], query: &R, star
     if CHANGE_SCAN < pairs.len() - start
         && Q::is_before(Endpoint::Start(&pairs[start + CHANGE_SCAN].0), end)
     {
-        return searched_end::<Q, R, V>(pairs, query, start);
+        known_ends::<Q, R>(query);
+        let near = starts_up_to::<Q, R, V>(pairs, query.end());
+        if near == 0 {
+            return start;
+        }
+        let begins = Q::is_before(Endpoint::Start(&pairs[near - 1].0), end);
+        return (near - usize::from(!begins)).max(start);
     }
     let mut at = start;
     'on: while at < pairs.len() {
@@ -206,23 +216,4 @@ fn overlap_end<Q: Kind<R>, R: KeyRange, V: Eq>(pairs: &[(R, V)], query: &R, star
         at += 1;
     }
     at
-}
-
-// The end of an overlap, by a search.
-//
-// Of the pairs that start no later than the query's end, only the last can start there, and it
-// overlaps only where the end is a point of the query. So a search among the starts and one look
-// find the end.
-fn searched_end<Q: Kind<R>, R: KeyRange, V: Eq>(pairs: &[(R, V)], query: &R, start: usize) -> usize
-    requires canonical { IsCanonical Q.kind V.eq pairs.now }
-    requires in_bounds { start ≤ length pairs.now }
-    ensures { IsOverlapEnd (shape_of Q.kind Q.end_place V.eq) pairs.now query.now start result }
-{
-    known_ends::<Q, R>(query);
-    let near = starts_up_to::<Q, R, V>(pairs, query.end());
-    if near == 0 {
-        return start;
-    }
-    let begins = Q::is_before(Endpoint::Start(&pairs[near - 1].0), Endpoint::End(query));
-    (near - usize::from(!begins)).max(start)
 }

@@ -47,7 +47,7 @@ pub fn count_up_to<'a, Q: Kind<R>, R: KeyRange + 'a, V>(
     let places = len.ilog2();
     let whole = 1usize << places;
     let mut base = 0;
-    if is_up_to::<Q, R>(probe.start(len - whole), key) {
+    if !key.cmp(probe.start(len - whole)).is_lt() {
         base = len - whole + 1;
     }
     let mut half = whole;
@@ -59,17 +59,9 @@ pub fn count_up_to<'a, Q: Kind<R>, R: KeyRange + 'a, V>(
             half >>= 1;
         }
         let next = base + half;
-        if is_up_to::<Q, R>(probe.start(next - 1), key) {
+        if !key.cmp(probe.start(next - 1)).is_lt() {
             base = next;
         }
     }
     base
-}
-
-// Whether the start is not after the key.
-#[inline(always)]
-fn is_up_to<Q: Kind<R>, R: KeyRange>(start: &R::Key, key: &R::Key) -> bool
-    ensures { result ≡ is_up_to Q.kind.cmp key.now start.now }
-{
-    !key.cmp(start).is_lt()
 }

@@ -8,11 +8,14 @@ use std::ops::Range;
 
 mod turn;
 
+// How many values the first block has room for, so that a small container asks for memory once.
+const FIRST_ROOM: usize = 12;
+
 /// Puts the values in the place of those at `places`, in order.
 ///
 /// The values that stand behind the stretch are moved at most once, and not at all where as many
 /// come as go. Two things are apart: a vector that gets other memory moves all, and where three or
-/// more values go that take under 16 bytes together, those behind may be moved twice (`turn_down`).
+/// more values go that take under 16 bytes together, those behind may be moved twice (`close_gap`).
 ///
 /// # Requires
 ///
@@ -43,7 +46,14 @@ pub fn splice<T: Drop, A: Allocator>(
     let added = usize::from(left.is_some())
         + usize::from(middle.is_some())
         + usize::from(right.is_some());
-    make_room(list, added.saturating_sub(end - start))?;
+    let more = added.saturating_sub(end - start);
+    // The first block is made larger than these need, and none is made where nothing is added.
+    let room = if 0 < more && list.capacity() == 0 {
+        FIRST_ROOM
+    } else {
+        more
+    };
+    list.reserve(room)?;
     let len = list.len();
     let at = put(list, start, end, left);
     let at = put(list, at, end, middle);
@@ -52,25 +62,6 @@ pub fn splice<T: Drop, A: Allocator>(
     turn_right(&mut list[end..], pushed);
     cut(list, at, end);
     Ok(())
-}
-
-// How many values the first block has room for, so that a small container asks for memory once.
-const FIRST_ROOM: usize = 12;
-
-// Room for up to three more values. The first block is made larger than these need, and none is
-// made where nothing is added.
-fn make_room<T, A: Allocator>(list: &mut Vec<T, A>, more: usize) -> Result<(), AllocError>
-    requires { more ≤ 3 }
-    ensures items { list.new.items ≡ list.old.items }
-    ensures len { vec_len list.new ≡ vec_len list.old }
-    ensures ok { OnOk result (vec_len list.new + more ≤ vec_capacity list.new) }
-    ensures succeeds { vec_len list.old + more ≤ vec_capacity list.old → IsOk result }
-{
-    if 0 < more && list.capacity() == 0 {
-        list.reserve_exact(FIRST_ROOM)
-    } else {
-        list.reserve(more)
-    }
 }
 
 // Puts the value over the one at `at`, or where the stretch ends there, behind all others. Answers
@@ -129,51 +120,30 @@ const TURN_ROOM_BYTES: usize = 4096;
 const TURN_BLOCK: usize = 32;
 
 // Moves the values behind the first `count` to the front, in order, each of them once, but for the
-// smallest, as `turn_down` says.
+// smallest.
+//
+// It is a turn where blocks of `count` follow; what is left then changes places with values that go.
+// Where these take under 16 bytes, std's turn has the others wait instead if they fit its room: two
+// long copies are quicker than one by steps that short.
 fn close_gap<T>(list: &mut [T], count: usize)
     requires some { 0 < count }
     requires in_bounds { count ≤ length list.old }
     ensures kept { take (length list.old - count) list.new ≡ drop count list.old }
     ensures len { length list.new ≡ length list.old }
 {
-    if turns_by_reversals(&list[..count]) {
-        exchange_down(list, count);
-    } else {
-        turn_down(list, count);
+    let bytes = size_of_val(&list[..count]);
+    if 2 < count && count < TURN_BLOCK && TURN_ROOM_BYTES < bytes {
+        // The values that go have no room and are too few for blocks: std's turn would reverse the
+        // list, which moves each value twice. So each one behind is exchanged with one that goes. One
+        // value and two are moved apart from the others by a turn, however large they are.
+        for at in count..list.len() {
+            list.swap(at - count, at);
+        }
+        return;
     }
-}
-
-// Whether std's turn of a slice that begins with these values reverses it, which moves each value
-// twice: they have no room and are too few for blocks. One value and two are moved apart from the
-// others, however large they are.
-fn turns_by_reversals<T>(first: &[T]) -> bool {
-    2 < first.len() && first.len() < TURN_BLOCK && TURN_ROOM_BYTES < size_of_val(first)
-}
-
-// As `close_gap`, by a turn where blocks of `count` follow; what is left then changes places with
-// values that go. Where these take under 16 bytes, std's turn has the others wait instead if they
-// fit its room: two long copies are quicker than one by steps that short.
-fn turn_down<T>(list: &mut [T], count: usize)
-    requires some { 0 < count }
-    requires in_bounds { count ≤ length list.old }
-    ensures kept { take (length list.old - count) list.new ≡ drop count list.old }
-    ensures len { length list.new ≡ length list.old }
-{
     let left = (list.len() - count) % count;
     let turned = list.len() - left;
     let (blocks, last) = list.split_at_mut(turned);
     turn_left(blocks, count);
     blocks[turned - count..turned - count + left].swap_with_slice(last);
-}
-
-// As `close_gap`, value by value, each by one exchange with a value that goes.
-fn exchange_down<T>(list: &mut [T], count: usize)
-    requires some { 0 < count }
-    requires in_bounds { count ≤ length list.old }
-    ensures kept { take (length list.old - count) list.new ≡ drop count list.old }
-    ensures len { length list.new ≡ length list.old }
-{
-    for at in count..list.len() {
-        list.swap(at - count, at);
-    }
 }

@@ -22,6 +22,11 @@ gt_of_le Less h = refl
 gt_of_le Equal h = refl
 gt_of_le Greater h = absurd (true≢false (sym h))
 
+pub not_le_of_gt : (r : Ordering) → is_gt r ≡ true → is_le r ≡ false
+not_le_of_gt Less h = absurd (true≢false (sym h))
+not_le_of_gt Equal h = absurd (true≢false (sym h))
+not_le_of_gt Greater h = refl
+
 above_by : (r : Ordering) → is_le r ≡ false → ordering_reverse r ≡ Less
 above_by Less h = absurd (true≢false h)
 above_by Equal h = absurd (true≢false h)

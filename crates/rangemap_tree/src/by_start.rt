@@ -3,11 +3,10 @@ ghost use Rattle.std.specs.Prelude.{◌≡◌, List, [], length, filter, IfOk};
 ghost use Rattle.std.specs.BTreeMap.Range.{range_contains, IsLeBy, IsLtBy};
 ghost use Rattle.std.specs.Range.Bound.{bound_map, IsForward};
 ghost use Rattle.std.specs.Map.Iter.{TakesLast, deref_pair};
-ghost use Rattle.std.specs.declared.ops.Bound.TheVariants.{Excluded};
+ghost use Rattle.std.specs.declared.ops.Bound.TheVariants.{Excluded, Unbounded};
 ghost use Rattle.rangemap_core.specs.Clones.{KeysCloneFaithfully};
-ghost use Rattle.rangemap_tree.specs.Starts.{AreClones, AreStarts, before, up_to};
+ghost use Rattle.rangemap_tree.specs.Starts.{AreClones, AreStarts};
 
-use crate::ahead::Ahead;
 use crate::into_iter::IntoIter;
 use crate::pairs::Pairs;
 use rangemap_core::cursor::Cursor;
@@ -26,7 +25,7 @@ mod changes;
 #[derive(Drop)]
 pub struct ByStart<K: Ord, V, A: Allocator> {
     tree: Option<BTreeMap<K, (Range<K>, V), A>>,
-    alloc: A,
+    pub(crate) alloc: A,
 }
 
 impl<K: Ord, V, A: Allocator> Model for ByStart<K, V, A> {
@@ -50,11 +49,6 @@ impl<K: Ord, V, A: Allocator> ByStart<K, V, A> {
         ByStart { tree: None, alloc }
     }
 
-    /// Returns a reference to the underlying allocator.
-    pub fn allocator(&self) -> &A {
-        &self.alloc
-    }
-
     /// Returns the number of pairs.
     pub fn len(&self) -> usize
         ensures { result ≡ length self.now }
@@ -66,12 +60,16 @@ impl<K: Ord, V, A: Allocator> ByStart<K, V, A> {
     }
 
     /// Returns the pairs, in order.
-    pub fn iter(&self) -> Ahead<Pairs<'_, K, V>>
+    pub fn iter(&self) -> Pairs<'_, K, V>
         ensures { result ≡ self.now }
     {
-        match &self.tree {
-            Some(tree) => Ahead::over(Pairs::over(Some(tree.range(..)))),
-            None => Ahead::over(Pairs::over(None)),
+        let entries = match &self.tree {
+            Some(tree) => Some(tree.range(..)),
+            None => None,
+        };
+        Pairs {
+            ahead: None,
+            entries,
         }
     }
 
@@ -91,31 +89,24 @@ impl<K: Ord, V, A: Allocator> ByStart<K, V, A> {
         requires { IsForward (IsLeBy K.cmp) (IsLtBy K.cmp) (bound_map (λ x. x.now) from) (Excluded to.now) }
         ensures { result ≡ filter (λ p. range_contains K.cmp (bound_map (λ x. x.now) from.entry) (Excluded to.now) p.0.start) self.now }
     {
-        match &self.tree {
-            Some(tree) => Pairs::over(Some(tree.range((from, Bound::Excluded(to))))),
-            None => Pairs::over(None),
+        let entries = match &self.tree {
+            Some(tree) => Some(tree.range((from, Bound::Excluded(to)))),
+            None => None,
+        };
+        Pairs {
+            ahead: None,
+            entries,
         }
     }
 
-    /// Returns the last pair that starts before `key`, if there is one.
-    pub fn last_before(&self, key: &K) -> Option<(&Range<K>, &V)>
-        ensures { (rest : List _) × TakesLast deref_pair (before K.cmp key.now self.now) result rest }
+    /// Returns the last pair that starts within the bound, if there is one.
+    pub fn last_up_to(&self, to: Bound<&K>) -> Option<(&Range<K>, &V)>
+        ensures { (rest : List _) × TakesLast deref_pair (filter (λ p. range_contains K.cmp Unbounded (bound_map (λ x. x.now) to.entry) p.0.start) self.now) result rest }
     {
         let Some(tree) = &self.tree else {
             return None;
         };
-        let (_, (range, value)) = tree.range(..key).next_back()?;
-        Some((range, value))
-    }
-
-    /// Returns the last pair that starts no later than `key`, if there is one.
-    pub fn last_up_to(&self, key: &K) -> Option<(&Range<K>, &V)>
-        ensures { (rest : List _) × TakesLast deref_pair (up_to K.cmp key.now self.now) result rest }
-    {
-        let Some(tree) = &self.tree else {
-            return None;
-        };
-        let (_, (range, value)) = tree.range(..=key).next_back()?;
+        let (_, (range, value)) = tree.range((Bound::Unbounded, to)).next_back()?;
         Some((range, value))
     }
 }

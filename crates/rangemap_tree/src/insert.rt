@@ -1,15 +1,13 @@
 //! Giving the keys of a range a value, in a tree of pairs.
-ghost use Rattle.std.specs.Prelude.{◌≡◌, true, ◌≤◌, ◌+◌, List, filter, length, IfOk, OnOk, OnErr};
-ghost use Rattle.std.specs.BTreeMap.Range.{range_contains};
+ghost use Rattle.std.specs.Prelude.{◌≡◌, true, ◌≤◌, ◌+◌, List, length, IfOk, OnOk, OnErr};
 ghost use Rattle.std.specs.Map.Iter.{TakesLast, deref_pair};
-ghost use Rattle.std.specs.declared.ops.Bound.TheVariants.{Excluded};
 ghost use Rattle.rangemap_core.specs.Clones.{KeysCloneFaithfully, ValuesCloneFaithfully};
 ghost use Rattle.rangemap_core.specs.Ranges.{IsCanonOf, IsCanonical, IsNewest, half_open, override, value_at};
 ghost use Rattle.rangemap_tree.specs.Sides.{IsLeft, IsRight};
-ghost use Rattle.rangemap_tree.specs.Starts.{AreStarts, before, from, past, up_to};
+ghost use Rattle.rangemap_tree.specs.Starts.{before, up_to};
 
 use crate::by_start::ByStart;
-use crate::pieces::{piece_behind, range_before};
+use crate::pieces::piece_behind;
 use std::alloc::{AllocError, Allocator};
 use std::ops::{Bound, Range};
 
@@ -52,13 +50,21 @@ pub fn insert<K: Ord + Clone, V: Eq + Clone, A: Allocator + Clone>(
     ensures growth { OnOk result (length pairs.new ≤ length pairs.old + 2) }
     ensures growth_where_all_are_equal { OnOk result (((v w : V) → V.eq v w ≡ true) → length pairs.new ≤ length pairs.old + 1) }
 {
-    let near = pairs.last_up_to(&range.end);
+    let near = pairs.last_up_to(Bound::Included(&range.end));
     let left = left_side(pairs, near, &range, &value)?;
     let right = right_side(pairs, near, &range, &value)?;
     let Range { start, end } = range;
     let middle = left.start.unwrap_or(start)..right.end.unwrap_or(end);
     let key = middle.start.clone()?;
-    let starts = starts_within(pairs, near, &middle)?;
+    // Clones of the starts of the pairs that start within `middle`, the new range with what is taken
+    // into it. None behind `near` starts before `middle` ends. So where `near` starts no later than
+    // `middle`, none starts within, and the tree is not searched.
+    let starts = match near {
+        Some((last, _)) if last.start.cmp(&middle.start).is_gt() => {
+            pairs.starts_between(Bound::Excluded(&middle.start), &middle.end)?
+        }
+        _ => Vec::new(pairs.alloc.clone()?),
+    };
     pairs.replace(key, middle, value, left.cut, right.piece, starts.as_slice())
 }
 
@@ -95,10 +101,11 @@ fn left_side<K: Ord + Clone, V: Eq, A: Allocator + Clone>(
         });
     }
     if reach.is_gt() {
-        let rest = range_before(first, range)?;
+        let start = first.start.clone()?;
+        let end = range.start.clone()?;
         return Ok(Left {
             start: None,
-            cut: Some(rest),
+            cut: Some(start..end),
         });
     }
     Ok(neither)
@@ -120,7 +127,7 @@ fn last_before<'a, K: Ord, V: Eq, A: Allocator>(
     if last.start.cmp(&range.start).is_lt() {
         Some((last, last_value))
     } else {
-        pairs.last_before(&range.start)
+        pairs.last_up_to(Bound::Excluded(&range.start))
     }
 }
 
@@ -164,27 +171,4 @@ fn right_side<K: Ord + Clone, V: Eq + Clone, A: Allocator + Clone>(
         });
     }
     Ok(neither)
-}
-
-// Clones of the starts of the pairs that start within `middle`, the new range with what is taken
-// into it. `near` is the last that starts no later than the end of the new range, and none behind
-// it starts before `middle` ends. So where `near` starts no later than `middle`, none starts
-// within, and the tree is not searched.
-fn starts_within<K: Ord + Clone, V: Eq, A: Allocator + Clone>(
-    pairs: &ByStart<K, V, A>,
-    near: Option<(&Range<K>, &V)>,
-    middle: &Range<K>,
-) -> Result<Vec<K, A>, AllocError>
-    requires canonical { IsCanonical (half_open K.cmp) V.eq pairs.now }
-    requires near { (x : K) × ((rest : List _) × TakesLast deref_pair (up_to K.cmp x pairs.now) near rest) × (from K.cmp middle.now.end (past K.cmp x pairs.now) ≡ past K.cmp x pairs.now) }
-    requires range { (half_open K.cmp).IsNonEmpty middle.now }
-    requires faithful_keys { KeysCloneFaithfully K.is_clone K.cmp }
-    ensures { IfOk result (λ starts. AreStarts K.cmp (filter (λ p. range_contains K.cmp (Excluded middle.now.start) (Excluded middle.now.end) p.0.start) pairs.now) starts.items) }
-{
-    match near {
-        Some((last, _)) if last.start.cmp(&middle.start).is_gt() => {
-            pairs.starts_between(Bound::Excluded(&middle.start), &middle.end)
-        }
-        _ => Ok(Vec::new(pairs.allocator().clone()?)),
-    }
 }

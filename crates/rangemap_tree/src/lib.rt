@@ -5,7 +5,6 @@
 //! and `Set` stand on.
 #![tactic(auto)]
 
-pub mod ahead;
 mod by_start;
 mod insert;
 pub mod into_iter;

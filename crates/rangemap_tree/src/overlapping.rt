@@ -24,7 +24,7 @@ pub fn overlapping_pairs<'a, K: Ord, V: Eq, A: Allocator>(
 }
 
 // Where the pairs begin that overlap the query. Of those that start no later than it only the last
-// can reach past its start.
+// can reach past its start; where it doesn't, they start within the query, and not where it starts.
 fn overlap_start<'b, K: Ord, V: Eq, A: Allocator>(
     pairs: &'b ByStart<K, V, A>,
     query: &'b Range<K>,
@@ -33,25 +33,20 @@ fn overlap_start<'b, K: Ord, V: Eq, A: Allocator>(
     ensures forward { IsForward (IsLeBy K.cmp) (IsLtBy K.cmp) (bound_map (λ x. x.now) result) (Excluded query.now.end) }
     ensures overlapped { filter (λ p. range_contains K.cmp (bound_map (λ x. x.now) result) (Excluded query.now.end) p.0.start) pairs.now ≡ overlapped (half_open K.cmp) pairs.now query.now }
 {
-    let Some((range, _)) = pairs.last_up_to(&query.start) else {
-        return behind(query);
-    };
-    if range.end.cmp(&query.start).is_le() {
-        return behind(query);
+    match pairs.last_up_to(Bound::Included(&query.start)) {
+        Some((range, _)) if range.end.cmp(&query.start).is_gt() => {
+            if range.start.cmp(&query.end).is_lt() {
+                Bound::Included(&range.start)
+            } else {
+                Bound::Included(&query.end)
+            }
+        }
+        _ => {
+            if query.start.cmp(&query.end).is_lt() {
+                Bound::Excluded(&query.start)
+            } else {
+                Bound::Included(&query.end)
+            }
+        }
     }
-    if range.start.cmp(&query.end).is_lt() {
-        return Bound::Included(&range.start);
-    }
-    Bound::Included(&query.end)
-}
-
-// Where the pairs begin that start within the query, and not where it starts.
-fn behind<'b, K: Ord>(query: &'b Range<K>) -> Bound<&'b K>
-    ensures forward { IsForward (IsLeBy K.cmp) (IsLtBy K.cmp) (bound_map (λ x. x.now) result) (Excluded query.now.end) }
-    ensures within { (x : K) → range_contains K.cmp (bound_map (λ x. x.now) result) (Excluded query.now.end) x ≡ range_contains K.cmp (Excluded query.now.start) (Excluded query.now.end) x }
-{
-    if query.start.cmp(&query.end).is_lt() {
-        return Bound::Excluded(&query.start);
-    }
-    Bound::Included(&query.end)
 }

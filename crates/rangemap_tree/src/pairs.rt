@@ -1,40 +1,30 @@
 //! The pairs of a tree, one after another.
-ghost use Rattle.std.specs.Prelude.{◌≡◌, [], unwrap_or};
-ghost use Rattle.std.specs.Map.{values_of};
-ghost use Rattle.std.specs.Option.{option_map};
-
-use rangemap_core::cursor::{Cursor, LentCursor};
+use rangemap_core::cursor::{Cursor, LentCursor, Peek};
 use std::collections::btree_map;
 use std::iter::{DoubleEndedIterator, Iterator};
 use std::marker::Model;
 use std::ops::Range;
 
 /// The pairs of a range and a value that are still to come, from both ends: all of a tree, or those
-/// that overlap a range.
+/// that overlap a range. The first is taken ahead once it is looked at.
 #[derive(Drop)]
 pub struct Pairs<'a, K, V> {
-    // Their entries, in a tree if there is one.
-    entries: Option<btree_map::Range<'a, K, (Range<K>, V)>>,
+    // The pair that was taken ahead.
+    pub(crate) ahead: Option<(&'a Range<K>, &'a V)>,
+    // The entries behind it, in a tree if there is one.
+    pub(crate) entries: Option<btree_map::Range<'a, K, (Range<K>, V)>>,
 }
 
 impl<'a, K, V> Model for Pairs<'a, K, V> {
-    ghost use Rattle.std.specs.Prelude.{List, [], unwrap_or};
-    ghost use Rattle.std.specs.Option.{option_map};
+    ghost use Rattle.std.specs.Prelude.{List, [], ◌++◌, unwrap_or};
+    ghost use Rattle.std.specs.Option.{option_map, option_to_list};
     ghost use Rattle.std.specs.Map.{values_of};
+    ghost use Rattle.std.specs.Map.Iter.{deref_pair};
     ghost use Rattle.std.specs.declared.ops.Range.{Range as RangeOf};
 
     ghost Value = { List (RangeOf K × V) };
 
-    ghost view = { λ s. unwrap_or (option_map values_of s.entries) [] };
-}
-
-impl<'a, K, V> Pairs<'a, K, V> {
-    /// Returns the pairs of entries of a tree, if there is one, none of which was taken yet.
-    pub(crate) fn over(entries: Option<btree_map::Range<'a, K, (Range<K>, V)>>) -> Pairs<'a, K, V>
-        ensures { result ≡ unwrap_or (option_map values_of entries.entry) [] }
-    {
-        Pairs { entries }
-    }
+    ghost view = { λ s. option_to_list (option_map deref_pair s.ahead) ++ unwrap_or (option_map values_of s.entries) [] };
 }
 
 impl<'a, K, V> Cursor for Pairs<'a, K, V> {
@@ -55,17 +45,34 @@ impl<'a, K, V> Cursor for Pairs<'a, K, V> {
     ghost given_value = { deref };
 
     fn take_first(&mut self) -> Option<(&'a Range<K>, &'a V)> {
+        if self.ahead.is_some() {
+            return self.ahead.take();
+        }
         let (_, pair) = self.entries.as_mut()?.next()?;
         Some((&pair.0, &pair.1))
     }
 
     fn take_last(&mut self) -> Option<(&'a Range<K>, &'a V)> {
-        let (_, pair) = self.entries.as_mut()?.next_back()?;
-        Some((&pair.0, &pair.1))
+        if let Some(entries) = &mut self.entries {
+            if let Some((_, pair)) = entries.next_back() {
+                return Some((&pair.0, &pair.1));
+            }
+        }
+        self.ahead.take()
     }
 
     fn parts<'b>(pair: &'b (&'a Range<K>, &'a V)) -> (&'b Range<K>, &'b V) {
         (pair.0, pair.1)
+    }
+}
+
+impl<'a, K: Ord + Clone, V> Peek for Pairs<'a, K, V> {
+    fn peek(&mut self) -> Option<(&'a Range<K>, &'a V)> {
+        if self.ahead.is_none() {
+            let (_, pair) = self.entries.as_mut()?.next()?;
+            self.ahead = Some((&pair.0, &pair.1));
+        }
+        self.ahead
     }
 }
 

@@ -4,19 +4,6 @@ ghost use Rattle.std.specs.Prelude.{IfOk};
 use std::alloc::AllocError;
 use std::ops::Range;
 
-/// Returns what the given range leaves of a stored one in front of its own start.
-///
-/// # Errors
-///
-/// A clone was refused.
-pub fn range_before<K: Clone>(first: &Range<K>, range: &Range<K>) -> Result<Range<K>, AllocError>
-    ensures { IfOk result (λ rest. K.is_clone first.now.start rest.start × K.is_clone range.now.start rest.end) }
-{
-    let start = first.start.clone()?;
-    let end = range.start.clone()?;
-    Ok(start..end)
-}
-
 /// Returns what the given range leaves of a stored pair behind its own end, and first a clone of that
 /// end, at which a tree keeps it.
 ///

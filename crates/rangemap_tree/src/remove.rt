@@ -4,7 +4,7 @@ ghost use Rattle.rangemap_core.specs.Clones.{KeysCloneFaithfully, ValuesCloneFai
 ghost use Rattle.rangemap_core.specs.Ranges.{IsCanonOf, IsCanonical, erase, half_open, overlapped, value_at};
 
 use crate::by_start::ByStart;
-use crate::pieces::{piece_behind, range_before};
+use crate::pieces::piece_behind;
 use std::alloc::{AllocError, Allocator};
 use std::ops::{Bound, Range};
 
@@ -27,7 +27,7 @@ pub fn remove<K: Ord + Clone, V: Eq + Clone, A: Allocator + Clone>(
     ensures growth { OnOk result (length pairs.new ≤ length pairs.old + 1) }
     ensures meets_nothing { overlapped (half_open K.cmp) pairs.old range ≡ [] → IsOk result × (pairs.new ≡ pairs.old) }
 {
-    let Some((last, last_value)) = pairs.last_before(&range.end) else {
+    let Some((last, last_value)) = pairs.last_up_to(Bound::Excluded(&range.end)) else {
         return Ok(());
     };
     if last.end.cmp(&range.start).is_le() {
@@ -40,9 +40,9 @@ pub fn remove<K: Ord + Clone, V: Eq + Clone, A: Allocator + Clone>(
         None
     };
     // What is left in front of it, of the last pair that starts before its start.
-    let cut = match pairs.last_before(&range.start) {
+    let cut = match pairs.last_up_to(Bound::Excluded(&range.start)) {
         Some((first, _)) if first.end.cmp(&range.start).is_gt() => {
-            Some(range_before(first, &range)?)
+            Some(first.start.clone()?..range.start.clone()?)
         }
         _ => None,
     };

@@ -1,6 +1,5 @@
 //! The store in a B-tree.
 
-use crate::ahead::Ahead;
 use crate::by_start::ByStart;
 use crate::insert::insert;
 use crate::into_iter::IntoIter;
@@ -14,7 +13,7 @@ use rangemap_core::reader::{Reader, ReaderOfBoth};
 use rangemap_core::store::{HandsOver, Lends, Store, StoreMut};
 use std::alloc::{AllocError, Allocator};
 use std::marker::Model;
-use std::ops::Range;
+use std::ops::{Bound, Range};
 
 /// Pairs of a half-open range and a value in a B-tree, by the starts of the ranges.
 ///
@@ -69,7 +68,7 @@ impl<K: Ord + Clone, V: Eq + Clone, A: Allocator + Clone> Store for Tree<K, V, A
     }
 
     fn allocator(&self) -> &A {
-        self.pairs.allocator()
+        &self.pairs.alloc
     }
 
     fn len(&self) -> usize {
@@ -78,7 +77,7 @@ impl<K: Ord + Clone, V: Eq + Clone, A: Allocator + Clone> Store for Tree<K, V, A
 
     fn covering(&self, key: &K) -> Option<(&Range<K>, &V)> {
         // No other can have the key than the last that starts no later.
-        let (range, value) = self.pairs.last_up_to(key)?;
+        let (range, value) = self.pairs.last_up_to(Bound::Included(key))?;
         if key.cmp(&range.end).is_lt() {
             Some((range, value))
         } else {
@@ -171,11 +170,11 @@ where
 {
     ghost use Rattle.std.specs.Prelude.{refl};
 
-    type Iter = Ahead<Pairs<'a, K, V>>;
+    type Iter = Pairs<'a, K, V>;
 
     type Overlapping = Pairs<'a, K, V>;
 
-    fn iter(&'a self) -> Ahead<Pairs<'a, K, V>> {
+    fn iter(&'a self) -> Pairs<'a, K, V> {
         self.pairs.iter()
     }
 

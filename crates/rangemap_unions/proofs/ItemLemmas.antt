@@ -1,5 +1,5 @@
 -- What the first and the last range of an item say of it.
-use Rattle.std.proofs.Common.{◌≡◌, Bool, true, false, List, ◌∷◌, Option, Some, None, refl, sym, ap, ◌∙◌, true≢false, Less, Equal, is_lt}
+use Rattle.std.proofs.Common.{◌≡◌, Ordering, Bool, true, false, List, ◌∷◌, Option, Some, None, refl, sym, ap, ◌∙◌, true≢false, Less, Equal, is_lt}
 use Rattle.std.specs.Cmp as order
 use Rattle.rangemap_core.specs.MadeRanges.{TakesRange}
 use Rattle.rangemap_core.specs.Ranges.{RangeKind}
@@ -39,3 +39,8 @@ module _ {K X P : Type 0} {k : RangeKind K X} {has_end : Bool} {l : RangePlaces 
       ends = ap (λ x. k.cmp x (k.end range)) (p.between_end a b) ∙ ap (k.cmp (k.end b)) h.2 ∙ ends;
     },
   )
+
+-- ends are compared as keys are
+pub ends_compared : {K X P : Type 0} {k : RangeKind K X} {l : RangePlaces P X} {at cut : K → P} (p : HasPlaces k l at cut) {cmp : K → K → Ordering} (keys : (x y : K) → k.cmp x y ≡ cmp x y)
+    → (r s : X) (x y : K) → x ≡ k.end r → y ≡ k.end s → cmp x y ≡ l.order (l.end_place r) (l.end_place s)
+ends_compared {k = k} p {cmp = cmp} keys r s x y x-is y-is = (λ i. cmp (x-is i) (y-is i)) ∙ sym (keys (k.end r) (k.end s)) ∙ p.ends r s

@@ -9,9 +9,8 @@ ghost use Rattle.rangemap_core.specs.MadeRanges.{GivesNext, TakesRange};
 ghost use Rattle.rangemap_core.specs.Sets.{AreCommon, AreNonEmptyRanges, IsCanonicalSet, ranges};
 ghost use Rattle.rangemap_unions.specs.Items.{earlier_end, intersection_items, later_start, reaches, with_common};
 
-use crate::item::{between, compare_ends, compare_starts, is_reached};
+use crate::item::between;
 use crate::ranges::Ranges;
-use crate::side::take;
 use rangemap_core::cursor::{Cursor, Peek};
 use rangemap_core::key_range::KeyRange;
 use std::alloc::AllocError;
@@ -137,13 +136,13 @@ fn common_part<R: KeyRange>(
     ensures refused { OnErr result ((reaches R.places left.now right.now && reaches R.places right.now left.now) ≡ true) }
     ensures succeeds { KeysCloneInfallibly R.Key.is_infallible → IsOk result }
 {
-    let first = if compare_starts(left, right).is_lt() {
+    let first = if left.start().cmp(right.start()).is_lt() {
         right
     } else {
         left
     };
     let last = if left_ends_first { left } else { right };
-    if is_reached(last, first) {
+    if last.reaches(first.start()) {
         between(first, last)
     } else {
         Ok(None)
@@ -173,12 +172,12 @@ impl<C: Peek> Sides<C> {
             self.right.peek(),
         ) {
             let (left, right) = (C::parts(&left_pair).0, C::parts(&right_pair).0);
-            let ends_first = compare_ends(left, right).is_lt();
+            let ends_first = left.end().cmp(right.end()).is_lt();
             let part = common_part(left, right, ends_first)?;
             if ends_first {
-                let _ = take(&mut self.left);
+                let _ = self.left.take_first();
             } else {
-                let _ = take(&mut self.right);
+                let _ = self.right.take_first();
             }
             if part.is_some() {
                 return Ok(part);

@@ -3,32 +3,9 @@ ghost use Rattle.std.specs.Prelude.{◌≡◌, ◌∷◌, List, IfOk, IsOk};
 ghost use Rattle.std.specs.declared.cmp.Ordering.TheVariants.{Less};
 ghost use Rattle.rangemap_core.specs.Clones.{KeysCloneFaithfully, KeysCloneInfallibly};
 ghost use Rattle.rangemap_core.specs.MadeRanges.{TakesRange};
-ghost use Rattle.rangemap_unions.specs.Items.{reaches};
 
 use rangemap_core::key_range::KeyRange;
 use std::alloc::AllocError;
-use std::cmp::Ordering;
-
-/// Compares the starts of two ranges.
-pub fn compare_starts<R: KeyRange>(left: &R, right: &R) -> Ordering
-    ensures { result ≡ R.places.order (R.places.start_place left.now) (R.places.start_place right.now) }
-{
-    left.start().cmp(right.start())
-}
-
-/// Compares the ends of two ranges.
-pub fn compare_ends<R: KeyRange>(left: &R, right: &R) -> Ordering
-    ensures { result ≡ R.places.order (R.places.end_place left.now) (R.places.end_place right.now) }
-{
-    left.end().cmp(right.end())
-}
-
-/// Returns whether the second range starts before the first one ends, or, of closed ranges, there.
-pub fn is_reached<R: KeyRange>(first: &R, second: &R) -> bool
-    ensures { result ≡ reaches R.places first.now second.now }
-{
-    first.reaches(second.start())
-}
 
 /// Returns the item from the start of the first range up to the end of the last, made of clones: there
 /// is one.

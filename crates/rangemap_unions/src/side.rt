@@ -1,20 +1,12 @@
 //! One side of a union or an intersection: the ranges that an iterator over pairs still has.
 ghost use Rattle.std.specs.Prelude.{◌≡◌, ◌∷◌, MatchOption, true};
-ghost use Rattle.std.specs.Map.Iter.{TakesFirst};
 ghost use Rattle.rangemap_core.specs.Sets.{ranges};
 ghost use Rattle.rangemap_core.specs.Shown.{shown_range};
 ghost use Rattle.rangemap_unions.specs.Items.{reaches};
 ghost use Rattle.rangemap_unions.specs.Merged.{IsUnreached};
 
-use crate::item::is_reached;
 use rangemap_core::cursor::Peek;
-
-/// Takes the first pair.
-pub fn take<C: Peek>(pairs: &mut C) -> Option<(C::Given, C::GivenValue)>
-    ensures { TakesFirst (shown_range C.given) (ranges (C.left pairs.old)) result (ranges (C.left pairs.new)) }
-{
-    pairs.take_first()
-}
+use rangemap_core::key_range::KeyRange;
 
 /// Takes the first pair, if its range starts before `last` ends, or, of closed ranges, there.
 pub fn take_reached<C: Peek>(last: &C::Range, pairs: &mut C) -> Option<(C::Given, C::GivenValue)>
@@ -23,7 +15,7 @@ pub fn take_reached<C: Peek>(last: &C::Range, pairs: &mut C) -> Option<(C::Given
         (λ first. (reaches C.Range.places last.now (shown_range C.given first) ≡ true) × (ranges (C.left pairs.old) ≡ shown_range C.given first ∷ ranges (C.left pairs.new))) }
 {
     match pairs.peek() {
-        Some(first) if is_reached(last, C::parts(&first).0) => take(pairs),
+        Some(first) if last.reaches(C::parts(&first).0.start()) => pairs.take_first(),
         _ => None,
     }
 }

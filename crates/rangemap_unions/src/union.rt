@@ -9,7 +9,7 @@ ghost use Rattle.rangemap_core.specs.Shown.{shown_range};
 ghost use Rattle.rangemap_unions.specs.Items.{items_from, items_of, merged, reaches, union_items};
 ghost use Rattle.rangemap_unions.specs.Merged.{IsUnreached, items_left, left_first};
 
-use crate::item::{between, compare_ends, compare_starts};
+use crate::item::between;
 use crate::ranges::Ranges;
 use crate::side;
 use rangemap_core::cursor::{Cursor, Peek};
@@ -137,7 +137,7 @@ fn is_left_first<C: Peek>(left: &mut C, right: &mut C) -> bool
     ensures same_right { C.left right.new ≡ C.left right.old }
 {
     match (left.peek(), right.peek()) {
-        (Some(p), Some(q)) => compare_starts(C::parts(&p).0, C::parts(&q).0).is_lt(),
+        (Some(p), Some(q)) => C::parts(&p).0.start().cmp(C::parts(&q).0.start()).is_lt(),
         (Some(_), None) => true,
         (None, _) => false,
     }
@@ -189,7 +189,8 @@ fn join<C: Peek>(
         ≡ C.Range.places.between (shown_range C.given first.now) (shown_range C.given (unwrap_or last.new first.now)) ∷ items_of C.Range.places (merged C.Range.places (ranges (C.left left.new)) (ranges (C.left right.new))) }
 {
     'joined: while let Some(next) = take_reached(last_of::<C>(first, last), left, right) {
-        if compare_ends(last_of::<C>(first, last), C::parts(&next).0).is_lt() {
+        let end = C::parts(&next).0.end();
+        if last_of::<C>(first, last).end().cmp(end).is_lt() {
             *last = Some(next);
         }
     }
@@ -219,9 +220,9 @@ impl<C: Peek> Sides<C> {
             return Some((first, self.last.take()));
         }
         if is_left_first(&mut self.left, &mut self.right) {
-            Some((side::take(&mut self.left)?, None))
+            Some((self.left.take_first()?, None))
         } else {
-            Some((side::take(&mut self.right)?, None))
+            Some((self.right.take_first()?, None))
         }
     }
 

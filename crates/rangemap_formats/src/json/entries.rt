@@ -4,8 +4,8 @@ ghost use Rattle.serde_json.specs.declared.value.Value.{Value as Json};
 ghost use Rattle.rangemap_formats.specs.Json.{list_of};
 
 use super::WriteError;
-use super::reading::{ReadsParts, items};
-use super::writing::{WritesParts, list_of_two};
+use super::reading::ReadsParts;
+use super::writing::WritesParts;
 use rangemap_core::key_range::KeyRange;
 use rangemap_core::store::Store;
 use serde_json::Value;
@@ -79,7 +79,7 @@ impl<
 
     fn entry(&self, alloc: Global, range: Value, value: &S::Value) -> Result<Value, WriteError<E>> {
         match (self.write_value)(value) {
-            Ok(part) => Ok(list_of_two(alloc, range, part)?),
+            Ok(part) => Ok(Value::Array(vec![in alloc; range, part]?)),
             Err(fault) => Err(WriteError::Caller(fault)),
         }
     }
@@ -151,7 +151,10 @@ impl<S: Store<Value = ()>, E, WK: Fn(&<S::Range as KeyRange>::Key) -> Result<Val
 fn two_of<'a>(value: &'a Value) -> Option<(&'a Value, &'a Value)>
     ensures { MatchOption result ((first second : Json) → list_of value.now ≡ SomeWord (first ∷ second ∷ []) → ⊥) (λ parts. list_of value.now ≡ SomeWord (parts.0.now ∷ parts.1.now ∷ [])) }
 {
-    match items(value)? {
+    let Value::Array(items) = value else {
+        return None;
+    };
+    match items.as_slice() {
         [first, second] => Some((first, second)),
         _ => None,
     }

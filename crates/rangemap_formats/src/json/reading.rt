@@ -1,8 +1,8 @@
 //! Reading a store from the value of its JSON form.
-ghost use Rattle.std.specs.Prelude.{◌≡◌, IfErr, IfOk, MatchOption, OnOk, option_map};
+ghost use Rattle.std.specs.Prelude.{◌≡◌, IfErr, IfOk, MatchOption, OnOk};
 ghost use Rattle.serde_json.specs.declared.value.Value.{Value as Json};
 ghost use Rattle.rangemap_core.specs.Clones.{KeysCloneFaithfully, ValuesCloneFaithfully};
-ghost use Rattle.rangemap_formats.specs.Json.{Breaks, EndsWith, Follows, IsEntryFault, IsRead, IsReading, IsRefusedForMemoryAlone, IsUnambiguous, Reader, RefusesToRead, list_of};
+ghost use Rattle.rangemap_formats.specs.Json.{Breaks, EndsWith, Follows, IsEntryFault, IsRead, IsReading, IsRefusedForMemoryAlone, IsUnambiguous, Reader, RefusesToRead};
 ghost use Rattle.rangemap_core.specs.Ranges.{IsStorable};
 ghost use Rattle.rangemap_formats.specs.declared.json.Form.TheVariants.{Canonical as CanonicalWord};
 
@@ -59,7 +59,7 @@ pub fn read<S: StoreMut + Drop, E, R: ReadsParts<S, E>>(
     ensures err { IfErr result (RefusesToRead S.Kind.kind (R.reader reader.now) S.Value.eq form value.now) }
     ensures exact { IfErr result (IsRefusedForMemoryAlone S.Kind.kind (R.reader reader.now) S.Value.eq form value.now) }
 {
-    let Some(entries) = items(value) else {
+    let Value::Array(entries) = value else {
         return Err(ReadError::NotAList);
     };
     let mut all = S::empty(alloc);
@@ -131,15 +131,5 @@ fn check_form<S: Store, E>(
         Touch::Touching if *last_value != *value => Ok(()),
         Touch::Touching => Err(ReadError::Uncoalesced { at }),
         Touch::NotBefore => Err(ReadError::OutOfOrder { at }),
-    }
-}
-
-/// Returns the items of a value that is a list.
-pub(crate) fn items(value: &Value) -> Option<&[Value]>
-    ensures { option_map (λ items. items.now) result ≡ list_of value.now }
-{
-    match value {
-        Value::Array(items) => Some(items.as_slice()),
-        _ => None,
     }
 }

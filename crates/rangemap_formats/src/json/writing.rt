@@ -1,8 +1,7 @@
 //! Writing the pairs of a store as the value of its JSON form.
 ghost use Rattle.std.specs.Prelude.{◌≡◌, ◌∷◌, [], Err as ErrWord, IfErr, IfOk, Ok as OkWord, Some as SomeWord};
 ghost use Rattle.serde_json.specs.declared.value.Value.{Value as Json};
-ghost use Rattle.rangemap_core.specs.Shown.{shown};
-ghost use Rattle.rangemap_formats.specs.Json.{CallerOr, IsForm, IsRefusedIn, IsWritten, RefusesToWrite, Writer, list_of};
+ghost use Rattle.rangemap_formats.specs.Json.{CallerOr, IsForm, RefusesToWrite, Writer, list_of};
 
 use super::WriteError;
 use rangemap_core::cursor::Cursor;
@@ -10,7 +9,7 @@ use rangemap_core::key_range::KeyRange;
 use rangemap_core::reader::Reader;
 use rangemap_core::store::Store;
 use serde_json::Value;
-use std::alloc::{AllocError, Global};
+use std::alloc::Global;
 use std::marker::PhantomData;
 
 /// What writes the parts of an entry of a store, with faults of type `E`.
@@ -72,42 +71,23 @@ impl<S: Store, E, W: WritesParts<S, E>> Reader<S::Range, S::Value> for Entries<S
         pairs: C,
         state: &mut (Global, W),
     ) -> Result<Value, WriteError<E>> {
-        let mut entries = Vec::new(state.0);
+        let (alloc, writer) = (state.0, &state.1);
+        let mut entries = Vec::new(alloc);
         let mut rest = pairs;
         'pairs: while let Some(pair) = rest.take_first() {
-            let entry = write_entry::<S, C, E, W>(state.0, &pair, &state.1)?;
+            let (range, value) = C::parts(&pair);
+            let start = match writer.key(range.start()) {
+                Ok(part) => part,
+                Err(fault) => return Err(WriteError::Caller(fault)),
+            };
+            let end = match writer.key(range.end()) {
+                Ok(part) => part,
+                Err(fault) => return Err(WriteError::Caller(fault)),
+            };
+            let range = Value::Array(vec![in alloc; start, end]?);
+            let entry = writer.entry(alloc, range, value)?;
             entries.push(entry)?;
         }
         Ok(Value::Array(entries))
     }
-}
-
-// The entry of the pair.
-fn write_entry<S: Store, C: Cursor<Range = S::Range, Value = S::Value>, E, W: WritesParts<S, E>>(
-    alloc: Global,
-    pair: &(C::Given, C::GivenValue),
-    writer: &W,
-) -> Result<Value, WriteError<E>>
-    requires { W.is_ready writer.now }
-    ensures ok { IfOk result (IsWritten S.Kind.kind (W.writer writer.now) (shown C.given C.given_value pair.now)) }
-    ensures err { IfErr result (CallerOr (IsRefusedIn S.Kind.kind (W.writer writer.now) (shown C.given C.given_value pair.now))) }
-{
-    let (range, value) = C::parts(pair);
-    let start = match writer.key(range.start()) {
-        Ok(part) => part,
-        Err(fault) => return Err(WriteError::Caller(fault)),
-    };
-    let end = match writer.key(range.end()) {
-        Ok(part) => part,
-        Err(fault) => return Err(WriteError::Caller(fault)),
-    };
-    let range = list_of_two(alloc, start, end)?;
-    writer.entry(alloc, range, value)
-}
-
-/// Returns the list of two.
-pub(crate) fn list_of_two(alloc: Global, first: Value, second: Value) -> Result<Value, AllocError>
-    ensures { IfOk result (λ list. list_of list ≡ SomeWord (first ∷ second ∷ [])) }
-{
-    Ok(Value::Array(vec![in alloc; first, second]?))
 }

@@ -94,33 +94,6 @@ impl<K: Ord + Drop, V: Drop, A: Allocator + Clone> ByStart<K, V, A> {
         }
     }
 
-    // Puts the piece in, if there is one, and the pair, or neither. No pair starts where the range
-    // ends, and the piece does.
-    fn put_both(
-        &mut self,
-        key: K,
-        range: Range<K>,
-        value: V,
-        piece: Option<(K, (Range<K>, V))>,
-    ) -> Result<(), AllocError>
-        requires key { K.cmp key range.start ≡ Equal }
-        requires piece { IsNewAt K.cmp range.end piece self.old }
-        ensures ok { OnOk result (self.new ≡ before K.cmp key (with_piece K.cmp piece self.old) ++ (range, value) ∷ past K.cmp key (with_piece K.cmp piece self.old)) }
-        ensures err { OnErr result (self.new ≡ self.old) }
-    {
-        let has_piece = piece.is_some();
-        self.put_piece(piece)?;
-        match self.put(key, range, value) {
-            Ok(_) => Ok(()),
-            Err(range) => {
-                if has_piece {
-                    self.take(&range.end);
-                }
-                Err(AllocError)
-            }
-        }
-    }
-
     /// Puts a pair in the place of those that start within its range, with what is left of the pair
     /// before it, if that is cut, and what is left of the last of them, if that is. `key` is a
     /// clone of where it starts, and `starts` are those of the pairs that go.
@@ -145,7 +118,15 @@ impl<K: Ord + Drop, V: Drop, A: Allocator + Clone> ByStart<K, V, A> {
         ensures ok { OnOk result (self.new ≡ recut cut (before K.cmp range.start self.old) ++ (range, value) ∷ (piece_list piece ++ from K.cmp range.end self.old)) }
         ensures err { OnErr result (self.new ≡ self.old) }
     {
-        self.put_both(key, range, value, piece)?;
+        let has_piece = piece.is_some();
+        self.put_piece(piece)?;
+        if let Err(range) = self.put(key, range, value) {
+            // No pair started where the range ends, and the piece does.
+            if has_piece {
+                self.take(&range.end);
+            }
+            return Err(AllocError);
+        }
         self.take_all(starts);
         self.recut(cut);
         Ok(())

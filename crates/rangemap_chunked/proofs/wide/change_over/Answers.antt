@@ -1,7 +1,7 @@
-use Rattle.std.proofs.Common.{arith, ◌≡◌, ◌∙◌, ◌+◌, ◌-◌, ◌<◌, ◌++◌, [], List, Less, Some, add-one, ap, drop, false, get_or, is_gt, length, refl, subst, suc, sym, take, true≢false}
+use Rattle.std.proofs.Common.{arith, rules, ◌≡◌, ◌∙◌, ◌+◌, ◌-◌, ◌<◌, ◌++◌, [], Err, List, Less, Ok, OnErr, Result, Some, add-one, ap, drop, false, get_or, is_gt, length, refl, subst, suc, sym, take, true≢false}
 use Rattle.std.specs.Option.{IfSome}
 use Rattle.std.proofs.Math.ListN.{set}
-use Rattle.std.proofs.lemmas.List.{get_or_default}
+use Rattle.std.proofs.lemmas.List.{get_or-set_same, get_or_default}
 use Rattle.rangemap_core.specs.Ranges.{IsCanonical, IsStorable, overlapped, value_at}
 use Rattle.rangemap_core.specs.engine.Places.{place_cmp}
 use Rattle.rangemap_core.proofs.PlaceLemmas.{S}
@@ -10,9 +10,25 @@ use Rattle.rangemap_sorted.specs.Changes.{IsChanged}
 use Rattle.rangemap_chunked.specs.Chunks.{AreFilled, AreFilledBut, IsClearBehind, IsLastTouched, IsPastBehind, whole}
 use Rattle.rangemap_chunked.proofs.ChunkLemmas.{Every-further}
 use Rattle.rangemap_chunked.proofs.CutLemmas.{canonical_chunk}
-use Rattle.rangemap_chunked.proofs.OverLemmas.{all_filled, changed_behind, changed_whole, count_less, count_more, kept_front, over_canonical, over_changed, set_length, still_filled, sums}
+use Rattle.rangemap_chunked.proofs.HalvesLemmas.{first_at, halves_changed, halves_kept, last_at}
+use Rattle.rangemap_chunked.proofs.OverLemmas.{IsCut, all_filled, changed_behind, changed_whole, count_less, count_more, cut_through, cut_up_to, kept_front, over_canonical, over_changed, set_length, still_filled, sums}
 use Rattle.rangemap_chunked.proofs.StoreLemmas.{Every-drop_n, Every-set, Every-take_n, changed_fills, changed_length, chunk_changed, chunk_length, drop_set, if_some_weaker, set_same, take_set}
 use Rattle.rangemap_chunked.proofs.wide.change_over.Goals as goal
+use Rattle.rangemap_chunked.proofs.wide.change_over.Goals.{then-len-eq0, else-len-eq0}
+
+-- what holds in any case holds at an error
+on_err_where : {X E P : Type 0} (r : Result X E) → P → OnErr r P
+on_err_where (Ok x) p = tt
+on_err_where (Err e) p = p
+
+pub offset_bounds-front-at : goal.offset_bounds-front-at
+offset_bounds-front-at g c =
+    let last = c.args.end - 1 in
+    let order : c.args.at < last = omega (arith, c.if-end-at.false) in
+    let l : last < length c.args.chunks.now.items = omega (arith, c.if-end-at.false, c.requires.end) in
+    let same : length c.deref_mut.result.now ≡ length c.args.chunks.now.items = ap length c.deref_mut.ensures.value in
+    let bound : c.args.at < length c.split_at_mut-front.result.0.now = omega (arith, c.split_at_mut-front.ensures.front_len, same, order, l) in
+    search (rules, bound)
 
 pub last_touched-place-requires-clause-filled : goal.last_touched-place-requires-clause-filled
 last_touched-place-requires-clause-filled g c =
@@ -64,8 +80,23 @@ overflow_add-before-2 g c =
     let less = count_less xs at last order l place found.in_bounds c.count.result n_is in
     omega (arith, less, c.requires.fits)
 
-pub change_between-requires-clause-canonical : goal.change_between-requires-clause-canonical
-change_between-requires-clause-canonical g c =
+pub change_with-requires-clause-in_bounds : goal.change_with-requires-clause-in_bounds
+change_with-requires-clause-in_bounds g c =
+    let xs = c.args.chunks.now.items in
+    let at = c.args.at in
+    let last = c.args.end - 1 in
+    let place = c.last_touched-place.result in
+    let order : at < last = omega (arith, c.if-end-at.false) in
+    let l : last < length xs = omega (arith, c.if-end-at.false, c.requires.end) in
+    let found : IsLastTouched (S g.met.Q.Kind.placed g.V.PartialEq.eq) c.args.range (get_or xs last []) place = subst (λ (ys : List (g.row.R.Denot × g.row.V.Denot)). IsLastTouched (S g.met.Q.Kind.placed g.V.PartialEq.eq) c.args.range ys place) (c.index.ensures ∙ get_or_default xs last c.index.result.now [] l) c.last_touched-place.ensures in
+    let front = c.split_at_mut-front.result.0.now in
+    let back = c.split_at_mut-front.result.1.now in
+    let front_is = c.split_at_mut-front.ensures.front ∙ ap (take last) c.deref_mut.ensures.value in
+    let back_is = c.split_at_mut-front.ensures.back ∙ ap (drop last) c.deref_mut.ensures.value in
+    subst (λ (ys : List (g.row.R.Denot × g.row.V.Denot)). place < length ys) (sym (last_at xs at last order l front back front_is back_is c.index-back-0.result [])) found.in_bounds
+
+pub change_with-requires-clause-canonical : goal.change_with-requires-clause-canonical
+change_with-requires-clause-canonical g c =
     let xs = c.args.chunks.now.items in
     let at = c.args.at in
     let last = c.args.end - 1 in
@@ -74,36 +105,48 @@ change_between-requires-clause-canonical g c =
     let l : last < length xs = omega (arith, c.if-end-at.false, c.requires.end) in
     let found : IsLastTouched (S g.met.Q.Kind.placed g.V.PartialEq.eq) c.args.range (get_or xs last []) place = subst (λ (ys : List (g.row.R.Denot × g.row.V.Denot)). IsLastTouched (S g.met.Q.Kind.placed g.V.PartialEq.eq) c.args.range ys place) (c.index.ensures ∙ get_or_default xs last c.index.result.now [] l) c.last_touched-place.ensures in
     let stored : IsStorable g.Q.Kind.kind c.args.range = record { start_is_key = c.known_ends.ensures.start_is_key; end_is_key = c.known_ends.ensures.end_is_key; non_empty = c.requires.non_empty } in
-    over_canonical g.met.Q.Kind.placed g.met.V.Eq.laws xs c.requires.chunked c.args.range stored at last order l place found c.requires.past
+    let front = c.split_at_mut-front.result.0.now in
+    let back = c.split_at_mut-front.result.1.now in
+    let front_is = c.split_at_mut-front.ensures.front ∙ ap (take last) c.deref_mut.ensures.value in
+    let back_is = c.split_at_mut-front.ensures.back ∙ ap (drop last) c.deref_mut.ensures.value in
+    let here = first_at xs at last order l front back front_is back_is c.index-front-at.result [] in
+    let there = last_at xs at last order l front back front_is back_is c.index-back-0.result [] in
+    let both : get_or front at c.index-front-at.result ++ take 1 (drop place (get_or back 0 c.index-back-0.result)) ≡ get_or xs at [] ++ take 1 (drop place (get_or xs last [])) = λ i. here i ++ take 1 (drop place (there i)) in
+    subst (IsCanonical g.Q.Kind.kind g.V.PartialEq.eq) (sym both)
+    (over_canonical g.met.Q.Kind.placed g.met.V.Eq.laws xs c.requires.chunked c.args.range stored at last order l place found c.requires.past)
 
-pub shrink_at-requires : goal.shrink_at-requires
-shrink_at-requires g c =
+pub returns-clause-in_bounds : goal.returns-clause-in_bounds
+returns-clause-in_bounds g c =
     let xs = c.args.chunks.now.items in
     let at = c.args.at in
     let last = c.args.end - 1 in
     let place = c.last_touched-place.result in
     let order : at < last = omega (arith, c.if-end-at.false) in
     let l : last < length xs = omega (arith, c.if-end-at.false, c.requires.end) in
-    let found : IsLastTouched (S g.met.Q.Kind.placed g.V.PartialEq.eq) c.args.range (get_or xs last []) place = subst (λ (ys : List (g.row.R.Denot × g.row.V.Denot)). IsLastTouched (S g.met.Q.Kind.placed g.V.PartialEq.eq) c.args.range ys place) (c.index.ensures ∙ get_or_default xs last c.index.result.now [] l) c.last_touched-place.ensures in
-    let new = get_or c.change_between.new.chunks.items at [] in
+    let front = c.split_at_mut-front.result.0.now in
+    let back = c.split_at_mut-front.result.1.now in
+    let front_is = c.split_at_mut-front.ensures.front ∙ ap (take last) c.deref_mut.ensures.value in
+    let back_is = c.split_at_mut-front.ensures.back ∙ ap (drop last) c.deref_mut.ensures.value in
+    let all_is = sym (sym (ap length c.deref_mut.ensures.value) ∙ c.deref_mut.ensures.len) in
+    let new = c.change_with.new.self in
+    let left = c.give_room_back.new.self in
     let rest = drop (place + 1) (get_or xs last []) in
-    let long = ap length c.in_ok-change_between.ensures.items ∙ set_length (set xs at new) last rest ∙ set_length xs at new in
-    omega (arith, long, l)
-
-pub drop_between-requires-clause-in_bounds : goal.drop_between-requires-clause-in_bounds
-drop_between-requires-clause-in_bounds g c =
-    let xs = c.args.chunks.now.items in
-    let at = c.args.at in
-    let last = c.args.end - 1 in
-    let place = c.last_touched-place.result in
-    let order : at < last = omega (arith, c.if-end-at.false) in
-    let l : last < length xs = omega (arith, c.if-end-at.false, c.requires.end) in
-    let found : IsLastTouched (S g.met.Q.Kind.placed g.V.PartialEq.eq) c.args.range (get_or xs last []) place = subst (λ (ys : List (g.row.R.Denot × g.row.V.Denot)). IsLastTouched (S g.met.Q.Kind.placed g.V.PartialEq.eq) c.args.range ys place) (c.index.ensures ∙ get_or_default xs last c.index.result.now [] l) c.last_touched-place.ensures in
-    let new = get_or c.change_between.new.chunks.items at [] in
-    let rest = drop (place + 1) (get_or xs last []) in
-    let items_is = c.shrink_at.ensures ∙ c.in_ok-change_between.ensures.items in
-    let long = ap length items_is ∙ set_length (set xs at new) last rest ∙ set_length xs at new in
-    omega (arith, long, l)
+    let left_is = c.give_room_back.ensures ∙ c.in_ok-change_with.ensures.rest ∙ ap (drop (place + 1)) (last_at xs at last order l front back front_is back_is c.index-back-0.result []) in
+    let items_is =
+    halves_changed xs at last order l front back front_is back_is (drop (length (set front at new ++ set back 0 left)) xs) c.args.chunks.now.len all_is new left
+    ∙ ap (λ (ys : List (g.row.R.Denot × g.row.V.Denot)). set (set xs at new) last ys) left_is in
+    let items = take c.args.chunks.now.len (set front at new ++ set back 0 left ++ drop (length (set front at new ++ set back 0 left)) xs) in
+    let long : length items ≡ length xs = ap length items_is ∙ set_length (set xs at new) last rest ∙ set_length xs at new in
+    let now : get_or items last [] ≡ left = ap (λ (ps : List (List (g.row.R.Denot × g.row.V.Denot))). get_or ps last []) items_is ∙ get_or-set_same (set xs at new) last rest [] (subst (λ n. last < n) (sym (set_length xs at new)) l) ∙ sym left_is in
+    let cut : IsCut items c.cut.new.list.items (at + 1) last = elim c.if-len-eq0.branch [
+      | then-len-eq0 w ↦
+          let none : length left ≡ 0 = grind (arith, c.len-2.ensures, w.if-len-eq0.true) in
+          cut_through items c.cut.new.list.items (at + 1) last (omega (arith, order)) (omega (arith, long, l)) (ap length now ∙ none) (c.cut.ensures ∙ ap (λ n. take (at + 1) items ++ drop n items) w.gone-is)
+      | else-len-eq0 w ↦
+          let some : 0 < length (get_or items last []) = let same = ap length now in grind (arith, c.len-2.ensures, same, w.if-len-eq0.false) in
+          cut_up_to items c.cut.new.list.items (at + 1) last (omega (arith, order)) (omega (arith, long, l)) some (c.cut.ensures ∙ ap (λ n. take (at + 1) items ++ drop n items) w.gone-is)
+    ] in
+    omega (arith, cut.longer)
 
 pub returns-clause-ok : goal.returns-clause-ok
 returns-clause-ok g c =
@@ -115,15 +158,39 @@ returns-clause-ok g c =
     let l : last < length xs = omega (arith, c.if-end-at.false, c.requires.end) in
     let found : IsLastTouched (S g.met.Q.Kind.placed g.V.PartialEq.eq) c.args.range (get_or xs last []) place = subst (λ (ys : List (g.row.R.Denot × g.row.V.Denot)). IsLastTouched (S g.met.Q.Kind.placed g.V.PartialEq.eq) c.args.range ys place) (c.index.ensures ∙ get_or_default xs last c.index.result.now [] l) c.last_touched-place.ensures in
     let stored : IsStorable g.Q.Kind.kind c.args.range = record { start_is_key = c.known_ends.ensures.start_is_key; end_is_key = c.known_ends.ensures.end_is_key; non_empty = c.requires.non_empty } in
-    let next : c.args.end ≡ suc last = omega (arith, c.if-end-at.false) in
-    let new = get_or c.change_between.new.chunks.items at [] in
+    let front = c.split_at_mut-front.result.0.now in
+    let back = c.split_at_mut-front.result.1.now in
+    let front_is = c.split_at_mut-front.ensures.front ∙ ap (take last) c.deref_mut.ensures.value in
+    let back_is = c.split_at_mut-front.ensures.back ∙ ap (drop last) c.deref_mut.ensures.value in
+    let here = first_at xs at last order l front back front_is back_is c.index-front-at.result [] in
+    let there = last_at xs at last order l front back front_is back_is c.index-back-0.result [] in
+    let both : get_or front at c.index-front-at.result ++ take 1 (drop place (get_or back 0 c.index-back-0.result)) ≡ get_or xs at [] ++ take 1 (drop place (get_or xs last [])) = λ i. here i ++ take 1 (drop place (there i)) in
+    let all_is = sym (sym (ap length c.deref_mut.ensures.value) ∙ c.deref_mut.ensures.len) in
+    let new = c.change_with.new.self in
+    let left = c.give_room_back.new.self in
     let rest = drop (place + 1) (get_or xs last []) in
-    let items_is = c.shrink_at.ensures ∙ c.in_ok-change_between.ensures.items in
-    let whole_is = c.drop_between.ensures.whole ∙ (λ i. whole (take (at + 1) (items_is i)) ++ whole (drop last (items_is i))) ∙ changed_whole xs at last order l new rest in
+    let left_is = c.give_room_back.ensures ∙ c.in_ok-change_with.ensures.rest ∙ ap (drop (place + 1)) (last_at xs at last order l front back front_is back_is c.index-back-0.result []) in
+    let items_is =
+    halves_changed xs at last order l front back front_is back_is (drop (length (set front at new ++ set back 0 left)) xs) c.args.chunks.now.len all_is new left
+    ∙ ap (λ (ys : List (g.row.R.Denot × g.row.V.Denot)). set (set xs at new) last ys) left_is in
     let k = g.Q.Kind.kind in
     let eq = g.V.PartialEq.eq in
+    let made : IsChanged k eq (value_at k (get_or xs at [] ++ take 1 (drop place (get_or xs last [])))) c.args.range c.args.value new = subst (λ (ys : List (g.row.R.Denot × g.row.V.Denot)). IsChanged k eq (value_at k ys) c.args.range c.args.value new) both c.in_ok-change_with.ensures.ok in
+    let items = take c.args.chunks.now.len (set front at new ++ set back 0 left ++ drop (length (set front at new ++ set back 0 left)) xs) in
+    let long : length items ≡ length xs = ap length items_is ∙ set_length (set xs at new) last rest ∙ set_length xs at new in
+    let now : get_or items last [] ≡ left = ap (λ (ps : List (List (g.row.R.Denot × g.row.V.Denot))). get_or ps last []) items_is ∙ get_or-set_same (set xs at new) last rest [] (subst (λ n. last < n) (sym (set_length xs at new)) l) ∙ sym left_is in
+    let cut : IsCut items c.cut.new.list.items (at + 1) last = elim c.if-len-eq0.branch [
+      | then-len-eq0 w ↦
+          let none : length left ≡ 0 = grind (arith, c.len-2.ensures, w.if-len-eq0.true) in
+          cut_through items c.cut.new.list.items (at + 1) last (omega (arith, order)) (omega (arith, long, l)) (ap length now ∙ none) (c.cut.ensures ∙ ap (λ n. take (at + 1) items ++ drop n items) w.gone-is)
+      | else-len-eq0 w ↦
+          let some : 0 < length (get_or items last []) = let same = ap length now in grind (arith, c.len-2.ensures, same, w.if-len-eq0.false) in
+          cut_up_to items c.cut.new.list.items (at + 1) last (omega (arith, order)) (omega (arith, long, l)) some (c.cut.ensures ∙ ap (λ n. take (at + 1) items ++ drop n items) w.gone-is)
+    ] in
+    let whole_is = cut.whole_is ∙ (λ i. whole (take (at + 1) (items_is i)) ++ whole (drop last (items_is i))) ∙ changed_whole xs at last order l new rest in
+    let next : c.args.end ≡ suc last = omega (arith, c.if-end-at.false) in
     subst (λ (ys : List (g.row.R.Denot × g.row.V.Denot)). IsChanged k eq (value_at k (whole xs)) c.args.range c.args.value ys) (sym whole_is)
-    (over_changed g.met.Q.Kind.placed g.met.V.Eq.laws xs c.requires.chunked c.args.range stored at last order l place found c.requires.past c.requires.before new c.args.value c.in_ok-change_between.ensures.ok
+    (over_changed g.met.Q.Kind.placed g.met.V.Eq.laws xs c.requires.chunked c.args.range stored at last order l place found c.requires.past c.requires.before new c.args.value made
     (subst (λ n. IsPastBehind (S g.met.Q.Kind.placed eq) xs c.args.range n) next c.requires.behind)
     (subst (λ n. IfSome c.args.value (λ _. IsClearBehind (S g.met.Q.Kind.placed eq) xs c.args.range n)) next c.requires.clear))
 
@@ -137,15 +204,41 @@ returns-clause-filled g c =
     let l : last < length xs = omega (arith, c.if-end-at.false, c.requires.end) in
     let found : IsLastTouched (S g.met.Q.Kind.placed g.V.PartialEq.eq) c.args.range (get_or xs last []) place = subst (λ (ys : List (g.row.R.Denot × g.row.V.Denot)). IsLastTouched (S g.met.Q.Kind.placed g.V.PartialEq.eq) c.args.range ys place) (c.index.ensures ∙ get_or_default xs last c.index.result.now [] l) c.last_touched-place.ensures in
     let stored : IsStorable g.Q.Kind.kind c.args.range = record { start_is_key = c.known_ends.ensures.start_is_key; end_is_key = c.known_ends.ensures.end_is_key; non_empty = c.requires.non_empty } in
-    let new = get_or c.change_between.new.chunks.items at [] in
+    let front = c.split_at_mut-front.result.0.now in
+    let back = c.split_at_mut-front.result.1.now in
+    let front_is = c.split_at_mut-front.ensures.front ∙ ap (take last) c.deref_mut.ensures.value in
+    let back_is = c.split_at_mut-front.ensures.back ∙ ap (drop last) c.deref_mut.ensures.value in
+    let here = first_at xs at last order l front back front_is back_is c.index-front-at.result [] in
+    let there = last_at xs at last order l front back front_is back_is c.index-back-0.result [] in
+    let both : get_or front at c.index-front-at.result ++ take 1 (drop place (get_or back 0 c.index-back-0.result)) ≡ get_or xs at [] ++ take 1 (drop place (get_or xs last [])) = λ i. here i ++ take 1 (drop place (there i)) in
+    let all_is = sym (sym (ap length c.deref_mut.ensures.value) ∙ c.deref_mut.ensures.len) in
+    let new = c.change_with.new.self in
+    let left = c.give_room_back.new.self in
     let rest = drop (place + 1) (get_or xs last []) in
-    let items_is = c.shrink_at.ensures ∙ c.in_ok-change_between.ensures.items in
-    let behind = c.drop_between.ensures.filled (subst AreFilled (sym (ap (drop (last + 1)) items_is ∙ changed_behind xs at last order l new rest)) (Every-drop_n _ (suc last) xs c.requires.chunked.filled)) in
-    let front_is = c.drop_between.ensures.before ∙ ap (take (at + 1)) items_is in
-    let fills = changed_fills g.met.Q.Kind.placed g.met.V.Eq.laws (value_at g.Q.Kind.kind (get_or xs at [] ++ take 1 (drop place (get_or xs last [])))) c.args.range c.args.value new stored c.in_ok-change_between.ensures.ok in
+    let left_is = c.give_room_back.ensures ∙ c.in_ok-change_with.ensures.rest ∙ ap (drop (place + 1)) (last_at xs at last order l front back front_is back_is c.index-back-0.result []) in
+    let items_is =
+    halves_changed xs at last order l front back front_is back_is (drop (length (set front at new ++ set back 0 left)) xs) c.args.chunks.now.len all_is new left
+    ∙ ap (λ (ys : List (g.row.R.Denot × g.row.V.Denot)). set (set xs at new) last ys) left_is in
+    let k = g.Q.Kind.kind in
+    let eq = g.V.PartialEq.eq in
+    let made : IsChanged k eq (value_at k (get_or xs at [] ++ take 1 (drop place (get_or xs last [])))) c.args.range c.args.value new = subst (λ (ys : List (g.row.R.Denot × g.row.V.Denot)). IsChanged k eq (value_at k ys) c.args.range c.args.value new) both c.in_ok-change_with.ensures.ok in
+    let items = take c.args.chunks.now.len (set front at new ++ set back 0 left ++ drop (length (set front at new ++ set back 0 left)) xs) in
+    let long : length items ≡ length xs = ap length items_is ∙ set_length (set xs at new) last rest ∙ set_length xs at new in
+    let now : get_or items last [] ≡ left = ap (λ (ps : List (List (g.row.R.Denot × g.row.V.Denot))). get_or ps last []) items_is ∙ get_or-set_same (set xs at new) last rest [] (subst (λ n. last < n) (sym (set_length xs at new)) l) ∙ sym left_is in
+    let cut : IsCut items c.cut.new.list.items (at + 1) last = elim c.if-len-eq0.branch [
+      | then-len-eq0 w ↦
+          let none : length left ≡ 0 = grind (arith, c.len-2.ensures, w.if-len-eq0.true) in
+          cut_through items c.cut.new.list.items (at + 1) last (omega (arith, order)) (omega (arith, long, l)) (ap length now ∙ none) (c.cut.ensures ∙ ap (λ n. take (at + 1) items ++ drop n items) w.gone-is)
+      | else-len-eq0 w ↦
+          let some : 0 < length (get_or items last []) = let same = ap length now in grind (arith, c.len-2.ensures, same, w.if-len-eq0.false) in
+          cut_up_to items c.cut.new.list.items (at + 1) last (omega (arith, order)) (omega (arith, long, l)) some (c.cut.ensures ∙ ap (λ n. take (at + 1) items ++ drop n items) w.gone-is)
+    ] in
+    let behind = cut.filled (subst AreFilled (sym (ap (drop (last + 1)) items_is ∙ changed_behind xs at last order l new rest)) (Every-drop_n _ (suc last) xs c.requires.chunked.filled)) in
+    let front_kept = cut.before ∙ ap (take (at + 1)) items_is in
+    let fills = changed_fills g.met.Q.Kind.placed g.met.V.Eq.laws (value_at k (get_or xs at [] ++ take 1 (drop place (get_or xs last [])))) c.args.range c.args.value new stored made in
     record {
-      all = if_some_weaker c.args.value (all_filled xs at last order l new rest c.drop_between.new.chunks.items front_is c.requires.chunked.filled behind) fills;
-      before = subst AreFilled (sym (kept_front xs at last order l new rest c.drop_between.new.chunks.items front_is)) (Every-take_n _ at xs c.requires.chunked.filled);
+      all = if_some_weaker c.args.value (all_filled xs at last order l new rest c.cut.new.list.items front_kept c.requires.chunked.filled behind) fills;
+      before = subst AreFilled (sym (kept_front xs at last order l new rest c.cut.new.list.items front_kept)) (Every-take_n _ at xs c.requires.chunked.filled);
       behind = behind;
     }
 
@@ -158,27 +251,95 @@ returns-clause-counted g c =
     let order : at < last = omega (arith, c.if-end-at.false) in
     let l : last < length xs = omega (arith, c.if-end-at.false, c.requires.end) in
     let found : IsLastTouched (S g.met.Q.Kind.placed g.V.PartialEq.eq) c.args.range (get_or xs last []) place = subst (λ (ys : List (g.row.R.Denot × g.row.V.Denot)). IsLastTouched (S g.met.Q.Kind.placed g.V.PartialEq.eq) c.args.range ys place) (c.index.ensures ∙ get_or_default xs last c.index.result.now [] l) c.last_touched-place.ensures in
-    let n_is : c.count.result ≡ length (whole (take (last - at) (drop at xs))) = c.count.ensures ∙ ap (λ (ps : List (List (g.row.R.Denot × g.row.V.Denot))). length (whole (take (last - at) (drop at ps)))) c.deref.ensures.value in
-    let new = get_or c.change_between.new.chunks.items at [] in
+    let front = c.split_at_mut-front.result.0.now in
+    let back = c.split_at_mut-front.result.1.now in
+    let front_is = c.split_at_mut-front.ensures.front ∙ ap (take last) c.deref_mut.ensures.value in
+    let back_is = c.split_at_mut-front.ensures.back ∙ ap (drop last) c.deref_mut.ensures.value in
+    let all_is = sym (sym (ap length c.deref_mut.ensures.value) ∙ c.deref_mut.ensures.len) in
+    let new = c.change_with.new.self in
+    let left = c.give_room_back.new.self in
     let rest = drop (place + 1) (get_or xs last []) in
-    let items_is = c.shrink_at.ensures ∙ c.in_ok-change_between.ensures.items in
-    let whole_is = c.drop_between.ensures.whole ∙ (λ i. whole (take (at + 1) (items_is i)) ++ whole (drop last (items_is i))) ∙ changed_whole xs at last order l new rest in
-    let sum = sums xs at last order l place found.in_bounds c.count.result n_is new c.drop_between.new.chunks.items whole_is in
-    let made = c.change_between.new.chunks.items in
-    let long : length made ≡ length xs = ap length c.in_ok-change_between.ensures.items ∙ set_length (set xs at (get_or made at [])) last (drop (place + 1) (get_or xs last [])) ∙ set_length xs at (get_or made at []) in
-    let after : c.len-after.result ≡ length (get_or made at []) = c.len-after.ensures ∙ ap (λ (ps : List (g.row.R.Denot × g.row.V.Denot)). length ps) (c.index-2.ensures ∙ get_or_default made at c.index-2.result.now [] (omega (arith, long, order, l))) in
+    let left_is = c.give_room_back.ensures ∙ c.in_ok-change_with.ensures.rest ∙ ap (drop (place + 1)) (last_at xs at last order l front back front_is back_is c.index-back-0.result []) in
+    let items_is =
+    halves_changed xs at last order l front back front_is back_is (drop (length (set front at new ++ set back 0 left)) xs) c.args.chunks.now.len all_is new left
+    ∙ ap (λ (ys : List (g.row.R.Denot × g.row.V.Denot)). set (set xs at new) last ys) left_is in
+    let items = take c.args.chunks.now.len (set front at new ++ set back 0 left ++ drop (length (set front at new ++ set back 0 left)) xs) in
+    let long : length items ≡ length xs = ap length items_is ∙ set_length (set xs at new) last rest ∙ set_length xs at new in
+    let now : get_or items last [] ≡ left = ap (λ (ps : List (List (g.row.R.Denot × g.row.V.Denot))). get_or ps last []) items_is ∙ get_or-set_same (set xs at new) last rest [] (subst (λ n. last < n) (sym (set_length xs at new)) l) ∙ sym left_is in
+    let cut : IsCut items c.cut.new.list.items (at + 1) last = elim c.if-len-eq0.branch [
+      | then-len-eq0 w ↦
+          let none : length left ≡ 0 = grind (arith, c.len-2.ensures, w.if-len-eq0.true) in
+          cut_through items c.cut.new.list.items (at + 1) last (omega (arith, order)) (omega (arith, long, l)) (ap length now ∙ none) (c.cut.ensures ∙ ap (λ n. take (at + 1) items ++ drop n items) w.gone-is)
+      | else-len-eq0 w ↦
+          let some : 0 < length (get_or items last []) = let same = ap length now in grind (arith, c.len-2.ensures, same, w.if-len-eq0.false) in
+          cut_up_to items c.cut.new.list.items (at + 1) last (omega (arith, order)) (omega (arith, long, l)) some (c.cut.ensures ∙ ap (λ n. take (at + 1) items ++ drop n items) w.gone-is)
+    ] in
+    let whole_is = cut.whole_is ∙ (λ i. whole (take (at + 1) (items_is i)) ++ whole (drop last (items_is i))) ∙ changed_whole xs at last order l new rest in
+    let n_is : c.count.result ≡ length (whole (take (last - at) (drop at xs))) = c.count.ensures ∙ ap (λ (ps : List (List (g.row.R.Denot × g.row.V.Denot))). length (whole (take (last - at) (drop at ps)))) c.deref.ensures.value in
+    let sum = sums xs at last order l place found.in_bounds c.count.result n_is new c.cut.new.list.items whole_is in
     let less = count_less xs at last order l place found.in_bounds c.count.result n_is in
     let more = count_more xs at last order l place found.in_bounds c.count.result n_is in
+    let same = ap length (first_at xs at last order l front back front_is back_is c.index-front-at.result []) in
     record {
-      sum = omega (arith, sum, after);
+      sum = omega (arith, sum, c.len-after.ensures);
       some = omega (arith, less);
-      growth = omega (arith, more, after, c.in_ok-change_between.ensures.growth);
-      growth_where_all_are_equal = λ equal. let less = c.in_ok-change_between.ensures.growth_where_all_are_equal equal in omega (arith, more, after, less);
+      growth = omega (arith, more, same, c.len-after.ensures, c.in_ok-change_with.ensures.growth);
+      growth_where_all_are_equal = λ equal. let growth = c.in_ok-change_with.ensures.growth_where_all_are_equal equal in omega (arith, more, same, c.len-after.ensures, growth);
     }
 
-pub returns-in_err-change_between-clause-filled : goal.returns-in_err-change_between-clause-filled
-returns-in_err-change_between-clause-filled g c =
-    subst (λ (ps : List (List (g.row.R.Denot × g.row.V.Denot))). AreFilledBut c.args.value c.args.at ps) (sym c.in_err-change_between.ensures.err) (still_filled c.args.value c.args.at c.args.chunks.now.items c.requires.chunked.filled)
+pub returns-in_err-change_with-clause-err : goal.returns-in_err-change_with-clause-err
+returns-in_err-change_with-clause-err g c =
+    let xs = c.args.chunks.now.items in
+    let at = c.args.at in
+    let last = c.args.end - 1 in
+    let place = c.last_touched-place.result in
+    let order : at < last = omega (arith, c.if-end-at.false) in
+    let l : last < length xs = omega (arith, c.if-end-at.false, c.requires.end) in
+    let front = c.split_at_mut-front.result.0.now in
+    let back = c.split_at_mut-front.result.1.now in
+    let front_is = c.split_at_mut-front.ensures.front ∙ ap (take last) c.deref_mut.ensures.value in
+    let back_is = c.split_at_mut-front.ensures.back ∙ ap (drop last) c.deref_mut.ensures.value in
+    let all_is = sym (sym (ap length c.deref_mut.ensures.value) ∙ c.deref_mut.ensures.len) in
+    on_err_where c.from_residual-in_err-change_with.result
+    (halves_kept xs at last order l front back front_is back_is (drop (length (set front at c.change_with.new.self ++ set back 0 c.change_with.new.other)) xs) c.args.chunks.now.len all_is c.change_with.new.self c.change_with.new.other
+    c.index-front-at.result c.index-back-0.result c.in_err-change_with.ensures.err.0 c.in_err-change_with.ensures.err.1)
+
+pub returns-in_err-change_with-clause-in_bounds : goal.returns-in_err-change_with-clause-in_bounds
+returns-in_err-change_with-clause-in_bounds g c =
+    let xs = c.args.chunks.now.items in
+    let at = c.args.at in
+    let last = c.args.end - 1 in
+    let place = c.last_touched-place.result in
+    let order : at < last = omega (arith, c.if-end-at.false) in
+    let l : last < length xs = omega (arith, c.if-end-at.false, c.requires.end) in
+    let front = c.split_at_mut-front.result.0.now in
+    let back = c.split_at_mut-front.result.1.now in
+    let front_is = c.split_at_mut-front.ensures.front ∙ ap (take last) c.deref_mut.ensures.value in
+    let back_is = c.split_at_mut-front.ensures.back ∙ ap (drop last) c.deref_mut.ensures.value in
+    let all_is = sym (sym (ap length c.deref_mut.ensures.value) ∙ c.deref_mut.ensures.len) in
+    let kept =
+    halves_kept xs at last order l front back front_is back_is (drop (length (set front at c.change_with.new.self ++ set back 0 c.change_with.new.other)) xs) c.args.chunks.now.len all_is c.change_with.new.self c.change_with.new.other
+    c.index-front-at.result c.index-back-0.result c.in_err-change_with.ensures.err.0 c.in_err-change_with.ensures.err.1 in
+    let same = ap length kept in
+    omega (arith, same, c.requires.start)
+
+pub returns-in_err-change_with-clause-filled : goal.returns-in_err-change_with-clause-filled
+returns-in_err-change_with-clause-filled g c =
+    let xs = c.args.chunks.now.items in
+    let at = c.args.at in
+    let last = c.args.end - 1 in
+    let place = c.last_touched-place.result in
+    let order : at < last = omega (arith, c.if-end-at.false) in
+    let l : last < length xs = omega (arith, c.if-end-at.false, c.requires.end) in
+    let front = c.split_at_mut-front.result.0.now in
+    let back = c.split_at_mut-front.result.1.now in
+    let front_is = c.split_at_mut-front.ensures.front ∙ ap (take last) c.deref_mut.ensures.value in
+    let back_is = c.split_at_mut-front.ensures.back ∙ ap (drop last) c.deref_mut.ensures.value in
+    let all_is = sym (sym (ap length c.deref_mut.ensures.value) ∙ c.deref_mut.ensures.len) in
+    let kept =
+    halves_kept xs at last order l front back front_is back_is (drop (length (set front at c.change_with.new.self ++ set back 0 c.change_with.new.other)) xs) c.args.chunks.now.len all_is c.change_with.new.self c.change_with.new.other
+    c.index-front-at.result c.index-back-0.result c.in_err-change_with.ensures.err.0 c.in_err-change_with.ensures.err.1 in
+    subst (λ (ps : List (List (g.row.R.Denot × g.row.V.Denot))). AreFilledBut c.args.value at ps) (sym kept) (still_filled c.args.value at xs c.requires.chunked.filled)
 
 pub returns-then-end-at-clause-ok : goal.returns-then-end-at-clause-ok
 returns-then-end-at-clause-ok g c =
@@ -227,5 +388,5 @@ returns-then-end-at-clause-counted g c =
 pub returns-clause-meets_nothing : goal.returns-clause-meets_nothing
 returns-clause-meets_nothing g c = λ out alone none. absurd (omega (arith, c.if-end-at.false, alone))
 
-pub returns-in_err-change_between-clause-meets_nothing : goal.returns-in_err-change_between-clause-meets_nothing
-returns-in_err-change_between-clause-meets_nothing g c = λ out alone none. absurd (omega (arith, c.if-end-at.false, alone))
+pub returns-in_err-change_with-clause-meets_nothing : goal.returns-in_err-change_with-clause-meets_nothing
+returns-in_err-change_with-clause-meets_nothing g c = λ out alone none. absurd (omega (arith, c.if-end-at.false, alone))

@@ -5,13 +5,13 @@ use Rattle.rangemap_sorted.proofs.splice.splice.Goals as goal
 
 pub returns-clause-ok : goal.returns-clause-ok
 returns-clause-ok g c =
-    let xs = c.make_room.new.list.items in
+    let xs = c.reserve.new.self.items in
     let start = c.args.places.start in
     let end = c.args.places.end in
     let L = option_to_list c.args.left in
     let M = option_to_list c.args.middle in
     let R = option_to_list c.args.right in
-    let same : xs ≡ c.args.list.now.items = c.make_room.ensures.items in
+    let same : xs ≡ c.args.list.now.items = c.reserve.ensures.items in
     let in_bounds : end ≤ length xs = omega (arith, ap length same) in
     let one = c.put-at in
     let two = c.put-at-2 in

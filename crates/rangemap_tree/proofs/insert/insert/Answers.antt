@@ -1,14 +1,27 @@
-use Rattle.std.proofs.Common.{◌≡◌, ◌≤◌, ◌+◌, List, ◌∷◌, ◌++◌, ap, arith, length, true}
+use Rattle.std.proofs.Common.{◌≡◌, ◌≤◌, ◌+◌, List, [], ◌∷◌, ◌++◌, ◌∙◌, ap, arith, filter, is_gt, length, subst, sym, true}
+use Rattle.std.specs.BTreeMap.Range.{range_contains}
+use Rattle.std.specs.Map.Iter.{deref_pair}
+use Rattle.std.specs.declared.ops.Bound.TheVariants.{Excluded}
 use Rattle.std.specs.declared.ops.Range.{Range}
+use Rattle.rangemap_core.specs.engine.EndpointKinds.{half_open_placed}
 use Rattle.rangemap_core.specs.Ranges.{half_open, IsCanonOf, IsNewest, override, value_at}
 use Rattle.rangemap_core.proofs.InsertSideLemmas.{on_ok}
-use Rattle.rangemap_tree.specs.Starts.{before, from, recut, piece_list}
+use Rattle.rangemap_core.proofs.PlaceLemmas.{to_spaced}
+use Rattle.rangemap_tree.specs.Starts.{AreStarts, before, from, recut, piece_list}
 use Rattle.rangemap_tree.proofs.ChangeLemmas.{cut_at, inserted, inserted_is_newest, inserted_length, middle_full, new_at, past_at, piece_length}
+use Rattle.rangemap_tree.proofs.NearLemmas.{none_within, none_within_none, taken_none, taken_some}
 use Rattle.rangemap_tree.proofs.StartLemmas.{turned}
 use Rattle.rangemap_tree.proofs.insert.insert.Goals as goal
+use Rattle.rangemap_tree.proofs.insert.insert.Goals.{in-Some+in_ok-starts-in-Some, in_default+in_ok-clone-in_default, in_default-via-in-Some+else-is_gt, in_default-via-in_default}
 
-pub starts_within-requires-clause-range : goal.starts_within-requires-clause-range
-starts_within-requires-clause-range g c =
+pub left_side-requires-clause-near : goal.left_side-requires-clause-near
+left_side-requires-clause-near g c = c.last_up_to-near.ensures
+
+pub right_side-requires-clause-near : goal.right_side-requires-clause-near
+right_side-requires-clause-near g c = c.last_up_to-near.ensures
+
+pub starts_between-requires-clause-forward : goal.starts_between-requires-clause-forward
+starts_between-requires-clause-forward g c =
     let o = g.met.K.Ord.total in
     let cmp = g.K.Ord.cmp in
     let eq = g.V.PartialEq.eq in
@@ -16,15 +29,6 @@ starts_within-requires-clause-range g c =
     let ps = c.args.pairs.now in
     let m : Range g.row.K.Denot = record { start = c.unwrap_or.result; end = c.unwrap_or-2.result } in
     middle_full o eq e ps c.requires.canonical c.args.range c.requires.non_empty c.args.value c.in_ok-left.left.start c.in_ok-right.right.end c.in_ok-left.left.cut c.in_ok-right.right.piece c.in_ok-left.ensures c.in_ok-right.ensures m c.unwrap_or.ensures c.unwrap_or-2.ensures
-
-pub starts_within-requires-clause-near : goal.starts_within-requires-clause-near
-starts_within-requires-clause-near g c =
-    let o = g.met.K.Ord.total in
-    let eq = g.V.PartialEq.eq in
-    let e = g.met.V.Eq.laws in
-    let ps = c.args.pairs.now in
-    let m : Range g.row.K.Denot = record { start = c.unwrap_or.result; end = c.unwrap_or-2.result } in
-    (c.args.range.end, c.last_up_to-near.ensures, past_at o eq e ps c.requires.canonical c.args.range c.requires.non_empty c.args.value c.in_ok-left.left.start c.in_ok-right.right.end c.in_ok-left.left.cut c.in_ok-right.right.piece c.in_ok-left.ensures c.in_ok-right.ensures m c.unwrap_or.ensures c.unwrap_or-2.ensures)
 
 pub replace-requires-clause-key : goal.replace-requires-clause-key
 replace-requires-clause-key g c = turned g.met.K.Ord.total _ _ (c.requires.faithful_keys _ _ c.in_ok-key.ensures.cases)
@@ -58,6 +62,31 @@ replace-requires-clause-piece g c =
     let ps = c.args.pairs.now in
     let m : Range g.row.K.Denot = record { start = c.unwrap_or.result; end = c.unwrap_or-2.result } in
     new_at o eq e ps c.requires.canonical c.args.range c.requires.non_empty c.args.value c.in_ok-left.left.start c.in_ok-right.right.end c.in_ok-left.left.cut c.in_ok-right.right.piece c.in_ok-left.ensures c.in_ok-right.ensures m c.unwrap_or.ensures c.unwrap_or-2.ensures
+
+pub replace-requires-clause-starts : goal.replace-requires-clause-starts
+replace-requires-clause-starts g c =
+    let o = g.met.K.Ord.total in
+    let cmp = g.K.Ord.cmp in
+    let eq = g.V.PartialEq.eq in
+    let e = g.met.V.Eq.laws in
+    let ps = c.args.pairs.now in
+    let m : Range g.row.K.Denot = record { start = c.unwrap_or.result; end = c.unwrap_or-2.result } in
+    let sp = to_spaced (half_open_placed o) eq ps c.requires.canonical in
+    let near = c.last_up_to-near in
+    let past = past_at o eq e ps c.requires.canonical c.args.range c.requires.non_empty c.args.value c.in_ok-left.left.start c.in_ok-right.right.end c.in_ok-left.left.cut c.in_ok-right.right.piece c.in_ok-left.ensures c.in_ok-right.ensures m c.unwrap_or.ensures c.unwrap_or-2.ensures in
+    let within : List (Range g.row.K.Denot × g.row.V.Denot) = filter (λ p. range_contains cmp (Excluded m.start) (Excluded m.end) p.0.start) ps in
+    let starts : AreStarts cmp within c.match-near.starts.items = elim c.match-near.branch [
+      | in-Some+in_ok-starts-in-Some w ↦ rw w.starts-is w.in_ok-starts-in-Some.ensures
+      | in_default+in_ok-clone-in_default w ↦
+          let none : within ≡ [] = elim w.in_default.branch [
+            | in_default-via-in-Some+else-is_gt v ↦
+                let a : Range g.row.K.Denot × g.row.V.Denot = (v.in-Some.last.now, v.in-Some.field-0-1.now) in
+                none_within o eq e c.args.range.end ps sp near.ensures.0 a (taken_some deref_pair _ near.result near.ensures (v.in-Some.last, v.in-Some.field-0-1) v.in-Some.is) m.start m.end past (ap is_gt (sym v.cmp.ensures) ∙ sym v.is_gt.ensures ∙ v.if-is_gt.false)
+            | in_default-via-in_default v ↦ none_within_none o eq e c.args.range.end ps sp m.start m.end past (taken_none deref_pair _ near.result near.ensures v.in_default.is)
+          ] in
+          rw w.starts-is (subst (AreStarts cmp within) (sym w.new-starts.ensures.items) (subst (λ qs. AreStarts cmp qs []) (sym none) tt))
+    ] in
+    subst (AreStarts cmp within) (sym c.as_slice.ensures.value) starts
 
 pub returns-clause-ok : goal.returns-clause-ok
 returns-clause-ok g c =

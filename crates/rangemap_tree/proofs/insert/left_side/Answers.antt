@@ -67,7 +67,7 @@ returns-then-is_gt g c =
     let us = c.in-Some.ensures.0 in
     let is = c.in-Some.ensures.1 in
     let reaches = not_lt_ge o a.0.end r.start (ap is_lt (sym c.cmp-reach.ensures) ∙ sym c.is_lt.ensures ∙ c.if-is_lt.false) in
-    left_parted o eq e ps sp r v us a is c.in_ok-rest.rest (turned o _ _ (c.requires.faithful_keys _ _ c.in_ok-rest.ensures.0)) (turned o _ _ (c.requires.faithful_keys _ _ c.in_ok-rest.ensures.1)) reaches (sym c.eq.ensures ∙ c.if-eq.false)
+    left_parted o eq e ps sp r v us a is (record { start = c.in_ok-start.start; end = c.in_ok-end.end }) (turned o _ _ (c.requires.faithful_keys _ _ c.in_ok-start.ensures.cases)) (turned o _ _ (c.requires.faithful_keys _ _ c.in_ok-end.ensures.cases)) reaches (sym c.eq.ensures ∙ c.if-eq.false)
 
 pub returns : goal.returns
 returns g c =

@@ -2,11 +2,12 @@ use Rattle.std.proofs.Common.{◌≡◌, ◌∙◌, true, ap, rules}
 use Rattle.std.specs.Ordering.{is_lt}
 use Rattle.rangemap_unions.specs.Items.{earlier_end, later_start, reaches}
 use Rattle.rangemap_unions.proofs.IntersectionLemmas.{both_reached}
+use Rattle.rangemap_unions.proofs.ItemLemmas.{reaches_places}
 use Rattle.rangemap_unions.proofs.SideLemmas.{common_made, common_none, on_err_anyway}
 use Rattle.rangemap_unions.proofs.intersection.common_part.Goals as goal
 
-pub returns-then-is_reached-clause-made : goal.returns-then-is_reached-clause-made
-returns-then-is_reached-clause-made g c =
+pub returns-then-reaches-clause-made : goal.returns-then-reaches-clause-made
+returns-then-reaches-clause-made g c =
     let l = g.R.KeyRange.places in
     let left = c.args.left.now in
     let right = c.args.right.now in
@@ -14,11 +15,12 @@ returns-then-is_reached-clause-made g c =
     let last = c.if-left_ends_first.last.now in
     let starts : first ≡ later_start l left right = search rules in
     let ends : last ≡ earlier_end l left right = search rules in
+    let places = reaches_places g.met.R.KeyRange.interval g.met.R.KeyRange.has_places last first in
     let reached : reaches l last first ≡ true = search rules in
     λ rest. common_made g.R.KeyRange.read l left right first last starts ends (both_reached g.met.R.KeyRange.has_places left right first last starts ends reached) rest c.between.result (c.between.ensures.made rest)
 
-pub returns-then-is_reached-clause-refused : goal.returns-then-is_reached-clause-refused
-returns-then-is_reached-clause-refused g c =
+pub returns-then-reaches-clause-refused : goal.returns-then-reaches-clause-refused
+returns-then-reaches-clause-refused g c =
     let l = g.R.KeyRange.places in
     let left = c.args.left.now in
     let right = c.args.right.now in
@@ -26,11 +28,12 @@ returns-then-is_reached-clause-refused g c =
     let last = c.if-left_ends_first.last.now in
     let starts : first ≡ later_start l left right = search rules in
     let ends : last ≡ earlier_end l left right = search rules in
+    let places = reaches_places g.met.R.KeyRange.interval g.met.R.KeyRange.has_places last first in
     let reached : reaches l last first ≡ true = search rules in
     on_err_anyway c.between.result (both_reached g.met.R.KeyRange.has_places left right first last starts ends reached)
 
-pub returns-else-is_reached-clause-made : goal.returns-else-is_reached-clause-made
-returns-else-is_reached-clause-made g c =
+pub returns-else-reaches-clause-made : goal.returns-else-reaches-clause-made
+returns-else-reaches-clause-made g c =
     let l = g.R.KeyRange.places in
     let left = c.args.left.now in
     let right = c.args.right.now in
@@ -38,6 +41,7 @@ returns-else-is_reached-clause-made g c =
     let last = c.if-left_ends_first.last.now in
     let starts : first ≡ later_start l left right = search rules in
     let ends : last ≡ earlier_end l left right = search rules in
+    let places = reaches_places g.met.R.KeyRange.interval g.met.R.KeyRange.has_places last first in
     λ rest. common_none l left right first last
     (λ both. ap (λ r. is_lt (l.order (l.start_place r) (l.end_place last))) starts ∙ ap (λ r. is_lt (l.order (l.start_place (later_start l left right)) (l.end_place r))) ends ∙ ap is_lt (c.requires.in_order both))
     (search rules) rest

@@ -1,16 +1,16 @@
-use Rattle.std.proofs.Common.{◌≡◌, [], ◌∷◌, ◌∙◌, sym, ap, refl}
+use Rattle.std.proofs.Common.{◌≡◌, [], ◌∷◌, ◌∙◌, filter, sym, ap, refl}
 use Rattle.std.specs.Map.{values_of}
 use Rattle.std.specs.BTreeMap.Range.{range_contains}
-use Rattle.std.specs.declared.ops.Bound.TheVariants.{Included, Unbounded}
-use Rattle.rangemap_tree.specs.Starts.{up_to}
+use Rattle.std.specs.Range.Bound.{bound_map}
+use Rattle.std.specs.declared.ops.Bound.TheVariants.{Unbounded}
 use Rattle.rangemap_tree.proofs.EntryLemmas.{made_filter, tied_in_range, values_append}
 use Rattle.rangemap_tree.proofs.by_start.ByStart.last_up_to.Goals as goal
 
 pub returns-in_err-range : goal.returns-in_err-range
 returns-in_err-range g c =
     let o = g.met.K.Ord.total in
-    let to = Included c.args.key.now in
-    let none : up_to g.K.Ord.cmp c.args.key.now c.args.self.now ≡ [] =
+    let to = bound_map (λ y. y.now) c.args.to in
+    let none : filter (λ p. range_contains g.K.Ord.cmp Unbounded to p.0.start) c.args.self.now ≡ [] =
     sym (made_filter o (λ x. range_contains g.K.Ord.cmp Unbounded to x) (tied_in_range o Unbounded to) c.self.inside.tree c.in-Some.tree c.in-Some.is c.self.invariant c.args.self.now c.self.view_is)
     ∙ ap values_of (sym (c.range.ensures.between tt) ∙ c.in_err-range.ensures.steps.0) in
     ([], rw c.from_residual.ensures (none, refl))
@@ -18,7 +18,7 @@ returns-in_err-range g c =
 pub returns : goal.returns
 returns g c =
     let o = g.met.K.Ord.total in
-    let to = Included c.args.key.now in (
+    let to = bound_map (λ y. y.now) c.args.to in (
       values_of c.next_back.new.self,
       sym (made_filter o (λ x. range_contains g.K.Ord.cmp Unbounded to x) (tied_in_range o Unbounded to) c.self.inside.tree c.in-Some.tree c.in-Some.is c.self.invariant c.args.self.now c.self.view_is)
           ∙ ap values_of (sym (c.range.ensures.between tt) ∙ c.in_ok-range.ensures.steps)

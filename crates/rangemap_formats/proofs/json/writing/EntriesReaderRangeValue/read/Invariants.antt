@@ -4,7 +4,7 @@ use Rattle.rangemap_formats.proofs.json.writing.EntriesReaderRangeValue.read.Giv
 
 -- the pairs that were taken stand as entries
 abbrev pub invariant-pairs : goal.invariant-pairs
-invariant-pairs g l = WrittenSoFar g.S.Kind.Kind.kind (g.W.WritesParts.writer l.state.1) (g.C.Cursor.left l.fn.pairs) (g.C.Cursor.left l.rest) l.entries.items
+invariant-pairs g l = WrittenSoFar g.S.Kind.Kind.kind (g.W.WritesParts.writer l.fn.state.1) (g.C.Cursor.left l.fn.pairs) (g.C.Cursor.left l.rest) l.entries.items
 
 abbrev pub decreases-pairs : goal.decreases-pairs
 decreases-pairs g l = length (g.C.Cursor.left l.rest)
