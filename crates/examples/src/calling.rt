@@ -220,6 +220,7 @@ pub fn either_way(
     requires { left.old ≡ right.old }
     ensures equal { IfOk result (λ equal. equal ≡ true) }
     ensures inserted { OnOk result ((key : ℕ) → key < 10 → value_at (closed (λ x. x < 2 ^ 8) nat_cmp) left.new key ≡ Some 1) }
+    ensures in_either { OnOk result ((key : ℕ) → key < 10 → value_at (closed (λ x. x < 2 ^ 8) nat_cmp) right.new key ≡ Some 1) }
 {
     left.insert(0..=9, 1)?;
     left.insert(20..=29, 2)?;

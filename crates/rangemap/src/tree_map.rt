@@ -10,7 +10,6 @@ use rangemap_core::pair_iter::{OverlappingPairs, PairIter};
 pub use rangemap_laws::commands::{Answer, Command, Outcome, run};
 pub use rangemap_maps::range_map::Map;
 use rangemap_maps::range_map::calls as map_calls;
-use rangemap_tree::ahead::Ahead;
 use rangemap_tree::pairs::Pairs;
 use rangemap_tree::{Tree, into_iter};
 use std::alloc::Global;
@@ -66,7 +65,7 @@ use std::ops::Range;
 pub type RangeMap<K, V, A = Global> = Map<Tree<K, V, A>>;
 
 /// The pairs of a map, in order and from both ends.
-pub type Iter<'a, K, V> = PairIter<Ahead<Pairs<'a, K, V>>>;
+pub type Iter<'a, K, V> = PairIter<Pairs<'a, K, V>>;
 
 /// The pairs that a map hands over, in order and from both ends.
 pub type IntoIter<K, V, A = Global> = PairIter<into_iter::IntoIter<K, V, A>>;

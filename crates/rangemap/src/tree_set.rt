@@ -7,7 +7,6 @@ use rangemap_containers::calls;
 pub use rangemap_containers::replay::replay;
 use rangemap_core::gaps;
 use rangemap_core::half_open::HalfOpen;
-use rangemap_tree::ahead::Ahead;
 use rangemap_tree::pairs::Pairs;
 use rangemap_tree::{Tree, into_iter};
 use rangemap_unions::{self as unions, OverlappingRanges, Ranges};
@@ -61,7 +60,7 @@ use std::ops::Range;
 pub type RangeSet<T, A = Global> = Set<Tree<T, (), A>>;
 
 /// The ranges of a set, in order and from both ends.
-pub type Iter<'a, T> = Ranges<Ahead<Pairs<'a, T, ()>>>;
+pub type Iter<'a, T> = Ranges<Pairs<'a, T, ()>>;
 
 /// The ranges that a set hands over, in order and from both ends.
 pub type IntoIter<T, A = Global> = Ranges<into_iter::IntoIter<T, (), A>>;
@@ -73,10 +72,10 @@ pub type Overlapping<'a, T> = OverlappingRanges<Pairs<'a, T, ()>>;
 pub type Gaps<'a, T> = gaps::Gaps<'a, HalfOpen, Range<T>, Pairs<'a, T, ()>>;
 
 /// The ranges of two sets, joined where they overlap, in order.
-pub type Union<'a, T> = unions::Union<Ahead<Pairs<'a, T, ()>>>;
+pub type Union<'a, T> = unions::Union<Pairs<'a, T, ()>>;
 
 /// The parts that two sets have in common, in order.
-pub type Intersection<'a, T> = unions::Intersection<Ahead<Pairs<'a, T, ()>>>;
+pub type Intersection<'a, T> = unions::Intersection<Pairs<'a, T, ()>>;
 
 /// A call that every such set has, as a `Call` holds it.
 pub type Change<T> = calls::Change<Range<T>, ()>;

@@ -122,7 +122,11 @@ pub trait Container: PartialEq + Drop {
 
     /// Returns the value of the stored range that has the key.
     fn get(&self, key: &<Self::Range as KeyRange>::Key) -> Option<&Self::Value>
-        ensures { option_copied result ≡ value_at Self.Kind.kind (pairs self.now) key.now };
+        ensures { option_copied result ≡ value_at Self.Kind.kind (pairs self.now) key.now }
+    {
+        let (_, value) = self.get_key_value(key)?;
+        Some(value)
+    }
 
     /// Returns the stored range that has the key, and its value.
     fn get_key_value(

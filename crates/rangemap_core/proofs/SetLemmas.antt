@@ -7,7 +7,7 @@ use Rattle.rangemap_core.specs.Ranges.{RangeKind, IsCanonOf, IsCanonOfPoints, co
 use Rattle.rangemap_core.specs.Operators.{common, either}
 use Rattle.rangemap_core.proofs.OperatorLemmas.{common_some, either_some}
 use Rattle.rangemap_core.specs.Sets.{Adds, AreCommon, AreEither, TakesOut, met, range_at, ranges}
-use Rattle.rangemap_core.proofs.UnitValueLemmas.{canon_of, covering_covers, covers_one, erased, overridden, ranges_met, ranges_with, value_covers}
+use Rattle.rangemap_core.proofs.UnitValueLemmas.{canon_of, covers_one, erased, overridden, ranges_met, ranges_with, value_covers}
 
 module _ {K X : Type 0} (k : RangeKind K X) where
   -- the key is in the set, said of the map that the set is
@@ -67,18 +67,8 @@ module _ {K X : Type 0} (k : RangeKind K X) where
       by rest true = refl
       by rest false = rest
 
-  unit_some : (o : Option X) → option_map (λ (p : X × ⊤). p.1) (option_map (λ r. (r, tt)) o) ≡ option_map (λ r. tt) o
-  unit_some None = refl
-  unit_some (Some r) = refl
-
   pub pair_found : (rs : List X) (x : K) (o : Option X) → o ≡ range_at k rs x → option_map (λ r. (r, tt)) o ≡ covering k (with_unit k rs) x
   pair_found rs x o h = ap (option_map (λ r. (r, tt))) h ∙ sym (covering_with rs x)
-
-  pub value_found : (rs : List X) (x : K) (o : Option X) → o ≡ range_at k rs x → option_map (λ r. tt) o ≡ value_at k (with_unit k rs) x
-  value_found rs x o h = ap (option_map (λ r. tt)) h ∙ sym (ap (option_map (λ (p : X × ⊤). p.1)) (covering_with rs x) ∙ unit_some (range_at k rs x))
-
-  pub contains_with : (rs : List X) (x : K) → is_some (covering k (with_unit k rs) x) ≡ covers k rs x
-  contains_with rs x = covering_covers k (with_unit k rs) x ∙ ap (λ ss. covers k ss x) (ranges_with k rs)
 
   pub count_with : (rs : List X) → length (with_unit k rs) ≡ length rs
   count_with rs = length-map rs (λ r. (r, tt))

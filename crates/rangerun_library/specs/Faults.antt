@@ -1,7 +1,9 @@
 -- What the program prints of why it stops.
-use Rattle.std.specs.Prelude.{ℕ, if◌then◌else◌, nat_eq}
+use Rattle.std.specs.Prelude.{ℕ, List, Option, Some, codes, if◌then◌else◌, nat_eq}
+use Rattle.std.specs.Fmt.{◌++?◌, decimal}
 use Rattle.rangerun_library.specs.declared.fault.Cause.{Cause}
 use Rattle.rangerun_library.specs.declared.fault.Cause.TheVariants.{Arguments, Command, Number, EmptyRange, Value, Stream, Memory}
+use Rattle.rangerun_library.specs.declared.fault.Fault.{Fault}
 
 -- the number of a cause
 abbrev pub fault_number : Cause → ℕ
@@ -19,3 +21,7 @@ status_of number =
     if nat_eq number (fault_number Stream) then 3
     else if nat_eq number (fault_number Memory) then 4
     else 2
+
+-- the words that tell of a fault: its number, and the line
+abbrev pub fault_text : Fault → Option (List ℕ)
+fault_text fault = Some (codes "fault ") ++? Some (decimal fault.number) ++? Some (codes " at line ") ++? Some (decimal fault.line)

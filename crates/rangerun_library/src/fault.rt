@@ -78,6 +78,10 @@ impl Fault {
 }
 
 impl fmt::Display for Fault {
+    ghost use Rattle.rangerun_library.specs.Faults.{fault_text};
+
+    ghost output = { fault_text };
+
     fn fmt<W: fmt::Write>(&self, f: &mut fmt::Formatter<W>) -> fmt::Result {
         write!(f, "fault {} at line {}", self.number, self.line)
     }

@@ -87,6 +87,7 @@ fn snippets_with_other_maps_answer(rt: HostRuntime) -> Result<(), Fail> {
     let mut other = RangeInclusiveMap::new(rt.alloc());
     assert_same(&rt, either_way(&mut one, &mut other)?, true);
     assert_same(&rt, (one.get(&9).copied(), one.len()), (Some(1), 2));
+    assert_same(&rt, other == one, true);
     let mut stock = tree_map::RangeMap::new(rt.alloc());
     stock.insert(0..5u32, 3u32)?;
     let found = (are_below(&stock, 2, 9, 4), are_below(&stock, 2, 9, 3));

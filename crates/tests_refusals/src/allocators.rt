@@ -1,12 +1,19 @@
-//! Whose allocator the result of an operator has, that of a clone, and what a replay makes.
+//! Which allocator a container names, and whose the result of an operator has, that of a clone, and
+//! what a replay makes.
 
 mod chunked;
 mod rows;
 
 use crate::natives::{Asked, InTree, InVector, Replayed, SetsInTree, SetsInVector};
 use rangemap::RangeSet;
+use rangemap::map::Map;
+use rangemap::set::Set;
+use rangemap_chunked::{Chunks, SIZE};
 use rangemap_core::closed::Closed;
 use rangemap_core::half_open::HalfOpen;
+use rangemap_core::store::StoreMut;
+use rangemap_sorted::SortedVec;
+use rangemap_tree::Tree;
 use rows::{INCLUSIVE_MAPS, INCLUSIVE_SETS, MAPS, SETS};
 use std::alloc::AllocError;
 use std::ops::{Range, RangeInclusive};
@@ -57,6 +64,28 @@ fn check_rows<'a, C: Replayed<'a>>(
         C::answer(Asked::Owner(heaps, allocs, own, row))?;
     }
     Ok(())
+}
+
+#[test]
+fn a_container_names_its_allocator(rt: HostRuntime) -> Result<(), Fail> {
+    let heap = Refusing::new(rt.alloc(), MANY);
+    check_named::<SortedVec<HalfOpen, Range<u32>, (), &Heap>>(&heap, &heap)?;
+    check_named::<Chunks<HalfOpen, Range<u32>, (), &Heap, SIZE>>(&heap, &heap)?;
+    check_named::<Tree<u32, (), &Heap>>(&heap, &heap)
+}
+
+// Asks the allocators that a map and a set of a store name for a block each, of which the heap tells.
+fn check_named<S: StoreMut<Value = (), Alloc: Copy> + Drop>(
+    heap: &Heap,
+    alloc: S::Alloc,
+) -> Result<(), Fail> {
+    let map: Map<S> = Map::new_with_step_fns(alloc);
+    let set: Set<S> = Set::new_with_step_fns(alloc);
+    let mut first = Vec::new(*map.allocator());
+    first.push(1u8)?;
+    let mut second = Vec::new(*set.allocator());
+    second.push(1u8)?;
+    check_that(heap.held() == 2, "a container names another allocator")
 }
 
 #[test]

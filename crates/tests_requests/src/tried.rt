@@ -45,17 +45,19 @@ pub fn with_range<M: InRows>(
     Ok((map, range_of::<M::Kind, M::Range, M::Alloc>(alloc, range)?))
 }
 
-/// Tries the calls of a text, one on each line.
+/// Tries the calls of a text, one on each line, of which there has to be one.
 pub fn check<M: Tried>(heap: &Heap, alloc: M::Alloc, text: &str) -> Result<(), Fail>
     requires { M.clones_are_faithful }
 {
+    let mut has_line = false;
     for line in text.split('\n') {
         let line = line.trim();
         if !line.is_empty() {
             check_line::<M>(heap, alloc, line)?;
+            has_line = true;
         }
     }
-    Ok(())
+    check_that(has_line, "a table has no row")
 }
 
 // Tries the call of a line with each of its requests refused in its turn, and compares how many it

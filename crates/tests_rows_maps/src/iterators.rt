@@ -32,7 +32,13 @@ fn check_three_of_vector<
 #[test]
 fn a_loop_goes_over_a_map(rt: HostRuntime) -> Result<(), Fail> {
     let map = RangeMap::from(rt.alloc(), [(4..6u32, 'b'), (0..2, 'a')])?;
-    check_same(map.iter().len(), 2)?;
+    let pairs = map.iter();
+    check_same(pairs.len(), 2)?;
+    check_text(
+        rt.alloc(),
+        &pairs.cursor().as_slice(),
+        "[(0..2, 'a'), (4..6, 'b')]",
+    )?;
     let mut found = Vec::new(rt.alloc());
     for (range, value) in &map {
         found.push((range.clone()?, *value))?;
@@ -82,6 +88,8 @@ fn overlapping_pairs_come_from_both_ends(rt: HostRuntime) -> Result<(), Fail> {
     let three = Lent::In(1..8, In::Three);
     lent_by_vector::<HalfOpen, Range<u32>>(rt.alloc(), pairs, three, found)?;
     lent_by_tree(rt.alloc(), pairs, Lent::In(1..8, In::Three), found)?;
+    let three = Lent::In(1..8, In::Three);
+    lent_by_chunks::<HalfOpen, Range<u32>>(rt.alloc(), pairs, three, found)?;
     lent_by_vector::<Closed<u32>, RangeInclusive<u32>>(
         rt.alloc(),
         "0..=1 a, 2..=3 b, 4..=5 a, 8..=9 c",

@@ -62,11 +62,6 @@ where
         self.is_empty()
     }
 
-    fn get(&self, key: &<S::Range as KeyRange>::Key) -> Option<&()> {
-        let _ = self.get(key)?;
-        Some(&())
-    }
-
     fn get_key_value(&self, key: &<S::Range as KeyRange>::Key) -> Option<(&S::Range, &())> {
         let range = self.get(key)?;
         Some((range, &()))

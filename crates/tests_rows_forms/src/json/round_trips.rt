@@ -18,10 +18,11 @@ use std::alloc::Global;
 use std::fmt::Debug;
 use std::ops::{Range, RangeInclusive};
 use std::test::Fail;
-use tests_support::{check_text, check_that};
+use tests_support::{check_same, check_text, check_that};
 
-// Reads a map again in either form, makes one again of its pairs, and compares the texts of these.
-fn check_map<S>(alloc: Global, pairs: &str, text: &str) -> Result<(), Fail>
+// Writes a map, reads it again in either form, makes one again of its pairs, and compares what was
+// written, and the texts of these.
+fn check_map<S>(alloc: Global, pairs: &str, written: &str, text: &str) -> Result<(), Fail>
 where
     S: HandsOver<Range: KeyRange<Key = u32> + Debug, Value = u32, Alloc = Global> + StoreMut + Drop,
     S::Kind: Kind<S::Range, Steps = <S::Range as KeyRange>::Key>,
@@ -35,9 +36,10 @@ where
             read_value: read_number,
         };
         let answer = functions.reading_what_was_written_is_equal(alloc, alloc, form, &map);
-        let Ok((_, again)) = answer else {
+        let Ok((value, again)) = answer else {
             return Err(Fail::new("a map was not read again"));
         };
+        check_same(value.to_string(alloc)?.as_str(), written)?;
         check_that(again == map, "what was read again differs")?;
         check_map_again(alloc, &again, text)?;
     }
@@ -56,7 +58,7 @@ where
 }
 
 // The same of a set.
-fn check_set<S>(alloc: Global, ranges: &str, text: &str) -> Result<(), Fail>
+fn check_set<S>(alloc: Global, ranges: &str, written: &str, text: &str) -> Result<(), Fail>
 where
     S: HandsOver<Range: KeyRange<Key = u32> + Debug, Value = (), Alloc = Global> + StoreMut + Drop,
     S::Kind: Kind<S::Range, Steps = <S::Range as KeyRange>::Key>,
@@ -68,9 +70,10 @@ where
             read_key: read_number,
         };
         let answer = functions.reading_what_was_written_is_equal(alloc, alloc, form, &set);
-        let Ok((_, again)) = answer else {
+        let Ok((value, again)) = answer else {
             return Err(Fail::new("a set was not read again"));
         };
+        check_same(value.to_string(alloc)?.as_str(), written)?;
         check_that(again == set, "what was read again differs")?;
         check_set_again(alloc, &again, text)?;
     }
@@ -92,28 +95,31 @@ where
 fn check_maps<Q: Kind<R, Steps = R::Key>, R: KeyRange<Key = u32> + Debug>(
     alloc: Global,
     pairs: &str,
+    written: &str,
     text: &str,
 ) -> Result<(), Fail> {
-    check_map::<SortedVec<Q, R, u32, Global>>(alloc, pairs, text)?;
-    check_map::<Chunks<Q, R, u32, Global, 2>>(alloc, pairs, text)
+    check_map::<SortedVec<Q, R, u32, Global>>(alloc, pairs, written, text)?;
+    check_map::<Chunks<Q, R, u32, Global, 2>>(alloc, pairs, written, text)
 }
 
 // Makes sets again, in a sorted vector and in chunks of up to two ranges.
 fn check_sets<Q: Kind<R, Steps = R::Key>, R: KeyRange<Key = u32> + Debug>(
     alloc: Global,
     ranges: &str,
+    written: &str,
     text: &str,
 ) -> Result<(), Fail> {
-    check_set::<SortedVec<Q, R, (), Global>>(alloc, ranges, text)?;
-    check_set::<Chunks<Q, R, (), Global, 2>>(alloc, ranges, text)
+    check_set::<SortedVec<Q, R, (), Global>>(alloc, ranges, written, text)?;
+    check_set::<Chunks<Q, R, (), Global, 2>>(alloc, ranges, written, text)
 }
 
 #[test]
 fn maps_are_made_again(rt: HostRuntime) -> Result<(), Fail> {
     let pairs = "0..10 1, 3..6 2";
+    let written = "[[[0,3],1],[[3,6],2],[[6,10],1]]";
     let text = "(3, (Some((0..3, 1)), Some((6..10, 1))), {0..3: 1, 3..6: 2, 6..10: 1})";
-    check_maps::<HalfOpen, Range<u32>>(rt.alloc(), pairs, text)?;
-    check_map::<Tree<u32, u32, Global>>(rt.alloc(), pairs, text)
+    check_maps::<HalfOpen, Range<u32>>(rt.alloc(), pairs, written, text)?;
+    check_map::<Tree<u32, u32, Global>>(rt.alloc(), pairs, written, text)
 }
 
 #[test]
@@ -121,6 +127,7 @@ fn closed_maps_are_made_again(rt: HostRuntime) -> Result<(), Fail> {
     check_maps::<Closed<u32>, RangeInclusive<u32>>(
         rt.alloc(),
         "0..=9 1, 3..=5 2",
+        "[[[0,2],1],[[3,5],2],[[6,9],1]]",
         "(3, (Some((0..=2, 1)), Some((6..=9, 1))), {0..=2: 1, 3..=5: 2, 6..=9: 1})",
     )
 }
@@ -128,9 +135,10 @@ fn closed_maps_are_made_again(rt: HostRuntime) -> Result<(), Fail> {
 #[test]
 fn sets_are_made_again(rt: HostRuntime) -> Result<(), Fail> {
     let ranges = "0..3, 6..10";
+    let written = "[[0,3],[6,10]]";
     let text = "(2, (Some(0..3), Some(6..10)), {0..3, 6..10})";
-    check_sets::<HalfOpen, Range<u32>>(rt.alloc(), ranges, text)?;
-    check_set::<Tree<u32, (), Global>>(rt.alloc(), ranges, text)
+    check_sets::<HalfOpen, Range<u32>>(rt.alloc(), ranges, written, text)?;
+    check_set::<Tree<u32, (), Global>>(rt.alloc(), ranges, written, text)
 }
 
 #[test]
@@ -138,18 +146,24 @@ fn closed_sets_are_made_again(rt: HostRuntime) -> Result<(), Fail> {
     check_sets::<Closed<u32>, RangeInclusive<u32>>(
         rt.alloc(),
         "0..=3, 6..=10",
+        "[[0,3],[6,10]]",
         "(2, (Some(0..=3), Some(6..=10)), {0..=3, 6..=10})",
     )
 }
 
 #[test]
 fn maps_in_chunks_are_made_again(rt: HostRuntime) -> Result<(), Fail> {
-    let text = "(5, (Some((0..3, 1)), Some((16..18, 4))), \
-        {0..3: 1, 3..6: 2, 6..10: 1, 12..14: 4, 16..18: 4})";
-    check_maps::<HalfOpen, Range<u32>>(rt.alloc(), "0..10 1, 3..6 2, 16..18 4, 12..14 4", text)?;
+    check_maps::<HalfOpen, Range<u32>>(
+        rt.alloc(),
+        "0..10 1, 3..6 2, 16..18 4, 12..14 4",
+        "[[[0,3],1],[[3,6],2],[[6,10],1],[[12,14],4],[[16,18],4]]",
+        "(5, (Some((0..3, 1)), Some((16..18, 4))), \
+        {0..3: 1, 3..6: 2, 6..10: 1, 12..14: 4, 16..18: 4})",
+    )?;
     check_maps::<Closed<u32>, RangeInclusive<u32>>(
         rt.alloc(),
         "0..=9 1, 3..=5 2, 16..=17 4, 12..=13 4",
+        "[[[0,2],1],[[3,5],2],[[6,9],1],[[12,13],4],[[16,17],4]]",
         "(5, (Some((0..=2, 1)), Some((16..=17, 4))), \
         {0..=2: 1, 3..=5: 2, 6..=9: 1, 12..=13: 4, 16..=17: 4})",
     )
@@ -160,11 +174,13 @@ fn sets_in_chunks_are_made_again(rt: HostRuntime) -> Result<(), Fail> {
     check_sets::<HalfOpen, Range<u32>>(
         rt.alloc(),
         "0..3, 6..10, 12..14, 16..18, 20..22",
+        "[[0,3],[6,10],[12,14],[16,18],[20,22]]",
         "(5, (Some(0..3), Some(20..22)), {0..3, 6..10, 12..14, 16..18, 20..22})",
     )?;
     check_sets::<Closed<u32>, RangeInclusive<u32>>(
         rt.alloc(),
         "0..=3, 6..=10, 12..=14, 16..=18, 20..=22",
+        "[[0,3],[6,10],[12,14],[16,18],[20,22]]",
         "(5, (Some(0..=3), Some(20..=22)), {0..=3, 6..=10, 12..=14, 16..=18, 20..=22})",
     )
 }

@@ -14,3 +14,6 @@ returns-clause-equal c =
 
 pub returns-clause-inserted : goal.returns-clause-inserted
 returns-clause-inserted c = λ key below. grind (arith, nat_tests, value_of same_number c.in_ok-insert-2.ensures.ok key (omega arith), value_of same_number c.in_ok-insert.ensures.ok key (omega arith))
+
+pub returns-clause-in_either : goal.returns-clause-in_either
+returns-clause-in_either c = λ key below. grind (arith, nat_tests, value_of same_number c.in_ok-insert-4.ensures.ok key (omega arith))
