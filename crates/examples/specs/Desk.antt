@@ -17,10 +17,10 @@ days = closed (λ x. x < 2 ^ 32) nat_cmp
 abbrev pub is_closed : List (RangeInclusive ℕ) → ℕ → Bool
 is_closed list day = covers days list day
 
--- a number is written as itself, and never refused
+-- a number of 32 bits is written as itself, and never refused
 abbrev pub writes_number : ℕ → Result Value NotANumber → Type 0
-writes_number n result = MatchResult result (λ value. view value ≡ number (unsigned n)) (λ _. ⊥)
+writes_number n result = (n < 2 ^ 32) × MatchResult result (λ value. view value ≡ number (unsigned n)) (λ _. ⊥)
 
 -- a number of 32 bits is read as itself, and nothing else is read
 abbrev pub reads_number : Value → Result ℕ NotANumber → Type 0
-reads_number value result = MatchResult result (λ n. option_and_then as_u64 (as_number (view value)) ≡ Some n) (λ _. (n : ℕ) → n < 2 ^ 32 → option_and_then as_u64 (as_number (view value)) ≢ Some n)
+reads_number value result = MatchResult result (λ n. (n < 2 ^ 32) × (option_and_then as_u64 (as_number (view value)) ≡ Some n)) (λ _. (n : ℕ) → n < 2 ^ 32 → option_and_then as_u64 (as_number (view value)) ≢ Some n)

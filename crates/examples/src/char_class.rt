@@ -1,5 +1,5 @@
 //! Classes of characters, as `[a-zA-Z0-9_]`.
-ghost use Rattle.std.specs.Prelude.{◌≡◌, not, ◌&&◌, ◌||◌, IfOk, [], true};
+ghost use Rattle.std.specs.Prelude.{◌≡◌, not, ◌&&◌, ◌||◌, IfOk, true};
 ghost use Rattle.rangemap.specs.Ranges.{IsCanonOfPoints, same_ranges};
 ghost use Rattle.rangemap.specs.Sets.{AreNonEmptyRanges};
 ghost use Rattle.examples.specs.Characters.{characters, has, is_word};

@@ -6,12 +6,12 @@ use Rattle.std.specs.Option.{option_eq}
 use Rattle.std.specs.List.{find}
 use Rattle.std.specs.Cmp.{IsTotalOrder}
 use Rattle.std.specs.Iterator.{Yields}
-use Rattle.std.specs.List.{All, AllByRecursion}
+use Rattle.std.specs.List.{All, AllByRecursion, AllZip}
 use Rattle.std.proofs.lemmas.List.Elements.{recursion_from_All}
 use Rattle.std.specs.declared.alloc.AllocError.{AllocError}
 use Rattle.rangemap_core.specs.Ranges.{RangeKind, AreGaps, IsCanonical, IsStorable, covering, covers, unit_eq, value_at, with_unit}
 use Rattle.rangemap_containers.specs.Histories.{IsUndefinedOn}
-use Rattle.rangemap_core.specs.MadeRanges.{AreSame, IsSame, GivesRange, TakesRange}
+use Rattle.rangemap_core.specs.MadeRanges.{IsSame, GivesRange, TakesRange}
 use Rattle.rangemap_core.specs.engine.Endpoints.{IsPlaced, EndpointOf}
 use Rattle.rangemap_core.specs.engine.Places.{place_cmp}
 use Rattle.rangemap_core.specs.laws.Orders.{eq_le, eq_turn, itself, le_Equal, le_Less, le_eq, lt_eq, turn}
@@ -143,7 +143,7 @@ rest_canonical k [] left can = can
 rest_canonical k (t ∷ taken) left can = rest_canonical k taken left can.2
 
 module _ {K X : Type 0} (k : RangeKind K X) where
-  taken_same : (all : List X) (items : List X) (left : List X) → Yields (GivesRange k) all (map Ok items) left → (taken : List X) × (all ≡ taken ++ left) × AreSame k taken items
+  taken_same : (all : List X) (items : List X) (left : List X) → Yields (GivesRange k) all (map Ok items) left → (taken : List X) × (all ≡ taken ++ left) × AllZip (IsSame k) taken items
   taken_same all [] left y = ([], y, tt)
   taken_same all (s ∷ items) left y =
       let rest = taken_same y.0 items left y.2 in
@@ -245,4 +245,4 @@ gaps_collected {k = k} p list q {items} {result} loop {collected} alike none =
     let asks = loop.asks in
     let taken = taken_same k asks.start collected asks.left (subst (λ xs. Yields (GivesRange k) asks.start xs asks.left) alike asks.so_far) in
     let ended : asks.left ≡ [] = (subst (λ answer. GivesRange k asks.left answer asks.new) none asks.step).0 in
-    same_gaps p (map (λ pair. pair.0) list) loop.all collected q loop.are (subst (λ xs. AreSame k xs collected) (sym (sym asks.is ∙ taken.1 ∙ (ap (λ xs. taken.0 ++ xs) ended ∙ append-nil taken.0))) taken.2)
+    same_gaps p (map (λ pair. pair.0) list) loop.all collected q loop.are (subst (λ xs. AllZip (IsSame k) xs collected) (sym (sym asks.is ∙ taken.1 ∙ (ap (λ xs. taken.0 ++ xs) ended ∙ append-nil taken.0))) taken.2)

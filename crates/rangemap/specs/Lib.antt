@@ -10,6 +10,7 @@ pub use Rattle.rangemap_core.specs.Operators
 pub use Rattle.rangemap_core.specs.Segments
 pub use Rattle.rangemap_core.specs.Sets
 pub use Rattle.rangemap_core.specs.Shown
+pub use Rattle.rangemap_core.specs.operations.Places
 pub use Rattle.rangemap_unions.specs.Items
 pub use Rattle.rangemap_formats.specs.Faults
 pub use Rattle.rangemap_formats.specs.Json

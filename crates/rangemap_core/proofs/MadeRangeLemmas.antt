@@ -1,5 +1,5 @@
 -- How an iterator that makes the ranges it gives comes to its end.
-use Rattle.std.proofs.Common.{arith, ◌≢◌, ◌<◌, List, [], ◌∷◌, length, Option, Some, None, IfSome, Result, Ok, Err, IsOk, ap, refl}
+use Rattle.std.proofs.Common.{arith, ◌≢◌, ◌<◌, List, [], ◌∷◌, length, Option, Some, None, Result, Ok, Err, ap, refl}
 use Rattle.std.specs.Iterator.{MakesProgress, Yields, at_most}
 use Rattle.std.specs.declared.alloc.AllocError.{AllocError}
 use Rattle.rangemap_core.specs.MadeRanges.{GivesNext, GivesRange}

@@ -2,15 +2,12 @@
 //!
 //! A step is asked of a key only where a greater or smaller key was seen, which is a condition of
 //! the step: so nothing here steps past the last key of a type.
-ghost use Rattle.std.specs.Prelude.{◌≡◌};
-ghost use Rattle.rangemap_core.specs.engine.Endpoints.{IsAskedAt, endpoint_of, is_before};
-ghost use Rattle.rangemap_core.specs.engine.ClosedPlaces.{closed_end_place};
+ghost use Rattle.rangemap_core.specs.engine.Endpoints.{IsAskedAt, endpoint_of};
 ghost use Rattle.rangemap_core.specs.Ranges.{closed};
 
 use crate::kind::{Endpoint, Kind, Touch};
 use crate::std_ext::StepFns;
 use std::alloc::AllocError;
-use std::cmp::Ordering;
 use std::marker::PhantomData;
 use std::ops::RangeInclusive;
 
@@ -66,15 +63,12 @@ impl<K: Ord + Clone, StepFnsT: StepFns<K>> Kind<RangeInclusive<K>> for Closed<St
         let start = second.start();
         StepFnsT::known(end);
         StepFnsT::known(start);
-        match end.cmp(start) {
-            Ordering::Less => {
-                if StepFnsT::add_one(end).cmp(start).is_lt() {
-                    Touch::Apart
-                } else {
-                    Touch::Touching
-                }
-            }
-            _ => Touch::NotBefore,
+        if end.cmp(start).is_ge() {
+            Touch::NotBefore
+        } else if StepFnsT::add_one(end).cmp(start).is_lt() {
+            Touch::Apart
+        } else {
+            Touch::Touching
         }
     }
 

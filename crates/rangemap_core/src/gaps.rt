@@ -1,5 +1,5 @@
 //! The parts of a range that no stored range covers, whatever keeps the ranges.
-ghost use Rattle.std.specs.Prelude.{◌≡◌, ◌≢◌, ◌++◌, [], Bool, false, true, IfOk, IfSome, IsOk, List, None as NoneWord, Ok as OkWord, OnErr, OnOk, length, map};
+ghost use Rattle.std.specs.Prelude.{◌≡◌, ◌≢◌, ◌++◌, [], Bool, IfOk, IfSome, IsOk, List, None as NoneWord, Ok as OkWord, OnErr, OnOk, length, map};
 ghost use Rattle.std.specs.Iterator.{Drains, IsFinite, UpTo, at_most};
 ghost use Rattle.std.specs.Iterator.SizeHint.{IsWithinCount};
 ghost use Rattle.std.specs.Map.Iter.{TakesFirst};

@@ -6,7 +6,8 @@ use Rattle.rangemap_core.specs.Ranges.{RangeKind, IsStorable, IsCanonical, same_
 use Rattle.rangemap_core.specs.engine.Endpoints.{EndpointOf, IsPlaced}
 use Rattle.rangemap_core.specs.engine.Places.{place_cmp}
 use Rattle.rangemap_core.specs.laws.Orders.{itself}
-use Rattle.rangemap_formats.specs.Json.{EndsWith, Follows}
+use Rattle.rangemap_formats.specs.Entries.{Follows}
+use Rattle.rangemap_formats.specs.Json.{EndsWith}
 use Rattle.rangemap_core.proofs.EqualListLemmas.{IsSamePair, from_same, same_gap}
 
 -- a list that is not empty ends with an item

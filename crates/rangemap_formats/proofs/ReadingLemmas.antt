@@ -3,16 +3,17 @@ use Rattle.std.proofs.Common.{arith, ◌≡◌, ℕ, zero, suc, ◌<◌, Bool, t
 use Rattle.std.specs.Cmp.{IsEquivalence}
 use Rattle.std.specs.Cmp as order
 use Rattle.std.specs.declared.cmp.Ordering.TheVariants.{Equal}
-use Rattle.std.specs.List.{AllByRecursion, slice_get}
+use Rattle.std.specs.List.{slice_get}
 use Rattle.serde_json.specs.declared.value.Value.{Value}
 use Rattle.rangemap_formats.specs.declared.json.Form.{Form}
 use Rattle.rangemap_formats.specs.declared.json.Form.TheVariants.{Any, Canonical}
 use Rattle.rangemap_formats.specs.declared.json.ReadError.{ReadError}
 use Rattle.rangemap_formats.specs.declared.json.ReadError.TheVariants.{NotAList, BadEntry, BadKey, BadValue, EmptyRange, OutOfMemory, OutOfOrder, Uncoalesced}
-use Rattle.rangemap_core.specs.Ranges.{RangeKind, IsStorable, IsCanonical, IsCanonOf, nothing, override, override_all, same_pairs, value_at}
+use Rattle.rangemap_core.specs.Ranges.{RangeKind, AreStorable, IsStorable, IsCanonical, IsCanonOf, nothing, override, override_all, same_pairs, value_at}
 use Rattle.rangemap_core.specs.engine.Endpoints.{EndpointOf, IsPlaced}
 use Rattle.rangemap_core.specs.engine.Intervals.{IsInterval, goes_past, reaches}
-use Rattle.rangemap_formats.specs.Json.{Accepts, Breaks, EndsWith, Follows, IsEntryFault, IsFirstFault, IsInserted, IsRead, IsToBeInserted, Reader, RefusesToRead, list_of}
+use Rattle.rangemap_formats.specs.Entries.{Breaks, Follows, IsEntryFault}
+use Rattle.rangemap_formats.specs.Json.{Accepts, EndsWith, IsFirstFault, IsInserted, IsRead, IsToBeInserted, Reader, RefusesToRead, list_of}
 use Rattle.rangemap_formats.proofs.LastPairLemmas.{before_as_twin, before_as_twin_back, canonical_more, equal_as_twin, follows_as_twin, last_storable, same_last, touches_as_twin_back}
 use Rattle.rangemap_core.proofs.CanonLemmas.{Overrides-last}
 use Rattle.rangemap_core.proofs.EqualListLemmas.{IsSamePair}
@@ -47,7 +48,7 @@ module _ {K X V E : Type 0} (k : RangeKind K X) {end_place : X → Option K} {pa
     canon = subst (IsCanonOf k eq nothing) (sym is) (own k p eq e [] tt);
   }
 
-  storable_more : (list : List (X × V)) (pair : X × V) → AllByRecursion (λ a. IsStorable k a.0) list → IsStorable k pair.0 → AllByRecursion (λ a. IsStorable k a.0) (list ++ pair ∷ [])
+  storable_more : (list : List (X × V)) (pair : X × V) → AreStorable k list → IsStorable k pair.0 → AreStorable k (list ++ pair ∷ [])
   storable_more [] pair a n = (n, tt)
   storable_more (b ∷ list) pair a n = (a.0, storable_more list pair a.1 n)
 

@@ -2,7 +2,7 @@
 use Rattle.std.proofs.Common.{◌≡◌, ℕ, zero, suc, Bool, true, false, List, [], ◌∷◌, ◌++◌, take, Option, Some, Result, Ok, Err, Equal, refl, sym, ap, subst, ◌∙◌, is_le, true≢false}
 use Rattle.std.specs.Prelude.{⊤}
 use Rattle.std.specs.Cmp.{IsEquivalence}
-use Rattle.std.specs.List.{AllByRecursion, AllZip, slice_get}
+use Rattle.std.specs.List.{AllZip, slice_get}
 use Rattle.std.specs.Cmp.Derive.{both_true}
 use Rattle.serde_json.specs.declared.value.Value.{Value}
 use Rattle.rangemap_formats.specs.declared.json.Form.{Form}
@@ -11,14 +11,14 @@ use Rattle.rangemap_formats.specs.declared.json.Part.{Part}
 use Rattle.rangemap_formats.specs.declared.json.Part.TheVariants.{Start, End}
 use Rattle.rangemap_formats.specs.declared.json.ReadError.{ReadError}
 use Rattle.rangemap_formats.specs.declared.json.ReadError.TheVariants.{NotAList, BadEntry, BadKey, BadValue, EmptyRange, OutOfMemory, OutOfOrder, Uncoalesced}
-use Rattle.rangemap_core.specs.Ranges.{RangeKind, IsStorable, IsCanonical, nothing, override_all, same_pairs, unit_eq}
+use Rattle.rangemap_core.specs.Ranges.{RangeKind, AreStorable, IsStorable, IsCanonical, nothing, override_all, same_pairs, unit_eq}
 use Rattle.rangemap_core.specs.laws.Comparisons.{same_pairs_equiv}
 use Rattle.rangemap_formats.specs.laws.Entries.{map_end, map_start, map_value, set_end, set_start}
 use Rattle.rangemap_core.specs.engine.Endpoints.{EndpointOf, IsPlaced}
 use Rattle.rangemap_core.specs.engine.Places.{place_cmp}
-use Rattle.rangemap_core.specs.laws.Orders.{itself}
 use Rattle.rangemap_core.specs.engine.Stretch.{Every}
-use Rattle.rangemap_formats.specs.Json.{Accepts, EndsWith, Follows, IsBadKey, IsBadValue, IsEmptyEntry, IsFirstFault, IsForm, IsFunctional, IsMisshaped, IsOutOfOrder, IsRead, IsReading, IsRefusedForMemoryAlone, IsUnambiguous, IsUncoalesced, IsWritten, Reader, RefusesToRead, KeysReadBack, ReadsBack, Writer, map_entry, map_reader, map_writer, set_reader, set_writer}
+use Rattle.rangemap_formats.specs.Entries.{Follows, IsUnambiguous}
+use Rattle.rangemap_formats.specs.Json.{Accepts, EndsWith, IsBadKey, IsBadValue, IsEmptyEntry, IsFirstFault, IsForm, IsMisshaped, IsOutOfOrder, IsRead, IsReading, IsRefusedForMemoryAlone, IsUncoalesced, IsWritten, Reader, ReadsAlike, RefusesToRead, KeysReadBack, ReadsBack, Writer, map_entry, map_reader, map_writer, set_reader, set_writer}
 use Rattle.rangemap_formats.proofs.LastPairLemmas.{last_storable, same_last}
 use Rattle.rangemap_core.proofs.StoredLemmas.{all_storable}
 use Rattle.rangemap_core.proofs.EqualListLemmas.{IsSamePair, canonical_by_same, same_gap, to_same}
@@ -54,7 +54,7 @@ module _ {K X V : Type 0} (k : RangeKind K X) (eq : V → V → Bool) where
 
 -- the forms, by the ranges of the pairs
 module _ {K X V F : Type 0} (k : RangeKind K X) {end_place : X → Option K} {part : EndpointOf X → EndpointOf X → X} (p : IsPlaced k end_place part) (eq : V → V → Bool) (e : IsEquivalence eq) (r : Reader K V F) where
-  every : (bs : List (X × V)) → AllByRecursion (λ b. IsStorable k b.0) bs → Every (λ b. IsStorable k b.0) bs
+  every : (bs : List (X × V)) → AreStorable k bs → Every (λ b. IsStorable k b.0) bs
   every [] s = tt
   every (b ∷ bs) s = (s.0, every bs s.1)
 
@@ -62,7 +62,7 @@ module _ {K X V F : Type 0} (k : RangeKind K X) {end_place : X → Option K} {pa
   storable_by Any bs s = every bs s
   storable_by Canonical bs s = all_storable _ eq bs s
 
-  all_stored : (bs : List (X × V)) → Every (λ b. IsStorable k b.0) bs → AllByRecursion (λ b. IsStorable k b.0) bs
+  all_stored : (bs : List (X × V)) → Every (λ b. IsStorable k b.0) bs → AreStorable k bs
   all_stored [] s = tt
   all_stored (b ∷ bs) s = (s.0, all_stored bs s.1)
 
@@ -259,13 +259,13 @@ module _ {K X V F : Type 0} (k : RangeKind K X) {end_place : X → Option K} {pa
   abbrev source : Writer K V F
   source = record { shape = r.shape; key = turned r.key; value = turned r.value }
 
-  keys_back : IsFunctional r.key → KeysReadBack k (turned r.key) r.key
+  keys_back : ReadsAlike (λ a b. k.cmp a b ≡ Equal) r.key → KeysReadBack k (turned r.key) r.key
   unfolding turned
-  keys_back key_once x key v h answer n = (x, key_once v answer (Ok x) n h, itself p.total x)
+  keys_back alike x key v h answer n = alike v x h answer n
 
-  values_again : IsFunctional r.value → (x : V) (v s t c s' t' c' : Value) → r.shape v s t c → turned r.value x (Ok c) → r.shape v s' t' c' → (answer : Result V F) → r.value c' answer → (y : V) × (answer ≡ Ok y) × (eq x y ≡ true)
+  values_again : ReadsAlike (λ a b. eq a b ≡ true) r.value → (x : V) (v s t c s' t' c' : Value) → r.shape v s t c → turned r.value x (Ok c) → r.shape v s' t' c' → (answer : Result V F) → r.value c' answer → (y : V) × (answer ≡ Ok y) × (eq x y ≡ true)
   unfolding turned
-  values_again value_once x v s t c s' t' c' g h j answer n = (x, value_once c' answer (Ok x) n (u.value v s t c s' t' c' g j (Ok x) h), e.refl x)
+  values_again alike x v s t c s' t' c' g h j answer n = alike c' x (u.value v s t c s' t' c' g j (Ok x) h) answer n
 
   written : (ps : List (X × V)) (vs : List Value) → AllZip (IsRead k r) ps vs → AllZip (IsWritten k source) ps vs
   unfolding turned
@@ -279,6 +279,6 @@ module _ {K X V F : Type 0} (k : RangeKind K X) {end_place : X → Option K} {pa
 
   -- what may be read as pairs that are accepted is refused for want of memory alone
   pub refused_for_memory : (v : Value) (form : Form) (error : ReadError F) → RefusesToRead k r eq form v error → IsRefusedForMemoryAlone k r eq form v error
-  refused_for_memory v form error n key_once value_once ps h accepted =
-      refused k p eq e source r (λ v s t c h. h) u.start u.end (keys_back key_once) (values_again value_once) ps v form accepted
+  refused_for_memory v form error n keys_alike values_alike ps h accepted =
+      refused k p eq e source r (λ v s t c h. h) u.start u.end (keys_back keys_alike) (values_again values_alike) ps v form accepted
       (record { entries = h.entries; is_list = h.is_list; written = written ps h.entries h.read }) error n

@@ -1,6 +1,6 @@
 -- The JSON form of a list of pairs: what is written of it, and what is read and refused of a value.
 -- What a function of the caller may answer is a relation between what it is given and the answer.
-use Rattle.std.specs.Prelude.{◌≡◌, ℕ, ⊤, ◌⊎◌, Bool, true, false, List, [], ◌∷◌, ◌++◌, take, Option, Some, None, slice_get, Result, Ok, Err}
+use Rattle.std.specs.Prelude.{◌≡◌, ℕ, ⊤, ◌⊎◌, Bool, true, List, [], ◌∷◌, ◌++◌, take, Option, Some, None, slice_get, Result, Ok, Err}
 use Rattle.std.specs.List.{AllByRecursion, AllZip}
 use Rattle.std.specs.declared.cmp.Ordering.TheVariants.{Equal}
 use Rattle.serde_json.specs.declared.value.Value.{Value, out-Value}
@@ -13,7 +13,7 @@ use Rattle.rangemap_formats.specs.declared.json.ReadError.{ReadError}
 use Rattle.rangemap_formats.specs.declared.json.ReadError.TheVariants.{NotAList, BadEntry, BadKey, BadValue, EmptyRange, OutOfMemory, OutOfOrder, Uncoalesced}
 use Rattle.rangemap_formats.specs.declared.json.WriteError.{WriteError}
 use Rattle.rangemap_formats.specs.declared.json.WriteError.TheVariants.{Caller, OutOfMemory as NoMemory}
-use Rattle.rangemap_core.specs.Ranges.{RangeKind, IsStorable, IsCanonical, IsCanonOf, nothing, override_all, same_pairs}
+use Rattle.rangemap_core.specs.Ranges.{RangeKind, AreStorable, IsStorable, IsCanonical, IsCanonOf, nothing, override_all, same_pairs}
 
 -- the items of a value that is a list
 abbrev pub items_in : Value-F Value → Option (List Value)
@@ -54,15 +54,9 @@ pub record Reader (K V E : Type 0) : Type 1 where
   pub key : Value → Result K E → Type 0
   pub value : Value → Result V E → Type 0
 
--- whatever is given, there is one answer at most
-abbrev pub IsFunctional : {P R : Type 0} → (P → R → Type 0) → Type 0
-IsFunctional {P} {R} gives = (part : P) (one other : R) → gives part one → gives part other → one ≡ other
-
--- an entry has one start and one end, and what is read for its value is fixed
-pub record IsUnambiguous {K V E : Type 0} (r : Reader K V E) : Type 0 where
-  pub start : (v s t c s' t' c' : Value) → r.shape v s t c → r.shape v s' t' c' → s ≡ s'
-  pub end : (v s t c s' t' c' : Value) → r.shape v s t c → r.shape v s' t' c' → t ≡ t'
-  pub value : (v s t c s' t' c' : Value) → r.shape v s t c → r.shape v s' t' c' → (answer : Result V E) → r.value c answer → r.value c' answer
+-- what may be read of a part is read of it each time, up to equality
+abbrev pub ReadsAlike : {X E : Type 0} → (X → X → Type 0) → (Value → Result X E → Type 0) → Type 0
+ReadsAlike {X} {E} same read = (part : Value) (x : X) → read part (Ok x) → (answer : Result X E) → read part answer → (y : X) × (answer ≡ Ok y) × same x y
 
 -- ---- writing
 
@@ -154,7 +148,7 @@ module _ {K X V E : Type 0} (k : RangeKind K X) (r : Reader K V E) where
   module _ (eq : V → V → Bool) where
     -- what is asked of the pairs read: that their ranges may be stored, and in the canonical form that they are a canonical list
     abbrev pub Accepts : Form → List (X × V) → Type 0
-    Accepts Any pairs = AllByRecursion (λ pair. IsStorable k pair.0) pairs
+    Accepts Any pairs = AreStorable k pairs
     Accepts Canonical pairs = IsCanonical k eq pairs
 
     -- the list is the canonical list of pairs that were read of the entries and are accepted, inserted in order
@@ -171,7 +165,7 @@ module _ {K X V E : Type 0} (k : RangeKind K X) (r : Reader K V E) where
       pub inserted : IsInserted form entries list
       pub same : form ≡ Canonical → same_pairs k eq inserted.pairs list ≡ true
 
-    -- where the form is canonical, the entry's range does not lie wholly behind the last of the pairs read before
+    -- the entry was read as a range that may be stored, which does not lie wholly behind the last of the pairs read before
     abbrev pub IsOutOfOrder : List (X × V) → Value → Type 0
     IsOutOfOrder before v = (pair last : X × V) × IsRead pair v × IsStorable k pair.0 × EndsWith before last × (k.IsBefore last.0 pair.0 → ⊥)
 
@@ -206,38 +200,12 @@ module _ {K X V E : Type 0} (k : RangeKind K X) (r : Reader K V E) where
     RefusesToRead form v (OutOfOrder at) = (form ≡ Canonical) × IsFirstFault form v at IsOutOfOrder
     RefusesToRead form v (Uncoalesced at) = (form ≡ Canonical) × IsFirstFault form v at IsUncoalesced
 
-    -- Where the functions answer alike each time, a value that has the shape, whose parts they all accept and whose pairs the form
-    -- accepts, is refused for want of memory alone.
+    -- Where the functions read each time, as an equal key or value, what they may read, a value that has the shape, whose parts may
+    -- all be read and whose pairs the form accepts, is refused for want of memory alone.
     abbrev pub IsRefusedForMemoryAlone : Form → Value → ReadError E → Type 0
-    IsRefusedForMemoryAlone form v error = IsFunctional r.key → IsFunctional r.value → (pairs : List (X × V)) → IsReadOf pairs v → Accepts form pairs → error ≡ OutOfMemory
-
-  -- a fault of the entry at the place, whatever comes before it
-  abbrev pub IsEntryFault : ℕ → Value → ReadError E → Type 0
-  IsEntryFault at v NotAList = ⊥
-  IsEntryFault at v (BadEntry place) = (place ≡ at) × IsMisshaped v
-  IsEntryFault at v (BadKey place part fault) = (place ≡ at) × IsBadKey part fault v
-  IsEntryFault at v (BadValue place fault) = (place ≡ at) × IsBadValue fault v
-  IsEntryFault at v (EmptyRange place) = (place ≡ at) × IsEmptyEntry v
-  IsEntryFault at v OutOfMemory = ⊥
-  IsEntryFault at v (OutOfOrder place) = ⊥
-  IsEntryFault at v (Uncoalesced place) = ⊥
-
-module _ {K X V : Type 0} (k : RangeKind K X) (eq : V → V → Bool) where
-  -- the pair may stand behind the last of a canonical list
-  pub record Follows (last pair : X × V) : Type 0 where
-    pub before : k.IsBefore last.0 pair.0
-    pub differs : k.Touches last.0 pair.0 → eq last.1 pair.1 ≡ false
-
-  -- it may not, by its order or since the two would be one
-  abbrev pub Breaks : {E : Type 0} → ℕ → X × V → X × V → ReadError E → Type 0
-  Breaks at last pair NotAList = ⊥
-  Breaks at last pair (BadEntry place) = ⊥
-  Breaks at last pair (BadKey place part fault) = ⊥
-  Breaks at last pair (BadValue place fault) = ⊥
-  Breaks at last pair (EmptyRange place) = ⊥
-  Breaks at last pair OutOfMemory = ⊥
-  Breaks at last pair (OutOfOrder place) = (place ≡ at) × (k.IsBefore last.0 pair.0 → ⊥)
-  Breaks at last pair (Uncoalesced place) = (place ≡ at) × k.IsBefore last.0 pair.0 × k.Touches last.0 pair.0 × (eq last.1 pair.1 ≡ true)
+    IsRefusedForMemoryAlone form v error =
+        ReadsAlike (λ a b. k.cmp a b ≡ Equal) r.key → ReadsAlike (λ a b. eq a b ≡ true) r.value
+        → (pairs : List (X × V)) → IsReadOf pairs v → Accepts form pairs → error ≡ OutOfMemory
 
 -- ---- what the functions of maps and of sets make of parts
 

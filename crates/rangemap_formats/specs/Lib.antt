@@ -1,4 +1,5 @@
 pub mod Faults
 pub mod Texts
 pub mod Json
+pub mod Entries
 pub mod laws

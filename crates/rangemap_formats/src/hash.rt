@@ -1,6 +1,6 @@
 //! What a hasher is fed of the pairs of a store.
 ghost use Rattle.std.specs.Prelude.{◌≡◌, fold};
-ghost use Rattle.rangemap_core.specs.Hashes.{pair_fed, pairs_fed};
+ghost use Rattle.rangemap_core.specs.Hashes.{pairs_fed};
 
 use rangemap_core::cursor::Cursor;
 use rangemap_core::key_range::KeyRange;

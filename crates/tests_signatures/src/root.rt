@@ -1,5 +1,4 @@
 //! Root items: traits, errors, macros.
-ghost use Rattle.std.specs.Prelude.{◌≡◌};
 ghost use Rattle.rangemap.specs.Steps.{HasGreater, HasSmaller};
 
 use rangemap::{

@@ -1,7 +1,8 @@
 -- Entries of maps and of sets are read in one way at most.
 use Rattle.std.proofs.Common.{◌≡◌, ap, subst, Result}
 use Rattle.serde_json.specs.declared.value.Value.{Value}
-use Rattle.rangemap_formats.specs.Json.{IsUnambiguous, list_of, map_entry, map_reader, set_entry, set_reader}
+use Rattle.rangemap_formats.specs.Entries.{IsUnambiguous}
+use Rattle.rangemap_formats.specs.Json.{list_of, map_entry, map_reader, set_entry, set_reader}
 
 pub map_start : (v s t c s' t' c' : Value) → map_entry v s t c → map_entry v s' t' c' → s ≡ s'
 map_start v s t c s' t' c' g h =

@@ -2,7 +2,8 @@
 ghost use Rattle.std.specs.Prelude.{◌≡◌, IfErr, IfOk, MatchOption, OnOk};
 ghost use Rattle.serde_json.specs.declared.value.Value.{Value as Json};
 ghost use Rattle.rangemap_core.specs.Clones.{KeysCloneFaithfully, ValuesCloneFaithfully};
-ghost use Rattle.rangemap_formats.specs.Json.{Breaks, EndsWith, Follows, IsEntryFault, IsRead, IsReading, IsRefusedForMemoryAlone, IsUnambiguous, Reader, RefusesToRead};
+ghost use Rattle.rangemap_formats.specs.Entries.{Breaks, Follows, IsEntryFault, IsUnambiguous};
+ghost use Rattle.rangemap_formats.specs.Json.{EndsWith, IsRead, IsReading, IsRefusedForMemoryAlone, Reader, RefusesToRead};
 ghost use Rattle.rangemap_core.specs.Ranges.{IsStorable};
 ghost use Rattle.rangemap_formats.specs.declared.json.Form.TheVariants.{Canonical as CanonicalWord};
 

@@ -1,5 +1,5 @@
 //! What `overlaps` and `overlapping` tell of the keys of a range.
-ghost use Rattle.std.specs.Prelude.{◌≡◌, ◌<◌, ◌↔◌, [], IsTrue, length, nat_lt};
+ghost use Rattle.std.specs.Prelude.{◌≡◌, ◌↔◌, [], IsTrue, length, nat_lt};
 ghost use Rattle.rangemap_laws.specs.DefinedIn.{IsDefinedIn};
 ghost use Rattle.rangemap_containers.specs.Histories.{IsUndefinedOn};
 ghost use Rattle.rangemap_core.specs.Ranges.{overlapped, value_at};

@@ -1,5 +1,5 @@
 use Rattle.std.proofs.Common.{arith, refl, sym, subst}
-use Rattle.rangemap_formats.specs.Json.{Follows}
+use Rattle.rangemap_formats.specs.Entries.{Follows}
 use Rattle.rangemap_formats.proofs.LastPairLemmas.{ends_with, one_last}
 use Rattle.rangemap_formats.proofs.json.reading.check_form.Goals as goal
 

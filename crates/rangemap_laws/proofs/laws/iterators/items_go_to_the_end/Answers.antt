@@ -1,4 +1,4 @@
-use Rattle.rangemap_laws.specs.IteratorEnds.{first_taken, last_taken, range_given, range_tried}
+use Rattle.rangemap_laws.proofs.EndLemmas.{first_taken, last_taken, range_given, range_tried}
 use Rattle.rangemap_laws.proofs.laws.iterators.items_go_to_the_end.Goals as goal
 
 pub returns-clause-first : goal.returns-clause-first
