@@ -13,3 +13,4 @@ pub mod OverLemmas
 pub mod TouchLemmas
 pub mod HalvesLemmas
 pub mod EndLemmas
+pub mod IterLemmas

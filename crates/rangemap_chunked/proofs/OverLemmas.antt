@@ -2,7 +2,7 @@
 use Rattle.std.proofs.Common.{arith, ◌≡◌, ℕ, zero, suc, ◌+◌, ◌-◌, ◌<◌, ◌≤◌, Bool, false, List, [], ◌∷◌, ◌++◌, length, take, drop, get_or, Option, Some, None, refl, sym, ap, ◌∙◌, subst, append_assoc, append-nil, length-append, length-drop, add-one, Less, is_gt}
 use Rattle.std.proofs.Math.ListN.{set}
 use Rattle.std.proofs.Math.Seq.{drop-cons}
-use Rattle.std.proofs.lemmas.List.{drop-drop, drop_at, get_or-drop, get_or_default, length-take-le, take-append-drop, take-take, take_at}
+use Rattle.std.proofs.lemmas.List.{drop-drop, drop_at, get_or-drop, get_or-set_same, get_or_default, length-take-le, take-append-drop, take-take, take_at}
 use Rattle.std.specs.Prelude.{IfSome}
 use Rattle.std.specs.Cmp.{IsEquivalence}
 use Rattle.rangemap_core.specs.Ranges.{RangeKind, IsCanonical, IsStorable, value_at}
@@ -59,7 +59,7 @@ module _ {X : Type 0} where
   set_length (x ∷ xs) (suc n) y = ap suc (set_length xs n y)
 
 -- the chunks between two places were taken out, with that at the second where it was empty
-pub record IsCut {X : Type 0} (old new : List (List X)) (from last : ℕ) : Type 0 where
+record IsCut {X : Type 0} (old new : List (List X)) (from last : ℕ) : Type 0 where
   pub whole_is : whole new ≡ whole (take from old) ++ whole (drop last old)
   pub before : take from new ≡ take from old
   pub longer : from ≤ length new
@@ -79,7 +79,7 @@ module _ {X : Type 0} (old new : List (List X)) (from last : ℕ) (order : from 
     cut_longer : from ≤ length new
     cut_longer = let all = ap length is in let sum = length-append (take from old) rest in omega (arith, all, sum, front_length)
 
-  pub cut_through : length (get_or old last []) ≡ 0 → new ≡ take from old ++ drop (last + 1) old → IsCut old new from last
+  cut_through : length (get_or old last []) ≡ 0 → new ≡ take from old ++ drop (last + 1) old → IsCut old new from last
   cut_through none is = record {
     whole_is = ap whole is ∙ whole_append (take from old) (drop (last + 1) old) ∙ whole_empty old last (get_or old last []) bound (get_or_default old last [] (get_or old last []) bound) none (whole (take from old));
     before = cut_before (drop (last + 1) old) is;
@@ -87,13 +87,20 @@ module _ {X : Type 0} (old new : List (List X)) (from last : ℕ) (order : from 
     filled = λ h. subst AreFilled (sym (cut_behind (drop (last + 1) old) is)) h;
   }
 
-  pub cut_up_to : 0 < length (get_or old last []) → new ≡ take from old ++ drop last old → IsCut old new from last
+  cut_up_to : 0 < length (get_or old last []) → new ≡ take from old ++ drop last old → IsCut old new from last
   cut_up_to some is = record {
     whole_is = ap whole is ∙ whole_append (take from old) (drop last old);
     before = cut_before (drop last old) is;
     longer = cut_longer (drop last old) is;
     filled = λ h. subst AreFilled (sym (cut_behind (drop last old) is ∙ drop-cons old last [] bound)) (some, subst (λ n. AreFilled (drop n old)) (add-one last) h);
   }
+
+-- The first chunk was changed, those between were taken out, and of the last what is left stays.
+pub record IsOver {X : Type 0} (old new : List (List X)) (at last : ℕ) (first_new last_new : List X) : Type 0 where
+  pub longer : at < length new
+  pub whole_is : whole new ≡ whole (take at old) ++ (first_new ++ (last_new ++ whole (drop (suc last) old)))
+  pub front : take (at + 1) new ≡ take (at + 1) (set (set old at first_new) last last_new)
+  pub behind : AreFilled old → AreFilled (drop (at + 1) new)
 
 module _ {X : Type 0} (chunks : List (List X)) (at last : ℕ) (order : at < last) (bound : last < length chunks) where
   abbrev pub between : List (List X)
@@ -169,6 +176,29 @@ module _ {X : Type 0} (chunks : List (List X)) (at last : ℕ) (order : at < las
         (λ i. whole (changed_front i) ++ whole (changed_back i))
         ∙ ap (λ xs. xs ++ (last_new ++ whole (drop (suc last) chunks))) (whole_append (take at chunks) (first_new ∷ []) ∙ ap (λ xs. whole (take at chunks) ++ xs) (append-nil first_new))
         ∙ append_assoc (whole (take at chunks)) first_new (last_new ++ whole (drop (suc last) chunks))
+
+    module _ (items new : List (List X)) (items_is : items ≡ after_change) where
+      last_is : get_or items last [] ≡ last_new
+      last_is = ap (λ ps. get_or ps last []) items_is ∙ get_or-set_same (set chunks at first_new) last last_new [] (subst (λ n. last < n) (sym (set_length chunks at first_new)) bound)
+
+      within : last < length items
+      within = subst (λ n. last < n) (sym (ap length items_is ∙ set_length (set chunks at first_new) last last_new ∙ set_length chunks at first_new)) bound
+
+      over : IsCut items new (at + 1) last → IsOver chunks new at last first_new last_new
+      over cut = record {
+        longer = let more = cut.longer in omega (arith, more);
+        whole_is = cut.whole_is ∙ (λ i. whole (take (at + 1) (items_is i)) ++ whole (drop last (items_is i))) ∙ changed_whole;
+        front = cut.before ∙ ap (take (at + 1)) items_is;
+        behind = λ filled. cut.filled (subst AreFilled (sym (ap (drop (last + 1)) items_is ∙ changed_behind)) (Every-drop_n _ (suc last) chunks filled));
+      }
+
+      -- the last chunk goes with those between, since nothing is left of it
+      pub over_through : length last_new ≡ 0 → new ≡ take (at + 1) items ++ drop (last + 1) items → IsOver chunks new at last first_new last_new
+      over_through none is = over (cut_through items new (at + 1) last (omega (arith, order)) within (ap length last_is ∙ none) is)
+
+      -- it stays, with what is left of it
+      pub over_up_to : 0 < length last_new → new ≡ take (at + 1) items ++ drop last items → IsOver chunks new at last first_new last_new
+      over_up_to some is = over (cut_up_to items new (at + 1) last (omega (arith, order)) within (subst (λ xs. 0 < length xs) (sym last_is) some) is)
 
     pub new_length : (new : List (List X)) → whole new ≡ whole (take at chunks) ++ (first_new ++ (last_new ++ whole (drop (suc last) chunks))) → length (whole new) ≡ length (whole (take at chunks)) + (length first_new + (length last_new + length (whole (drop (suc last) chunks))))
     new_length new is =

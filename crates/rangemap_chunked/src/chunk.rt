@@ -9,7 +9,7 @@ ghost use Rattle.rangemap_core.specs.Clones.{KeysCloneFaithfully, ValuesCloneFai
 ghost use Rattle.rangemap_core.specs.Ranges.{IsCanonical, IsCanonOf, overlapped, same_pairs, value_at};
 ghost use Rattle.rangemap_sorted.specs.Changes.{IsChanged, grown};
 
-use crate::moves::insert_reserved;
+use crate::vec_ext::insert_reserved;
 use rangemap_core::key_range::KeyRange;
 use rangemap_core::kind::Kind;
 use rangemap_sorted::entries::changes;
@@ -166,6 +166,7 @@ impl<R: KeyRange, V: Eq + Clone, A: Allocator> Chunk<R, V, A> {
         pairs.reserve(1)?;
         pairs.push_reserved(others.remove(place));
         let Ok(()) = changes::change::<Q, R, V, A>(pairs, range, value) else {
+            // The pair goes back to its place in `other`, which has the room that it left.
             if let Some(pair) = pairs.pop() {
                 insert_reserved(others, place, pair);
             }

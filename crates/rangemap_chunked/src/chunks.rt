@@ -1,6 +1,4 @@
 //! The store in chunks.
-ghost use Rattle.std.specs.Prelude.{◌≡◌};
-
 use crate::changes::{insert_into, remove_from};
 use crate::chunk::Chunk;
 use crate::into_iter::IntoIter;

@@ -89,7 +89,6 @@ impl<'a, R, V, A: Allocator> Cursor for Iter<'a, R, V, A> {
         self.back.take_first()
     }
 
-    #[tactic(auto, using(crate::proofs::ChunkLemmas::whole_append))]
     fn take_last(&mut self) -> Option<(&'a R, &'a V)> {
         if let Some(pair) = self.back.take_last() {
             return Some(pair);

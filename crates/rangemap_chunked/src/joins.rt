@@ -3,7 +3,7 @@ ghost use Rattle.std.specs.Prelude.{◌≡◌, true, false, ◌+◌, ◌<◌, �
 ghost use Rattle.rangemap_chunked.specs.Chunks.{AreFilled, whole};
 
 use crate::chunk::Chunk;
-use crate::moves::insert_reserved;
+use crate::vec_ext::insert_reserved;
 use rangemap_sorted::splice::cut;
 use std::alloc::Allocator;
 

@@ -8,9 +8,9 @@ mod chunks;
 pub mod into_iter;
 pub mod iter;
 mod joins;
-mod moves;
 mod overlapping;
 mod search;
+mod vec_ext;
 mod wide;
 
 pub use chunks::{Chunks, SIZE};

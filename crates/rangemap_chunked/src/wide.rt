@@ -80,8 +80,8 @@ pub fn change_over<Q: Kind<R>, R: KeyRange, V: Eq + Clone, A: Allocator>(
     later.give_room_back(usize::MAX);
     let after = first.len();
     // The last chunk goes with those between where nothing is left of it.
-    let gone = if later.len() == 0 { last + 1 } else { last };
-    cut(chunks, at + 1, gone);
+    let kept_from = if later.len() == 0 { end } else { last };
+    cut(chunks, at + 1, kept_from);
     Ok(Counts { before, after })
 }
 

@@ -13,6 +13,10 @@ use Rattle.rangemap_sorted.proofs.OverlapLemmas.{of_not}
 use Rattle.rangemap_core.proofs.StoredLemmas.{all_storable}
 use Rattle.rangemap_core.proofs.SearchLemmas.{covering_if, covering_none, covering_unless, point_of_starts, starts_of_parted, starts_parted}
 
+-- there are as many starts as pairs
+pub as_many : {K X V : Type 0} (k : RangeKind K X) (xs : List (X × V)) (starts : List K) → starts ≡ starts_of k xs → length starts ≡ length xs
+as_many {X = X} {V = V} k xs starts same = ap length same ∙ length-map xs (λ (b : X × V). k.start b.0)
+
 module _ {K X V : Type 0} {k : RangeKind K X} {end_place : X → Option K} {part : EndpointOf X → EndpointOf X → X} (p : IsPlaced k end_place part) (eq : V → V → Bool)
     (x : K) (xs : List (X × V)) (canonical : IsCanonical k eq xs) where
   pub starts_rise : IsPartitionedBy (is_up_to k.cmp x) (starts_of k xs)

@@ -13,6 +13,3 @@ mod sorted_vec;
 pub mod splice;
 
 pub use sorted_vec::SortedVec;
-
-#[cfg(test)]
-mod asks;

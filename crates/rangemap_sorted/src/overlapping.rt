@@ -4,7 +4,7 @@
 //! pairs are looked at one by one, and only if more are met is there a search. A change searches among
 //! the starts. A query's iterator searches over whole pairs, by std's `partition_point`: it does not know
 //! the kind of its ranges, which the search among starts needs.
-ghost use Rattle.std.specs.Prelude.{◌≡◌, ◌<◌, ◌≤◌, true, false, length, take_while};
+ghost use Rattle.std.specs.Prelude.{◌≡◌, ◌≤◌, true, length, take_while};
 ghost use Rattle.std.specs.List.Sorted.{IsPartitionedBy};
 ghost use Rattle.rangemap_core.specs.engine.Intervals.{is_begun};
 ghost use Rattle.rangemap_core.specs.Ranges.{IsCanonical, overlapped};
@@ -201,12 +201,10 @@ fn overlap_end<Q: Kind<R>, R: KeyRange, V: Eq>(pairs: &[(R, V)], query: &R, star
         && Q::is_before(Endpoint::Start(&pairs[start + CHANGE_SCAN].0), end)
     {
         known_ends::<Q, R>(query);
-        let near = starts_up_to::<Q, R, V>(pairs, query.end());
-        if near == 0 {
-            return start;
-        }
-        let begins = Q::is_before(Endpoint::Start(&pairs[near - 1].0), end);
-        return (near - usize::from(!begins)).max(start);
+        // There is one that starts no later than the query's end: the pair that was looked at.
+        let last = starts_up_to::<Q, R, V>(pairs, query.end()) - 1;
+        let begins = Q::is_before(Endpoint::Start(&pairs[last].0), end);
+        return last + usize::from(begins);
     }
     let mut at = start;
     'on: while at < pairs.len() {

@@ -1,5 +1,5 @@
 //! The search for a key among stored starts, by halving.
-ghost use Rattle.std.specs.Prelude.{◌≡◌, ◌+◌, ◌*◌, ◌^◌, ◌<◌, ◌≤◌, length};
+ghost use Rattle.std.specs.Prelude.{◌≡◌, ◌*◌, ◌^◌, ◌<◌, ◌≤◌, length};
 ghost use Rattle.std.specs.List.Sorted.{IsPartitionedBy};
 ghost use Rattle.rangemap_core.specs.Ranges.{IsCanonical};
 ghost use Rattle.rangemap_core.specs.engine.Shape.{PassesUpTo, is_up_to, starts_by_key};
@@ -47,7 +47,7 @@ pub fn count_up_to<'a, Q: Kind<R>, R: KeyRange + 'a, V>(
     let places = len.ilog2();
     let whole = 1usize << places;
     let mut base = 0;
-    if !key.cmp(probe.start(len - whole)).is_lt() {
+    if key.cmp(probe.start(len - whole)).is_ge() {
         base = len - whole + 1;
     }
     let mut half = whole;
@@ -59,7 +59,7 @@ pub fn count_up_to<'a, Q: Kind<R>, R: KeyRange + 'a, V>(
             half >>= 1;
         }
         let next = base + half;
-        if !key.cmp(probe.start(next - 1)).is_lt() {
+        if key.cmp(probe.start(next - 1)).is_ge() {
             base = next;
         }
     }

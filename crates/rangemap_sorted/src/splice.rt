@@ -119,12 +119,8 @@ const TURN_ROOM_BYTES: usize = 4096;
 // Where the room is too small, blocks change places while both sides have so many values.
 const TURN_BLOCK: usize = 32;
 
-// Moves the values behind the first `count` to the front, in order, each of them once, but for the
-// smallest.
-//
-// It is a turn where blocks of `count` follow; what is left then changes places with values that go.
-// Where these take under 16 bytes, std's turn has the others wait instead if they fit its room: two
-// long copies are quicker than one by steps that short.
+// Moves the values behind the first `count` to the front, in order: each once, but where three or more
+// go that take under 16 bytes together.
 fn close_gap<T>(list: &mut [T], count: usize)
     requires some { 0 < count }
     requires in_bounds { count ≤ length list.old }
@@ -141,6 +137,9 @@ fn close_gap<T>(list: &mut [T], count: usize)
         }
         return;
     }
+    // A turn, where blocks of `count` follow; what is left then changes places with values that go.
+    // Where these take under 16 bytes, std's turn has the others wait instead if they fit its room: two
+    // long copies are quicker than one by steps that short.
     let left = (list.len() - count) % count;
     let turned = list.len() - left;
     let (blocks, last) = list.split_at_mut(turned);

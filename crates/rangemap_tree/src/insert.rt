@@ -83,16 +83,18 @@ fn left_side<K: Ord + Clone, V: Eq, A: Allocator + Clone>(
     requires faithful_keys { KeysCloneFaithfully K.is_clone K.cmp }
     ensures { IfOk result (λ left. IsLeft K.cmp V.eq pairs.now range.now value.now left.start left.cut) }
 {
-    let neither = Left {
-        start: None,
-        cut: None,
-    };
     let Some((first, first_value)) = last_before(pairs, near, range) else {
-        return Ok(neither);
+        return Ok(Left {
+            start: None,
+            cut: None,
+        });
     };
     let reach = first.end.cmp(&range.start);
     if reach.is_lt() {
-        return Ok(neither);
+        return Ok(Left {
+            start: None,
+            cut: None,
+        });
     }
     if *first_value == *value {
         return Ok(Left {
@@ -100,15 +102,12 @@ fn left_side<K: Ord + Clone, V: Eq, A: Allocator + Clone>(
             cut: None,
         });
     }
-    if reach.is_gt() {
-        let start = first.start.clone()?;
-        let end = range.start.clone()?;
-        return Ok(Left {
-            start: None,
-            cut: Some(start..end),
-        });
-    }
-    Ok(neither)
+    let cut = if reach.is_gt() {
+        Some(first.start.clone()?..range.start.clone()?)
+    } else {
+        None
+    };
+    Ok(Left { start: None, cut })
 }
 
 // The last pair that starts before the range, where `near` is the last that starts no later than
@@ -123,9 +122,9 @@ fn last_before<'a, K: Ord, V: Eq, A: Allocator>(
     requires range { (half_open K.cmp).IsNonEmpty range.now }
     ensures { (rest : List _) × TakesLast deref_pair (before K.cmp range.now.start pairs.now) result rest }
 {
-    let (last, last_value) = near?;
+    let (last, _) = near?;
     if last.start.cmp(&range.start).is_lt() {
-        Some((last, last_value))
+        near
     } else {
         pairs.last_up_to(Bound::Excluded(&range.start))
     }
@@ -147,15 +146,17 @@ fn right_side<K: Ord + Clone, V: Eq + Clone, A: Allocator + Clone>(
     requires faithful_values { ValuesCloneFaithfully V.is_clone V.eq }
     ensures { IfOk result (λ right. IsRight K.cmp V.eq pairs.now range.now value.now right.end right.piece) }
 {
-    let neither = Right {
-        end: None,
-        piece: None,
-    };
     let Some((last, last_value)) = near else {
-        return Ok(neither);
+        return Ok(Right {
+            end: None,
+            piece: None,
+        });
     };
     if last.end.cmp(&range.end).is_le() {
-        return Ok(neither);
+        return Ok(Right {
+            end: None,
+            piece: None,
+        });
     }
     if *last_value == *value {
         return Ok(Right {
@@ -163,12 +164,10 @@ fn right_side<K: Ord + Clone, V: Eq + Clone, A: Allocator + Clone>(
             piece: None,
         });
     }
-    if last.start.cmp(&range.end).is_lt() {
-        let rest = piece_behind(range, last, last_value)?;
-        return Ok(Right {
-            end: None,
-            piece: Some(rest),
-        });
-    }
-    Ok(neither)
+    let piece = if last.start.cmp(&range.end).is_lt() {
+        Some(piece_behind(range, last, last_value)?)
+    } else {
+        None
+    };
+    Ok(Right { end: None, piece })
 }

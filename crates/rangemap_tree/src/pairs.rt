@@ -53,10 +53,10 @@ impl<'a, K, V> Cursor for Pairs<'a, K, V> {
     }
 
     fn take_last(&mut self) -> Option<(&'a Range<K>, &'a V)> {
-        if let Some(entries) = &mut self.entries {
-            if let Some((_, pair)) = entries.next_back() {
-                return Some((&pair.0, &pair.1));
-            }
+        if let Some(entries) = &mut self.entries
+            && let Some((_, pair)) = entries.next_back()
+        {
+            return Some((&pair.0, &pair.1));
         }
         self.ahead.take()
     }

@@ -1,8 +1,9 @@
 -- What the first and the last range of an item say of it.
-use Rattle.std.proofs.Common.{◌≡◌, Ordering, Bool, true, false, List, ◌∷◌, Option, Some, None, refl, sym, ap, ◌∙◌, true≢false, Less, Equal, is_lt}
+use Rattle.std.proofs.Common.{◌≡◌, Ordering, Bool, true, false, List, ◌∷◌, Option, Some, None, refl, sym, ap, subst, ◌∙◌, true≢false, Less, Equal, is_lt}
 use Rattle.std.specs.Cmp as order
 use Rattle.rangemap_core.specs.MadeRanges.{TakesRange}
 use Rattle.rangemap_core.specs.Ranges.{RangeKind}
+use Rattle.rangemap_core.specs.Sets.{AreNonEmptyRanges}
 use Rattle.rangemap_core.specs.engine.Intervals.{IsBetween, IsInterval, goes_past}
 use Rattle.rangemap_core.specs.engine.Intervals as intervals
 use Rattle.rangemap_core.specs.laws.Orders.{le_not_lt, not_lt}
@@ -44,3 +45,11 @@ module _ {K X P : Type 0} {k : RangeKind K X} {has_end : Bool} {l : RangePlaces 
 pub ends_compared : {K X P : Type 0} {k : RangeKind K X} {l : RangePlaces P X} {at cut : K → P} (p : HasPlaces k l at cut) {cmp : K → K → Ordering} (keys : (x y : K) → k.cmp x y ≡ cmp x y)
     → (r s : X) (x y : K) → x ≡ k.end r → y ≡ k.end s → cmp x y ≡ l.order (l.end_place r) (l.end_place s)
 ends_compared {k = k} p {cmp = cmp} keys r s x y x-is y-is = (λ i. cmp (x-is i) (y-is i)) ∙ sym (keys (k.end r) (k.end s)) ∙ p.ends r s
+
+-- where no item is empty, the first of them starts before it ends
+pub in_order : {K X P : Type 0} {k : RangeKind K X} {l : RangePlaces P X} {at cut : K → P} (p : HasPlaces k l at cut) (first last : X) (items rest : List X)
+    → items ≡ l.between first last ∷ rest → AreNonEmptyRanges k items → l.order (l.start_place first) (l.end_place last) ≡ Less
+in_order {k = k} {l = l} p first last items rest is all =
+    let item = l.between first last in
+    let made : AreNonEmptyRanges k (item ∷ rest) = subst (AreNonEmptyRanges k) is all in
+    subst (λ q. l.order q (l.end_place last) ≡ Less) (p.between_start_place first last) (subst (λ q. l.order (l.start_place item) q ≡ Less) (p.between_end_place first last) (p.non_empty item made.0))

@@ -1,5 +1,5 @@
 //! What two lists of ranges have in common.
-ghost use Rattle.std.specs.Prelude.{◌≡◌, ◌≢◌, ◌&&◌, List, [], false, IfOk, IfSome, IsOk, MatchOption, None as NoneWord, OnErr, Some as SomeWord, length, true};
+ghost use Rattle.std.specs.Prelude.{◌≡◌, ◌≢◌, ◌&&◌, List, [], IfOk, IfSome, IsOk, MatchOption, None as NoneWord, OnErr, Some as SomeWord, length, true};
 ghost use Rattle.std.specs.Iterator.{UpTo, at_most};
 ghost use Rattle.std.specs.Iterator.SizeHint.{IsWithinCount};
 ghost use Rattle.std.specs.Ordering.{is_lt};
@@ -100,8 +100,9 @@ impl<C: Peek> Iterator for Intersection<C> {
 
     ghost remaining = { λ s. at_most (length s) };
 
-    /// Returns the next item, made of clones. Where one was refused, which those of numbers and their
-    /// like never are, it says so once, as `Some(Err(AllocError))`, and has ended then.
+    /// Returns the next range, made of clones. Where a clone was refused, which those of numbers,
+    /// characters and references never are, it says so once, as `Some(Err(AllocError))`, and has ended
+    /// then.
     fn next(&mut self) -> Option<Result<C::Range, AllocError>> {
         let item = self.try_next();
         if item.is_err() {
@@ -172,9 +173,9 @@ impl<C: Peek> Sides<C> {
             self.right.peek(),
         ) {
             let (left, right) = (C::parts(&left_pair).0, C::parts(&right_pair).0);
-            let ends_first = left.end().cmp(right.end()).is_lt();
-            let part = common_part(left, right, ends_first)?;
-            if ends_first {
+            let left_ends_first = left.end().cmp(right.end()).is_lt();
+            let part = common_part(left, right, left_ends_first)?;
+            if left_ends_first {
                 let _ = self.left.take_first();
             } else {
                 let _ = self.right.take_first();

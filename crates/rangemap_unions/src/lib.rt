@@ -10,7 +10,6 @@ mod intersection;
 mod item;
 pub mod laws;
 mod ranges;
-mod side;
 mod union;
 
 pub use intersection::Intersection;

@@ -11,7 +11,6 @@ ghost use Rattle.rangemap_unions.specs.Merged.{IsUnreached, items_left, left_fir
 
 use crate::item::between;
 use crate::ranges::Ranges;
-use crate::side;
 use rangemap_core::cursor::{Cursor, Peek};
 use rangemap_core::key_range::KeyRange;
 use std::alloc::AllocError;
@@ -109,8 +108,9 @@ impl<C: Peek> Iterator for Union<C> {
 
     ghost remaining = { λ s. at_most (length s) };
 
-    /// Returns the next item, made of clones. Where one was refused, which those of numbers and their
-    /// like never are, it says so once, as `Some(Err(AllocError))`, and has ended then.
+    /// Returns the next range, made of clones. Where a clone was refused, which those of numbers,
+    /// characters and references never are, it says so once, as `Some(Err(AllocError))`, and has ended
+    /// then.
     fn next(&mut self) -> Option<Result<C::Range, AllocError>> {
         let item = self.try_next();
         if item.is_err() {
@@ -137,13 +137,17 @@ fn is_left_first<C: Peek>(left: &mut C, right: &mut C) -> bool
     ensures same_right { C.left right.new ≡ C.left right.old }
 {
     match (left.peek(), right.peek()) {
-        (Some(p), Some(q)) => C::parts(&p).0.start().cmp(C::parts(&q).0.start()).is_lt(),
+        (Some(left_pair), Some(right_pair)) => {
+            let (left, right) = (C::parts(&left_pair).0, C::parts(&right_pair).0);
+            left.start().cmp(right.start()).is_lt()
+        }
         (Some(_), None) => true,
         (None, _) => false,
     }
 }
 
-// Takes the first of both, if it starts before `last` ends.
+// Takes the pair that comes first in either list, if its range starts before `last` ends, or, of
+// closed ranges, there.
 fn take_reached<C: Peek>(
     last: &C::Range,
     left: &mut C,
@@ -154,9 +158,21 @@ fn take_reached<C: Peek>(
         (λ first. (reaches C.Range.places last.now (shown_range C.given first) ≡ true) × (merged C.Range.places (ranges (C.left left.old)) (ranges (C.left right.old)) ≡ shown_range C.given first ∷ merged C.Range.places (ranges (C.left left.new)) (ranges (C.left right.new)))) }
 {
     if is_left_first(left, right) {
-        side::take_reached(last, left)
+        take_if_reached(last, left)
     } else {
-        side::take_reached(last, right)
+        take_if_reached(last, right)
+    }
+}
+
+// Takes the first pair of one list, if its range starts before `last` ends, or, of closed ranges, there.
+fn take_if_reached<C: Peek>(last: &C::Range, side: &mut C) -> Option<(C::Given, C::GivenValue)>
+    ensures { MatchOption result
+        ((C.left side.new ≡ C.left side.old) × IsUnreached C.Range.places last.now (ranges (C.left side.old)))
+        (λ first. (reaches C.Range.places last.now (shown_range C.given first) ≡ true) × (ranges (C.left side.old) ≡ shown_range C.given first ∷ ranges (C.left side.new))) }
+{
+    match side.peek() {
+        Some(first) if last.reaches(C::parts(&first).0.start()) => side.take_first(),
+        _ => None,
     }
 }
 
@@ -169,10 +185,7 @@ where
     C::Value: 'b,
     ensures { result.now ≡ shown_range C.given (unwrap_or last.now first.now) }
 {
-    match last {
-        Some(last) => C::parts(last).0,
-        None => C::parts(first).0,
-    }
+    C::parts(last.as_ref().unwrap_or(first)).0
 }
 
 // Goes on as far as the next range overlaps what is joined, which goes from the first range up to
@@ -199,8 +212,8 @@ fn join<C: Peek>(
 // Both lists, and what of them is joined already.
 #[derive(Drop)]
 struct Sides<C: Cursor<Range: KeyRange>> {
-    // The range with which the item starts whose clones were refused, and then that with which it
-    // ends, if it is another one.
+    // Of the item at which a clone was refused: the pair that it starts with, and the one that it
+    // ends with, if that is another.
     first: Option<(C::Given, C::GivenValue)>,
     last: Option<(C::Given, C::GivenValue)>,
     left: C,
@@ -242,6 +255,7 @@ impl<C: Peek> Sides<C> {
         match between(C::parts(&first).0, last_of::<C>(&first, &last)) {
             Ok(item) => Ok(item),
             Err(error) => {
+                // What was begun is kept, so that it may be asked for again.
                 self.first = Some(first);
                 self.last = last;
                 Err(error)

@@ -1,5 +1,5 @@
 //! The stretch of a list of pairs that an insert replaces.
-ghost use Rattle.std.specs.Prelude.{◌≡◌, ◌-◌, true, false, None as NoneWord, Some as SomeWord, IfOk};
+ghost use Rattle.std.specs.Prelude.{◌≡◌, ◌-◌, false, None as NoneWord, Some as SomeWord, IfOk};
 ghost use Rattle.rangemap_core.specs.Clones.{KeysCloneFaithfully, ValuesCloneFaithfully};
 ghost use Rattle.rangemap_core.specs.engine.Endpoints.{IsAskedAt, endpoint_of};
 ghost use Rattle.rangemap_core.specs.engine.Places.{Spans};

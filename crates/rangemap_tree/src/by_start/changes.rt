@@ -88,10 +88,7 @@ impl<K: Ord + Drop, V: Drop, A: Allocator + Clone> ByStart<K, V, A> {
         let Some((key, (range, value))) = piece else {
             return Ok(());
         };
-        match self.put(key, range, value) {
-            Ok(_) => Ok(()),
-            Err(_) => Err(AllocError),
-        }
+        self.put(key, range, value).map_err(|_| AllocError)
     }
 
     /// Puts a pair in the place of those that start within its range, with what is left of the pair

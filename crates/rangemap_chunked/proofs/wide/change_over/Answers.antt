@@ -1,17 +1,18 @@
-use Rattle.std.proofs.Common.{arith, rules, ◌≡◌, ◌∙◌, ◌+◌, ◌-◌, ◌<◌, ◌++◌, [], Err, List, Less, Ok, OnErr, Result, Some, add-one, ap, drop, false, get_or, is_gt, length, refl, subst, suc, sym, take, true≢false}
+use Rattle.std.proofs.Common.{arith, rules, ◌≡◌, ◌∙◌, ℕ, ◌+◌, ◌-◌, ◌<◌, ◌≤◌, ◌++◌, [], Err, List, Less, Ok, OnErr, Result, Some, add-one, ap, drop, false, get_or, is_gt, length, refl, subst, suc, sym, take, true, true≢false}
 use Rattle.std.specs.Option.{IfSome}
 use Rattle.std.proofs.Math.ListN.{set}
-use Rattle.std.proofs.lemmas.List.{get_or-set_same, get_or_default}
+use Rattle.std.proofs.lemmas.List.{get_or_default}
 use Rattle.rangemap_core.specs.Ranges.{IsCanonical, IsStorable, overlapped, value_at}
 use Rattle.rangemap_core.specs.engine.Places.{place_cmp}
+use Rattle.rangemap_core.specs.engine.Shape.{Shape}
 use Rattle.rangemap_core.proofs.PlaceLemmas.{S}
 use Rattle.rangemap_core.proofs.SearchLemmas.{Every-at}
 use Rattle.rangemap_sorted.specs.Changes.{IsChanged}
-use Rattle.rangemap_chunked.specs.Chunks.{AreFilled, AreFilledBut, IsClearBehind, IsLastTouched, IsPastBehind, whole}
+use Rattle.rangemap_chunked.specs.Chunks.{AreFilled, AreFilledBut, IsClearBehind, IsLastTouched, IsPastBehind, chunk_by, whole}
 use Rattle.rangemap_chunked.proofs.ChunkLemmas.{Every-further}
 use Rattle.rangemap_chunked.proofs.CutLemmas.{canonical_chunk}
 use Rattle.rangemap_chunked.proofs.HalvesLemmas.{first_at, halves_changed, halves_kept, last_at}
-use Rattle.rangemap_chunked.proofs.OverLemmas.{IsCut, all_filled, changed_behind, changed_whole, count_less, count_more, cut_through, cut_up_to, kept_front, over_canonical, over_changed, set_length, still_filled, sums}
+use Rattle.rangemap_chunked.proofs.OverLemmas.{IsOver, all_filled, count_less, count_more, kept_front, over_canonical, over_changed, over_through, over_up_to, set_length, still_filled, sums}
 use Rattle.rangemap_chunked.proofs.StoreLemmas.{Every-drop_n, Every-set, Every-take_n, changed_fills, changed_length, chunk_changed, chunk_length, drop_set, if_some_weaker, set_same, take_set}
 use Rattle.rangemap_chunked.proofs.wide.change_over.Goals as goal
 use Rattle.rangemap_chunked.proofs.wide.change_over.Goals.{then-len-eq0, else-len-eq0}
@@ -20,6 +21,131 @@ use Rattle.rangemap_chunked.proofs.wide.change_over.Goals.{then-len-eq0, else-le
 on_err_where : {X E P : Type 0} (r : Result X E) → P → OnErr r P
 on_err_where (Ok x) p = tt
 on_err_where (Err e) p = p
+
+-- the last of several chunks
+last_after : (at end : ℕ) → at + 1 < end → at < end - 1
+last_after at end more = omega (arith, more)
+
+last_within : (at end n : ℕ) → at + 1 < end → end ≤ n → end - 1 < n
+last_within at end n more fits = omega (arith, more, fits)
+
+past_last : (at end : ℕ) → at + 1 < end → end ≡ end - 1 + 1
+past_last at end more = omega (arith, more)
+
+behind_last : (at end : ℕ) → at + 1 < end → end ≡ suc (end - 1)
+behind_last at end more = omega (arith, more)
+
+not_alone : (at end : ℕ) → at + 1 < end → end ≤ at + 1 → ⊥
+not_alone at end more alone = omega (arith, more, alone)
+
+positive : (n : ℕ) → (n ≡ 0 → ⊥) → 0 < n
+positive n some = omega (arith, some)
+
+up_to_last : (at end : ℕ) → at + 1 < end → at + 1 ≤ end - 1
+up_to_last at end more = omega (arith, more)
+
+up_to_end : (at end : ℕ) → at + 1 < end → at + 1 ≤ end
+up_to_end at end more = omega (arith, more)
+
+last_fits : (end n : ℕ) → end ≤ n → end - 1 ≤ n
+last_fits end n fits = omega (arith, fits)
+
+last_before_end : (at end : ℕ) → at + 1 < end → end - 1 < end
+last_before_end at end more = omega (arith, more)
+
+from_none : (n : ℕ) → 0 ≤ n
+from_none n = omega arith
+
+-- numbers of pairs
+fits : (n same more all most : ℕ) → n ≡ same → same + more + 1 ≤ all → all ≤ most → n ≤ most
+fits n same more all most is fewer within = omega (arith, is, fewer, within)
+
+grown_by : (after new old first n place more : ℕ) → after ≡ new → new ≤ old + 1 + more → old ≡ first → first ≤ n → after ≤ n + place + 1 + more
+grown_by after new old first n place more is growth same within = omega (arith, is, growth, same, within)
+
+grown_by_one : (after new old first n place : ℕ) → after ≡ new → new ≤ old + 2 → old ≡ first → first ≤ n → after ≤ n + place + 1 + 1
+grown_by_one after new old first n place is growth same within = omega (arith, is, growth, same, within)
+
+-- the place that was searched for in the last chunk
+touched : {G P V : Type 0} (s : Shape G P V) (r : G) (xs : List (List (G × V))) (last : ℕ) (d ys : List (G × V)) (place : ℕ) → last < length xs → ys ≡ get_or xs last d → IsLastTouched s r ys place → IsLastTouched s r (get_or xs last []) place
+touched s r xs last d ys place l is found = subst (λ zs. IsLastTouched s r zs place) (is ∙ get_or_default xs last d [] l) found
+
+-- the pairs before the last chunk, where these were lent
+before_last : {X : Type 0} (lent xs : List (List X)) (at last n : ℕ) → lent ≡ xs → n ≡ length (whole (take (last - at) (drop at lent))) → n ≡ length (whole (take (last - at) (drop at xs)))
+before_last lent xs at last n is counted = counted ∙ ap (λ ps. length (whole (take (last - at) (drop at ps)))) is
+
+-- the pairs that go are no more than there are
+fewer : (g : _) (c : goal.After-count g) → c.count.result + c.last_touched-place.result + 1 ≤ length (whole c.args.chunks.now.items)
+fewer g c =
+    let xs = c.args.chunks.now.items in
+    let at = c.args.at in
+    let last = c.args.end - 1 in
+    let order = last_after at c.args.end c.if-end-at.false in
+    let l = last_within at c.args.end (length xs) c.if-end-at.false c.requires.end in
+    let place = c.last_touched-place.result in
+    let found = touched (S g.met.Q.Kind.placed g.V.PartialEq.eq) c.args.range xs last c.index.result.now _ place l c.index.ensures c.last_touched-place.ensures in
+    count_less xs at last order l place found.in_bounds c.count.result (before_last _ xs at last _ c.deref.ensures.value c.count.ensures)
+
+-- the chunks after the change
+over : (g : _) (c : goal.After-cut g) → IsOver c.args.chunks.now.items c.cut.new.list.items c.args.at (c.args.end - 1) c.change_with.new.self (drop (c.last_touched-place.result + 1) (get_or c.args.chunks.now.items (c.args.end - 1) []))
+over g c =
+    let xs = c.args.chunks.now.items in
+    let at = c.args.at in
+    let last = c.args.end - 1 in
+    let order = last_after at c.args.end c.if-end-at.false in
+    let l = last_within at c.args.end (length xs) c.if-end-at.false c.requires.end in
+    let front = c.split_at_mut-front.result.0.now in
+    let back = c.split_at_mut-front.result.1.now in
+    let front_is = c.split_at_mut-front.ensures.front ∙ ap (take last) c.deref_mut.ensures.value in
+    let back_is = c.split_at_mut-front.ensures.back ∙ ap (drop last) c.deref_mut.ensures.value in
+    let all_is = sym (sym (ap length c.deref_mut.ensures.value) ∙ c.deref_mut.ensures.len) in
+    let new = c.change_with.new.self in
+    let left = c.give_room_back.new.self in
+    let rest = drop (c.last_touched-place.result + 1) (get_or xs last []) in
+    let left_is = c.give_room_back.ensures ∙ c.in_ok-change_with.ensures.rest ∙ ap (drop (c.last_touched-place.result + 1)) (last_at xs at last order l front back front_is back_is c.index-back-0.result []) in
+    let items = take c.args.chunks.now.len (set front at new ++ set back 0 left ++ drop (length (set front at new ++ set back 0 left)) xs) in
+    let items_is =
+    halves_changed xs at last order l front back front_is back_is (drop (length (set front at new ++ set back 0 left)) xs) c.args.chunks.now.len all_is new left
+    ∙ ap (λ (ys : List (g.row.R.Denot × g.row.V.Denot)). set (set xs at new) last ys) left_is in
+    let many = c.len-2.ensures ∙ ap length left_is in
+    elim c.if-len-eq0.branch [
+      | then-len-eq0 w ↦ over_through xs at last order l new rest items c.cut.new.list.items items_is (sym many ∙ w.if-len-eq0.true) (c.cut.ensures ∙ ap (λ n. take (at + 1) items ++ drop n items) (w.kept_from-is ∙ past_last at c.args.end c.if-end-at.false))
+      | else-len-eq0 w ↦ over_up_to xs at last order l new rest items c.cut.new.list.items items_is (subst (λ n. 0 < n) many (positive c.len-2.result w.if-len-eq0.false)) (c.cut.ensures ∙ ap (λ n. take (at + 1) items ++ drop n items) w.kept_from-is)
+    ]
+
+-- what the change of the first chunk makes, of its pairs and the one of the last that it reaches
+made : (g : _) (c : goal.After-cut g)
+    → IsChanged g.Q.Kind.kind g.V.PartialEq.eq (value_at g.Q.Kind.kind (get_or c.args.chunks.now.items c.args.at [] ++ take 1 (drop c.last_touched-place.result (get_or c.args.chunks.now.items (c.args.end - 1) [])))) c.args.range c.args.value c.change_with.new.self
+made g c =
+    let xs = c.args.chunks.now.items in
+    let at = c.args.at in
+    let last = c.args.end - 1 in
+    let order = last_after at c.args.end c.if-end-at.false in
+    let l = last_within at c.args.end (length xs) c.if-end-at.false c.requires.end in
+    let front = c.split_at_mut-front.result.0.now in
+    let back = c.split_at_mut-front.result.1.now in
+    let front_is = c.split_at_mut-front.ensures.front ∙ ap (take last) c.deref_mut.ensures.value in
+    let back_is = c.split_at_mut-front.ensures.back ∙ ap (drop last) c.deref_mut.ensures.value in
+    let here = first_at xs at last order l front back front_is back_is c.index-front-at.result [] in
+    let there = last_at xs at last order l front back front_is back_is c.index-back-0.result [] in
+    subst (λ (ys : List (g.row.R.Denot × g.row.V.Denot)). IsChanged g.Q.Kind.kind g.V.PartialEq.eq (value_at g.Q.Kind.kind ys) c.args.range c.args.value c.change_with.new.self) (λ i. here i ++ take 1 (drop c.last_touched-place.result (there i))) c.in_ok-change_with.ensures.ok
+
+-- the chunks where memory was refused
+kept : (g : _) (c : goal.After-from_residual-in_err-change_with g)
+    → take c.args.chunks.now.len (set c.split_at_mut-front.result.0.now c.args.at c.change_with.new.self ++ set c.split_at_mut-front.result.1.now 0 c.change_with.new.other ++ drop (length (set c.split_at_mut-front.result.0.now c.args.at c.change_with.new.self ++ set c.split_at_mut-front.result.1.now 0 c.change_with.new.other)) c.args.chunks.now.items) ≡ c.args.chunks.now.items
+kept g c =
+    let xs = c.args.chunks.now.items in
+    let at = c.args.at in
+    let last = c.args.end - 1 in
+    let order = last_after at c.args.end c.if-end-at.false in
+    let l = last_within at c.args.end (length xs) c.if-end-at.false c.requires.end in
+    let front = c.split_at_mut-front.result.0.now in
+    let back = c.split_at_mut-front.result.1.now in
+    let front_is = c.split_at_mut-front.ensures.front ∙ ap (take last) c.deref_mut.ensures.value in
+    let back_is = c.split_at_mut-front.ensures.back ∙ ap (drop last) c.deref_mut.ensures.value in
+    let all_is = sym (sym (ap length c.deref_mut.ensures.value) ∙ c.deref_mut.ensures.len) in
+    halves_kept xs at last order l front back front_is back_is (drop (length (set front at c.change_with.new.self ++ set back 0 c.change_with.new.other)) xs) c.args.chunks.now.len all_is c.change_with.new.self c.change_with.new.other
+    c.index-front-at.result c.index-back-0.result c.in_err-change_with.ensures.err.0 c.in_err-change_with.ensures.err.1
 
 pub offset_bounds-front-at : goal.offset_bounds-front-at
 offset_bounds-front-at g c =
@@ -33,51 +159,36 @@ offset_bounds-front-at g c =
 pub last_touched-place-requires-clause-filled : goal.last_touched-place-requires-clause-filled
 last_touched-place-requires-clause-filled g c =
     let xs = c.args.chunks.now.items in
-    subst (λ (ys : List (g.row.R.Denot × g.row.V.Denot)). 0 < length ys) (sym c.index.ensures) (Every-at (λ (ys : List (g.row.R.Denot × g.row.V.Denot)). 0 < length ys) xs c.requires.chunked.filled (c.args.end - 1) c.index.result.now (omega (arith, c.if-end-at.false, c.requires.end)))
+    let l = last_within c.args.at c.args.end (length xs) c.if-end-at.false c.requires.end in
+    subst (λ (ys : List (g.row.R.Denot × g.row.V.Denot)). 0 < length ys) (sym c.index.ensures) (Every-at (λ (ys : List (g.row.R.Denot × g.row.V.Denot)). 0 < length ys) xs c.requires.chunked.filled (c.args.end - 1) c.index.result.now l)
 
 pub last_touched-place-requires-clause-canonical : goal.last_touched-place-requires-clause-canonical
 last_touched-place-requires-clause-canonical g c =
+    let xs = c.args.chunks.now.items in
     let k = g.Q.Kind.kind in
     let eq = g.V.PartialEq.eq in
-    subst (IsCanonical k eq) (sym c.index.ensures) (canonical_chunk k eq c.args.chunks.now.items c.requires.chunked.canonical (c.args.end - 1) c.index.result.now (omega (arith, c.if-end-at.false, c.requires.end)))
+    let l = last_within c.args.at c.args.end (length xs) c.if-end-at.false c.requires.end in
+    subst (IsCanonical k eq) (sym c.index.ensures) (canonical_chunk k eq xs c.requires.chunked.canonical (c.args.end - 1) c.index.result.now l)
 
 pub count-requires : goal.count-requires
 count-requires g c =
     let xs = c.args.chunks.now.items in
     let at = c.args.at in
     let last = c.args.end - 1 in
+    let order = last_after at c.args.end c.if-end-at.false in
+    let l = last_within at c.args.end (length xs) c.if-end-at.false c.requires.end in
     let place = c.last_touched-place.result in
-    let order : at < last = omega (arith, c.if-end-at.false) in
-    let l : last < length xs = omega (arith, c.if-end-at.false, c.requires.end) in
-    let found : IsLastTouched (S g.met.Q.Kind.placed g.V.PartialEq.eq) c.args.range (get_or xs last []) place = subst (λ (ys : List (g.row.R.Denot × g.row.V.Denot)). IsLastTouched (S g.met.Q.Kind.placed g.V.PartialEq.eq) c.args.range ys place) (c.index.ensures ∙ get_or_default xs last c.index.result.now [] l) c.last_touched-place.ensures in
-    let less = count_less xs at last order l place found.in_bounds _ refl in
-    let same = ap (λ (ps : List (List (g.row.R.Denot × g.row.V.Denot))). length (whole (take (last - at) (drop at ps)))) c.deref.ensures.value in
-    omega (arith, less, same, c.requires.fits)
+    let found = touched (S g.met.Q.Kind.placed g.V.PartialEq.eq) c.args.range xs last c.index.result.now _ place l c.index.ensures c.last_touched-place.ensures in
+    fits _ _ place _ _ (before_last _ xs at last _ c.deref.ensures.value refl) (count_less xs at last order l place found.in_bounds _ refl) c.requires.fits
 
 pub overflow_add-before : goal.overflow_add-before
 overflow_add-before g c =
-    let xs = c.args.chunks.now.items in
-    let at = c.args.at in
-    let last = c.args.end - 1 in
-    let place = c.last_touched-place.result in
-    let order : at < last = omega (arith, c.if-end-at.false) in
-    let l : last < length xs = omega (arith, c.if-end-at.false, c.requires.end) in
-    let found : IsLastTouched (S g.met.Q.Kind.placed g.V.PartialEq.eq) c.args.range (get_or xs last []) place = subst (λ (ys : List (g.row.R.Denot × g.row.V.Denot)). IsLastTouched (S g.met.Q.Kind.placed g.V.PartialEq.eq) c.args.range ys place) (c.index.ensures ∙ get_or_default xs last c.index.result.now [] l) c.last_touched-place.ensures in
-    let n_is : c.count.result ≡ length (whole (take (last - at) (drop at xs))) = c.count.ensures ∙ ap (λ (ps : List (List (g.row.R.Denot × g.row.V.Denot))). length (whole (take (last - at) (drop at ps)))) c.deref.ensures.value in
-    let less = count_less xs at last order l place found.in_bounds c.count.result n_is in
+    let less = fewer g c in
     omega (arith, less, c.requires.fits)
 
 pub overflow_add-before-2 : goal.overflow_add-before-2
 overflow_add-before-2 g c =
-    let xs = c.args.chunks.now.items in
-    let at = c.args.at in
-    let last = c.args.end - 1 in
-    let place = c.last_touched-place.result in
-    let order : at < last = omega (arith, c.if-end-at.false) in
-    let l : last < length xs = omega (arith, c.if-end-at.false, c.requires.end) in
-    let found : IsLastTouched (S g.met.Q.Kind.placed g.V.PartialEq.eq) c.args.range (get_or xs last []) place = subst (λ (ys : List (g.row.R.Denot × g.row.V.Denot)). IsLastTouched (S g.met.Q.Kind.placed g.V.PartialEq.eq) c.args.range ys place) (c.index.ensures ∙ get_or_default xs last c.index.result.now [] l) c.last_touched-place.ensures in
-    let n_is : c.count.result ≡ length (whole (take (last - at) (drop at xs))) = c.count.ensures ∙ ap (λ (ps : List (List (g.row.R.Denot × g.row.V.Denot))). length (whole (take (last - at) (drop at ps)))) c.deref.ensures.value in
-    let less = count_less xs at last order l place found.in_bounds c.count.result n_is in
+    let less = fewer g c in
     omega (arith, less, c.requires.fits)
 
 pub change_with-requires-clause-in_bounds : goal.change_with-requires-clause-in_bounds
@@ -85,10 +196,10 @@ change_with-requires-clause-in_bounds g c =
     let xs = c.args.chunks.now.items in
     let at = c.args.at in
     let last = c.args.end - 1 in
+    let order = last_after at c.args.end c.if-end-at.false in
+    let l = last_within at c.args.end (length xs) c.if-end-at.false c.requires.end in
     let place = c.last_touched-place.result in
-    let order : at < last = omega (arith, c.if-end-at.false) in
-    let l : last < length xs = omega (arith, c.if-end-at.false, c.requires.end) in
-    let found : IsLastTouched (S g.met.Q.Kind.placed g.V.PartialEq.eq) c.args.range (get_or xs last []) place = subst (λ (ys : List (g.row.R.Denot × g.row.V.Denot)). IsLastTouched (S g.met.Q.Kind.placed g.V.PartialEq.eq) c.args.range ys place) (c.index.ensures ∙ get_or_default xs last c.index.result.now [] l) c.last_touched-place.ensures in
+    let found = touched (S g.met.Q.Kind.placed g.V.PartialEq.eq) c.args.range xs last c.index.result.now _ place l c.index.ensures c.last_touched-place.ensures in
     let front = c.split_at_mut-front.result.0.now in
     let back = c.split_at_mut-front.result.1.now in
     let front_is = c.split_at_mut-front.ensures.front ∙ ap (take last) c.deref_mut.ensures.value in
@@ -100,10 +211,10 @@ change_with-requires-clause-canonical g c =
     let xs = c.args.chunks.now.items in
     let at = c.args.at in
     let last = c.args.end - 1 in
+    let order = last_after at c.args.end c.if-end-at.false in
+    let l = last_within at c.args.end (length xs) c.if-end-at.false c.requires.end in
     let place = c.last_touched-place.result in
-    let order : at < last = omega (arith, c.if-end-at.false) in
-    let l : last < length xs = omega (arith, c.if-end-at.false, c.requires.end) in
-    let found : IsLastTouched (S g.met.Q.Kind.placed g.V.PartialEq.eq) c.args.range (get_or xs last []) place = subst (λ (ys : List (g.row.R.Denot × g.row.V.Denot)). IsLastTouched (S g.met.Q.Kind.placed g.V.PartialEq.eq) c.args.range ys place) (c.index.ensures ∙ get_or_default xs last c.index.result.now [] l) c.last_touched-place.ensures in
+    let found = touched (S g.met.Q.Kind.placed g.V.PartialEq.eq) c.args.range xs last c.index.result.now _ place l c.index.ensures c.last_touched-place.ensures in
     let stored : IsStorable g.Q.Kind.kind c.args.range = record { start_is_key = c.known_ends.ensures.start_is_key; end_is_key = c.known_ends.ensures.end_is_key; non_empty = c.requires.non_empty } in
     let front = c.split_at_mut-front.result.0.now in
     let back = c.split_at_mut-front.result.1.now in
@@ -111,86 +222,27 @@ change_with-requires-clause-canonical g c =
     let back_is = c.split_at_mut-front.ensures.back ∙ ap (drop last) c.deref_mut.ensures.value in
     let here = first_at xs at last order l front back front_is back_is c.index-front-at.result [] in
     let there = last_at xs at last order l front back front_is back_is c.index-back-0.result [] in
-    let both : get_or front at c.index-front-at.result ++ take 1 (drop place (get_or back 0 c.index-back-0.result)) ≡ get_or xs at [] ++ take 1 (drop place (get_or xs last [])) = λ i. here i ++ take 1 (drop place (there i)) in
-    subst (IsCanonical g.Q.Kind.kind g.V.PartialEq.eq) (sym both)
+    subst (IsCanonical g.Q.Kind.kind g.V.PartialEq.eq) (λ i. sym here i ++ take 1 (drop place (sym there i)))
     (over_canonical g.met.Q.Kind.placed g.met.V.Eq.laws xs c.requires.chunked c.args.range stored at last order l place found c.requires.past)
 
 pub returns-clause-in_bounds : goal.returns-clause-in_bounds
-returns-clause-in_bounds g c =
-    let xs = c.args.chunks.now.items in
-    let at = c.args.at in
-    let last = c.args.end - 1 in
-    let place = c.last_touched-place.result in
-    let order : at < last = omega (arith, c.if-end-at.false) in
-    let l : last < length xs = omega (arith, c.if-end-at.false, c.requires.end) in
-    let front = c.split_at_mut-front.result.0.now in
-    let back = c.split_at_mut-front.result.1.now in
-    let front_is = c.split_at_mut-front.ensures.front ∙ ap (take last) c.deref_mut.ensures.value in
-    let back_is = c.split_at_mut-front.ensures.back ∙ ap (drop last) c.deref_mut.ensures.value in
-    let all_is = sym (sym (ap length c.deref_mut.ensures.value) ∙ c.deref_mut.ensures.len) in
-    let new = c.change_with.new.self in
-    let left = c.give_room_back.new.self in
-    let rest = drop (place + 1) (get_or xs last []) in
-    let left_is = c.give_room_back.ensures ∙ c.in_ok-change_with.ensures.rest ∙ ap (drop (place + 1)) (last_at xs at last order l front back front_is back_is c.index-back-0.result []) in
-    let items_is =
-    halves_changed xs at last order l front back front_is back_is (drop (length (set front at new ++ set back 0 left)) xs) c.args.chunks.now.len all_is new left
-    ∙ ap (λ (ys : List (g.row.R.Denot × g.row.V.Denot)). set (set xs at new) last ys) left_is in
-    let items = take c.args.chunks.now.len (set front at new ++ set back 0 left ++ drop (length (set front at new ++ set back 0 left)) xs) in
-    let long : length items ≡ length xs = ap length items_is ∙ set_length (set xs at new) last rest ∙ set_length xs at new in
-    let now : get_or items last [] ≡ left = ap (λ (ps : List (List (g.row.R.Denot × g.row.V.Denot))). get_or ps last []) items_is ∙ get_or-set_same (set xs at new) last rest [] (subst (λ n. last < n) (sym (set_length xs at new)) l) ∙ sym left_is in
-    let cut : IsCut items c.cut.new.list.items (at + 1) last = elim c.if-len-eq0.branch [
-      | then-len-eq0 w ↦
-          let none : length left ≡ 0 = grind (arith, c.len-2.ensures, w.if-len-eq0.true) in
-          cut_through items c.cut.new.list.items (at + 1) last (omega (arith, order)) (omega (arith, long, l)) (ap length now ∙ none) (c.cut.ensures ∙ ap (λ n. take (at + 1) items ++ drop n items) w.gone-is)
-      | else-len-eq0 w ↦
-          let some : 0 < length (get_or items last []) = let same = ap length now in grind (arith, c.len-2.ensures, same, w.if-len-eq0.false) in
-          cut_up_to items c.cut.new.list.items (at + 1) last (omega (arith, order)) (omega (arith, long, l)) some (c.cut.ensures ∙ ap (λ n. take (at + 1) items ++ drop n items) w.gone-is)
-    ] in
-    omega (arith, cut.longer)
+returns-clause-in_bounds g c = (over g c).longer
 
 pub returns-clause-ok : goal.returns-clause-ok
 returns-clause-ok g c =
     let xs = c.args.chunks.now.items in
     let at = c.args.at in
     let last = c.args.end - 1 in
+    let order = last_after at c.args.end c.if-end-at.false in
+    let l = last_within at c.args.end (length xs) c.if-end-at.false c.requires.end in
     let place = c.last_touched-place.result in
-    let order : at < last = omega (arith, c.if-end-at.false) in
-    let l : last < length xs = omega (arith, c.if-end-at.false, c.requires.end) in
-    let found : IsLastTouched (S g.met.Q.Kind.placed g.V.PartialEq.eq) c.args.range (get_or xs last []) place = subst (λ (ys : List (g.row.R.Denot × g.row.V.Denot)). IsLastTouched (S g.met.Q.Kind.placed g.V.PartialEq.eq) c.args.range ys place) (c.index.ensures ∙ get_or_default xs last c.index.result.now [] l) c.last_touched-place.ensures in
+    let found = touched (S g.met.Q.Kind.placed g.V.PartialEq.eq) c.args.range xs last c.index.result.now _ place l c.index.ensures c.last_touched-place.ensures in
     let stored : IsStorable g.Q.Kind.kind c.args.range = record { start_is_key = c.known_ends.ensures.start_is_key; end_is_key = c.known_ends.ensures.end_is_key; non_empty = c.requires.non_empty } in
-    let front = c.split_at_mut-front.result.0.now in
-    let back = c.split_at_mut-front.result.1.now in
-    let front_is = c.split_at_mut-front.ensures.front ∙ ap (take last) c.deref_mut.ensures.value in
-    let back_is = c.split_at_mut-front.ensures.back ∙ ap (drop last) c.deref_mut.ensures.value in
-    let here = first_at xs at last order l front back front_is back_is c.index-front-at.result [] in
-    let there = last_at xs at last order l front back front_is back_is c.index-back-0.result [] in
-    let both : get_or front at c.index-front-at.result ++ take 1 (drop place (get_or back 0 c.index-back-0.result)) ≡ get_or xs at [] ++ take 1 (drop place (get_or xs last [])) = λ i. here i ++ take 1 (drop place (there i)) in
-    let all_is = sym (sym (ap length c.deref_mut.ensures.value) ∙ c.deref_mut.ensures.len) in
-    let new = c.change_with.new.self in
-    let left = c.give_room_back.new.self in
-    let rest = drop (place + 1) (get_or xs last []) in
-    let left_is = c.give_room_back.ensures ∙ c.in_ok-change_with.ensures.rest ∙ ap (drop (place + 1)) (last_at xs at last order l front back front_is back_is c.index-back-0.result []) in
-    let items_is =
-    halves_changed xs at last order l front back front_is back_is (drop (length (set front at new ++ set back 0 left)) xs) c.args.chunks.now.len all_is new left
-    ∙ ap (λ (ys : List (g.row.R.Denot × g.row.V.Denot)). set (set xs at new) last ys) left_is in
     let k = g.Q.Kind.kind in
     let eq = g.V.PartialEq.eq in
-    let made : IsChanged k eq (value_at k (get_or xs at [] ++ take 1 (drop place (get_or xs last [])))) c.args.range c.args.value new = subst (λ (ys : List (g.row.R.Denot × g.row.V.Denot)). IsChanged k eq (value_at k ys) c.args.range c.args.value new) both c.in_ok-change_with.ensures.ok in
-    let items = take c.args.chunks.now.len (set front at new ++ set back 0 left ++ drop (length (set front at new ++ set back 0 left)) xs) in
-    let long : length items ≡ length xs = ap length items_is ∙ set_length (set xs at new) last rest ∙ set_length xs at new in
-    let now : get_or items last [] ≡ left = ap (λ (ps : List (List (g.row.R.Denot × g.row.V.Denot))). get_or ps last []) items_is ∙ get_or-set_same (set xs at new) last rest [] (subst (λ n. last < n) (sym (set_length xs at new)) l) ∙ sym left_is in
-    let cut : IsCut items c.cut.new.list.items (at + 1) last = elim c.if-len-eq0.branch [
-      | then-len-eq0 w ↦
-          let none : length left ≡ 0 = grind (arith, c.len-2.ensures, w.if-len-eq0.true) in
-          cut_through items c.cut.new.list.items (at + 1) last (omega (arith, order)) (omega (arith, long, l)) (ap length now ∙ none) (c.cut.ensures ∙ ap (λ n. take (at + 1) items ++ drop n items) w.gone-is)
-      | else-len-eq0 w ↦
-          let some : 0 < length (get_or items last []) = let same = ap length now in grind (arith, c.len-2.ensures, same, w.if-len-eq0.false) in
-          cut_up_to items c.cut.new.list.items (at + 1) last (omega (arith, order)) (omega (arith, long, l)) some (c.cut.ensures ∙ ap (λ n. take (at + 1) items ++ drop n items) w.gone-is)
-    ] in
-    let whole_is = cut.whole_is ∙ (λ i. whole (take (at + 1) (items_is i)) ++ whole (drop last (items_is i))) ∙ changed_whole xs at last order l new rest in
-    let next : c.args.end ≡ suc last = omega (arith, c.if-end-at.false) in
-    subst (λ (ys : List (g.row.R.Denot × g.row.V.Denot)). IsChanged k eq (value_at k (whole xs)) c.args.range c.args.value ys) (sym whole_is)
-    (over_changed g.met.Q.Kind.placed g.met.V.Eq.laws xs c.requires.chunked c.args.range stored at last order l place found c.requires.past c.requires.before new c.args.value made
+    let next = behind_last at c.args.end c.if-end-at.false in
+    subst (λ (ys : List (g.row.R.Denot × g.row.V.Denot)). IsChanged k eq (value_at k (whole xs)) c.args.range c.args.value ys) (sym (over g c).whole_is)
+    (over_changed g.met.Q.Kind.placed g.met.V.Eq.laws xs c.requires.chunked c.args.range stored at last order l place found c.requires.past c.requires.before c.change_with.new.self c.args.value (made g c)
     (subst (λ n. IsPastBehind (S g.met.Q.Kind.placed eq) xs c.args.range n) next c.requires.behind)
     (subst (λ n. IfSome c.args.value (λ _. IsClearBehind (S g.met.Q.Kind.placed eq) xs c.args.range n)) next c.requires.clear))
 
@@ -199,46 +251,17 @@ returns-clause-filled g c =
     let xs = c.args.chunks.now.items in
     let at = c.args.at in
     let last = c.args.end - 1 in
-    let place = c.last_touched-place.result in
-    let order : at < last = omega (arith, c.if-end-at.false) in
-    let l : last < length xs = omega (arith, c.if-end-at.false, c.requires.end) in
-    let found : IsLastTouched (S g.met.Q.Kind.placed g.V.PartialEq.eq) c.args.range (get_or xs last []) place = subst (λ (ys : List (g.row.R.Denot × g.row.V.Denot)). IsLastTouched (S g.met.Q.Kind.placed g.V.PartialEq.eq) c.args.range ys place) (c.index.ensures ∙ get_or_default xs last c.index.result.now [] l) c.last_touched-place.ensures in
+    let order = last_after at c.args.end c.if-end-at.false in
+    let l = last_within at c.args.end (length xs) c.if-end-at.false c.requires.end in
     let stored : IsStorable g.Q.Kind.kind c.args.range = record { start_is_key = c.known_ends.ensures.start_is_key; end_is_key = c.known_ends.ensures.end_is_key; non_empty = c.requires.non_empty } in
-    let front = c.split_at_mut-front.result.0.now in
-    let back = c.split_at_mut-front.result.1.now in
-    let front_is = c.split_at_mut-front.ensures.front ∙ ap (take last) c.deref_mut.ensures.value in
-    let back_is = c.split_at_mut-front.ensures.back ∙ ap (drop last) c.deref_mut.ensures.value in
-    let here = first_at xs at last order l front back front_is back_is c.index-front-at.result [] in
-    let there = last_at xs at last order l front back front_is back_is c.index-back-0.result [] in
-    let both : get_or front at c.index-front-at.result ++ take 1 (drop place (get_or back 0 c.index-back-0.result)) ≡ get_or xs at [] ++ take 1 (drop place (get_or xs last [])) = λ i. here i ++ take 1 (drop place (there i)) in
-    let all_is = sym (sym (ap length c.deref_mut.ensures.value) ∙ c.deref_mut.ensures.len) in
     let new = c.change_with.new.self in
-    let left = c.give_room_back.new.self in
-    let rest = drop (place + 1) (get_or xs last []) in
-    let left_is = c.give_room_back.ensures ∙ c.in_ok-change_with.ensures.rest ∙ ap (drop (place + 1)) (last_at xs at last order l front back front_is back_is c.index-back-0.result []) in
-    let items_is =
-    halves_changed xs at last order l front back front_is back_is (drop (length (set front at new ++ set back 0 left)) xs) c.args.chunks.now.len all_is new left
-    ∙ ap (λ (ys : List (g.row.R.Denot × g.row.V.Denot)). set (set xs at new) last ys) left_is in
-    let k = g.Q.Kind.kind in
-    let eq = g.V.PartialEq.eq in
-    let made : IsChanged k eq (value_at k (get_or xs at [] ++ take 1 (drop place (get_or xs last [])))) c.args.range c.args.value new = subst (λ (ys : List (g.row.R.Denot × g.row.V.Denot)). IsChanged k eq (value_at k ys) c.args.range c.args.value new) both c.in_ok-change_with.ensures.ok in
-    let items = take c.args.chunks.now.len (set front at new ++ set back 0 left ++ drop (length (set front at new ++ set back 0 left)) xs) in
-    let long : length items ≡ length xs = ap length items_is ∙ set_length (set xs at new) last rest ∙ set_length xs at new in
-    let now : get_or items last [] ≡ left = ap (λ (ps : List (List (g.row.R.Denot × g.row.V.Denot))). get_or ps last []) items_is ∙ get_or-set_same (set xs at new) last rest [] (subst (λ n. last < n) (sym (set_length xs at new)) l) ∙ sym left_is in
-    let cut : IsCut items c.cut.new.list.items (at + 1) last = elim c.if-len-eq0.branch [
-      | then-len-eq0 w ↦
-          let none : length left ≡ 0 = grind (arith, c.len-2.ensures, w.if-len-eq0.true) in
-          cut_through items c.cut.new.list.items (at + 1) last (omega (arith, order)) (omega (arith, long, l)) (ap length now ∙ none) (c.cut.ensures ∙ ap (λ n. take (at + 1) items ++ drop n items) w.gone-is)
-      | else-len-eq0 w ↦
-          let some : 0 < length (get_or items last []) = let same = ap length now in grind (arith, c.len-2.ensures, same, w.if-len-eq0.false) in
-          cut_up_to items c.cut.new.list.items (at + 1) last (omega (arith, order)) (omega (arith, long, l)) some (c.cut.ensures ∙ ap (λ n. take (at + 1) items ++ drop n items) w.gone-is)
-    ] in
-    let behind = cut.filled (subst AreFilled (sym (ap (drop (last + 1)) items_is ∙ changed_behind xs at last order l new rest)) (Every-drop_n _ (suc last) xs c.requires.chunked.filled)) in
-    let front_kept = cut.before ∙ ap (take (at + 1)) items_is in
-    let fills = changed_fills g.met.Q.Kind.placed g.met.V.Eq.laws (value_at k (get_or xs at [] ++ take 1 (drop place (get_or xs last [])))) c.args.range c.args.value new stored made in
+    let rest = drop (c.last_touched-place.result + 1) (get_or xs last []) in
+    let left = over g c in
+    let behind = left.behind c.requires.chunked.filled in
+    let fills = changed_fills g.met.Q.Kind.placed g.met.V.Eq.laws (value_at g.Q.Kind.kind (get_or xs at [] ++ take 1 (drop c.last_touched-place.result (get_or xs last [])))) c.args.range c.args.value new stored (made g c) in
     record {
-      all = if_some_weaker c.args.value (all_filled xs at last order l new rest c.cut.new.list.items front_kept c.requires.chunked.filled behind) fills;
-      before = subst AreFilled (sym (kept_front xs at last order l new rest c.cut.new.list.items front_kept)) (Every-take_n _ at xs c.requires.chunked.filled);
+      all = if_some_weaker c.args.value (all_filled xs at last order l new rest c.cut.new.list.items left.front c.requires.chunked.filled behind) fills;
+      before = subst AreFilled (sym (kept_front xs at last order l new rest c.cut.new.list.items left.front)) (Every-take_n _ at xs c.requires.chunked.filled);
       behind = behind;
     }
 
@@ -247,99 +270,69 @@ returns-clause-counted g c =
     let xs = c.args.chunks.now.items in
     let at = c.args.at in
     let last = c.args.end - 1 in
+    let order = last_after at c.args.end c.if-end-at.false in
+    let l = last_within at c.args.end (length xs) c.if-end-at.false c.requires.end in
     let place = c.last_touched-place.result in
-    let order : at < last = omega (arith, c.if-end-at.false) in
-    let l : last < length xs = omega (arith, c.if-end-at.false, c.requires.end) in
-    let found : IsLastTouched (S g.met.Q.Kind.placed g.V.PartialEq.eq) c.args.range (get_or xs last []) place = subst (λ (ys : List (g.row.R.Denot × g.row.V.Denot)). IsLastTouched (S g.met.Q.Kind.placed g.V.PartialEq.eq) c.args.range ys place) (c.index.ensures ∙ get_or_default xs last c.index.result.now [] l) c.last_touched-place.ensures in
+    let found = touched (S g.met.Q.Kind.placed g.V.PartialEq.eq) c.args.range xs last c.index.result.now _ place l c.index.ensures c.last_touched-place.ensures in
     let front = c.split_at_mut-front.result.0.now in
     let back = c.split_at_mut-front.result.1.now in
     let front_is = c.split_at_mut-front.ensures.front ∙ ap (take last) c.deref_mut.ensures.value in
     let back_is = c.split_at_mut-front.ensures.back ∙ ap (drop last) c.deref_mut.ensures.value in
-    let all_is = sym (sym (ap length c.deref_mut.ensures.value) ∙ c.deref_mut.ensures.len) in
-    let new = c.change_with.new.self in
-    let left = c.give_room_back.new.self in
-    let rest = drop (place + 1) (get_or xs last []) in
-    let left_is = c.give_room_back.ensures ∙ c.in_ok-change_with.ensures.rest ∙ ap (drop (place + 1)) (last_at xs at last order l front back front_is back_is c.index-back-0.result []) in
-    let items_is =
-    halves_changed xs at last order l front back front_is back_is (drop (length (set front at new ++ set back 0 left)) xs) c.args.chunks.now.len all_is new left
-    ∙ ap (λ (ys : List (g.row.R.Denot × g.row.V.Denot)). set (set xs at new) last ys) left_is in
-    let items = take c.args.chunks.now.len (set front at new ++ set back 0 left ++ drop (length (set front at new ++ set back 0 left)) xs) in
-    let long : length items ≡ length xs = ap length items_is ∙ set_length (set xs at new) last rest ∙ set_length xs at new in
-    let now : get_or items last [] ≡ left = ap (λ (ps : List (List (g.row.R.Denot × g.row.V.Denot))). get_or ps last []) items_is ∙ get_or-set_same (set xs at new) last rest [] (subst (λ n. last < n) (sym (set_length xs at new)) l) ∙ sym left_is in
-    let cut : IsCut items c.cut.new.list.items (at + 1) last = elim c.if-len-eq0.branch [
-      | then-len-eq0 w ↦
-          let none : length left ≡ 0 = grind (arith, c.len-2.ensures, w.if-len-eq0.true) in
-          cut_through items c.cut.new.list.items (at + 1) last (omega (arith, order)) (omega (arith, long, l)) (ap length now ∙ none) (c.cut.ensures ∙ ap (λ n. take (at + 1) items ++ drop n items) w.gone-is)
-      | else-len-eq0 w ↦
-          let some : 0 < length (get_or items last []) = let same = ap length now in grind (arith, c.len-2.ensures, same, w.if-len-eq0.false) in
-          cut_up_to items c.cut.new.list.items (at + 1) last (omega (arith, order)) (omega (arith, long, l)) some (c.cut.ensures ∙ ap (λ n. take (at + 1) items ++ drop n items) w.gone-is)
-    ] in
-    let whole_is = cut.whole_is ∙ (λ i. whole (take (at + 1) (items_is i)) ++ whole (drop last (items_is i))) ∙ changed_whole xs at last order l new rest in
-    let n_is : c.count.result ≡ length (whole (take (last - at) (drop at xs))) = c.count.ensures ∙ ap (λ (ps : List (List (g.row.R.Denot × g.row.V.Denot))). length (whole (take (last - at) (drop at ps)))) c.deref.ensures.value in
-    let sum = sums xs at last order l place found.in_bounds c.count.result n_is new c.cut.new.list.items whole_is in
-    let less = count_less xs at last order l place found.in_bounds c.count.result n_is in
-    let more = count_more xs at last order l place found.in_bounds c.count.result n_is in
+    let n = c.count.result in
+    let n_is = before_last _ xs at last n c.deref.ensures.value c.count.ensures in
     let same = ap length (first_at xs at last order l front back front_is back_is c.index-front-at.result []) in
+    let more = count_more xs at last order l place found.in_bounds n n_is in
     record {
-      sum = omega (arith, sum, c.len-after.ensures);
-      some = omega (arith, less);
-      growth = omega (arith, more, same, c.len-after.ensures, c.in_ok-change_with.ensures.growth);
-      growth_where_all_are_equal = λ equal. let growth = c.in_ok-change_with.ensures.growth_where_all_are_equal equal in omega (arith, more, same, c.len-after.ensures, growth);
+      sum = sums xs at last order l place found.in_bounds n n_is c.change_with.new.self c.cut.new.list.items (over g c).whole_is ∙ ap (λ m. length (whole xs) + m) (sym c.len-after.ensures);
+      some = count_less xs at last order l place found.in_bounds n n_is;
+      growth = grown_by _ _ _ _ _ place _ c.len-after.ensures c.in_ok-change_with.ensures.growth same more;
+      growth_where_all_are_equal = λ equal. grown_by_one _ _ _ _ _ place c.len-after.ensures (c.in_ok-change_with.ensures.growth_where_all_are_equal equal) same more;
     }
 
 pub returns-in_err-change_with-clause-err : goal.returns-in_err-change_with-clause-err
-returns-in_err-change_with-clause-err g c =
-    let xs = c.args.chunks.now.items in
-    let at = c.args.at in
-    let last = c.args.end - 1 in
-    let place = c.last_touched-place.result in
-    let order : at < last = omega (arith, c.if-end-at.false) in
-    let l : last < length xs = omega (arith, c.if-end-at.false, c.requires.end) in
-    let front = c.split_at_mut-front.result.0.now in
-    let back = c.split_at_mut-front.result.1.now in
-    let front_is = c.split_at_mut-front.ensures.front ∙ ap (take last) c.deref_mut.ensures.value in
-    let back_is = c.split_at_mut-front.ensures.back ∙ ap (drop last) c.deref_mut.ensures.value in
-    let all_is = sym (sym (ap length c.deref_mut.ensures.value) ∙ c.deref_mut.ensures.len) in
-    on_err_where c.from_residual-in_err-change_with.result
-    (halves_kept xs at last order l front back front_is back_is (drop (length (set front at c.change_with.new.self ++ set back 0 c.change_with.new.other)) xs) c.args.chunks.now.len all_is c.change_with.new.self c.change_with.new.other
-    c.index-front-at.result c.index-back-0.result c.in_err-change_with.ensures.err.0 c.in_err-change_with.ensures.err.1)
+returns-in_err-change_with-clause-err g c = on_err_where c.from_residual-in_err-change_with.result (kept g c)
 
 pub returns-in_err-change_with-clause-in_bounds : goal.returns-in_err-change_with-clause-in_bounds
-returns-in_err-change_with-clause-in_bounds g c =
-    let xs = c.args.chunks.now.items in
-    let at = c.args.at in
-    let last = c.args.end - 1 in
-    let place = c.last_touched-place.result in
-    let order : at < last = omega (arith, c.if-end-at.false) in
-    let l : last < length xs = omega (arith, c.if-end-at.false, c.requires.end) in
-    let front = c.split_at_mut-front.result.0.now in
-    let back = c.split_at_mut-front.result.1.now in
-    let front_is = c.split_at_mut-front.ensures.front ∙ ap (take last) c.deref_mut.ensures.value in
-    let back_is = c.split_at_mut-front.ensures.back ∙ ap (drop last) c.deref_mut.ensures.value in
-    let all_is = sym (sym (ap length c.deref_mut.ensures.value) ∙ c.deref_mut.ensures.len) in
-    let kept =
-    halves_kept xs at last order l front back front_is back_is (drop (length (set front at c.change_with.new.self ++ set back 0 c.change_with.new.other)) xs) c.args.chunks.now.len all_is c.change_with.new.self c.change_with.new.other
-    c.index-front-at.result c.index-back-0.result c.in_err-change_with.ensures.err.0 c.in_err-change_with.ensures.err.1 in
-    let same = ap length kept in
-    omega (arith, same, c.requires.start)
+returns-in_err-change_with-clause-in_bounds g c = subst (λ n. c.args.at < n) (sym (ap length (kept g c))) c.requires.start
 
 pub returns-in_err-change_with-clause-filled : goal.returns-in_err-change_with-clause-filled
-returns-in_err-change_with-clause-filled g c =
-    let xs = c.args.chunks.now.items in
-    let at = c.args.at in
-    let last = c.args.end - 1 in
-    let place = c.last_touched-place.result in
-    let order : at < last = omega (arith, c.if-end-at.false) in
-    let l : last < length xs = omega (arith, c.if-end-at.false, c.requires.end) in
-    let front = c.split_at_mut-front.result.0.now in
-    let back = c.split_at_mut-front.result.1.now in
-    let front_is = c.split_at_mut-front.ensures.front ∙ ap (take last) c.deref_mut.ensures.value in
-    let back_is = c.split_at_mut-front.ensures.back ∙ ap (drop last) c.deref_mut.ensures.value in
+returns-in_err-change_with-clause-filled g c = subst (λ (ps : List (List (g.row.R.Denot × g.row.V.Denot))). AreFilledBut c.args.value c.args.at ps) (sym (kept g c)) (still_filled c.args.value c.args.at c.args.chunks.now.items c.requires.chunked.filled)
+
+-- the chunk alone, where memory was refused
+unchanged : (g : _) (c : goal.After-from_residual g) → set c.args.chunks.now.items c.args.at c.change.new.self ≡ c.args.chunks.now.items
+unchanged g c = ap (λ (xs : List (g.row.R.Denot × g.row.V.Denot)). set c.args.chunks.now.items c.args.at xs) (c.in_err-change.ensures.err ∙ c.index_mut-chunk.ensures.value) ∙ set_same c.args.chunks.now.items c.args.at c.index_mut-chunk.result.now c.requires.start
+
+pub returns-in_err-change-clause-err : goal.returns-in_err-change-clause-err
+returns-in_err-change-clause-err g c = on_err_where c.from_residual.result (unchanged g c)
+
+pub returns-in_err-change-clause-in_bounds : goal.returns-in_err-change-clause-in_bounds
+returns-in_err-change-clause-in_bounds g c = subst (λ n. c.args.at < n) (sym (ap length (unchanged g c))) c.requires.start
+
+pub returns-in_err-change-clause-filled : goal.returns-in_err-change-clause-filled
+returns-in_err-change-clause-filled g c = subst (λ (ps : List (List (g.row.R.Denot × g.row.V.Denot))). AreFilledBut c.args.value c.args.at ps) (sym (unchanged g c)) (still_filled c.args.value c.args.at c.args.chunks.now.items c.requires.chunked.filled)
+
+pub returns-then-end-at-clause-in_bounds : goal.returns-then-end-at-clause-in_bounds
+returns-then-end-at-clause-in_bounds g c = subst (λ n. c.args.at < n) (sym (set_length c.args.chunks.now.items c.args.at c.change.new.self)) c.requires.start
+
+pub last_touched-place-requires-clause-begun : goal.last_touched-place-requires-clause-begun
+last_touched-place-requires-clause-begun g c =
+    subst (λ (ys : List (g.row.R.Denot × g.row.V.Denot)). chunk_by (S g.met.Q.Kind.placed g.V.PartialEq.eq) (g.Q.Kind.end_place c.args.range) ys ≡ true) (sym c.index.ensures)
+    (c.requires.begun c.if-end-at.false (c.args.end - 1) c.index.result.now (from_none (c.args.end - 1)) (last_before_end c.args.at c.args.end c.if-end-at.false))
+
+pub cut-requires-clause-start_le_end : goal.cut-requires-clause-start_le_end
+cut-requires-clause-start_le_end g c = elim c.if-len-eq0.branch [
+  | then-len-eq0 w ↦ subst (λ n. c.args.at + 1 ≤ n) (sym w.kept_from-is) (up_to_end c.args.at c.args.end c.if-end-at.false)
+  | else-len-eq0 w ↦ subst (λ n. c.args.at + 1 ≤ n) (sym w.kept_from-is) (up_to_last c.args.at c.args.end c.if-end-at.false)
+]
+
+pub cut-requires-clause-in_bounds : goal.cut-requires-clause-in_bounds
+cut-requires-clause-in_bounds g c =
     let all_is = sym (sym (ap length c.deref_mut.ensures.value) ∙ c.deref_mut.ensures.len) in
-    let kept =
-    halves_kept xs at last order l front back front_is back_is (drop (length (set front at c.change_with.new.self ++ set back 0 c.change_with.new.other)) xs) c.args.chunks.now.len all_is c.change_with.new.self c.change_with.new.other
-    c.index-front-at.result c.index-back-0.result c.in_err-change_with.ensures.err.0 c.in_err-change_with.ensures.err.1 in
-    subst (λ (ps : List (List (g.row.R.Denot × g.row.V.Denot))). AreFilledBut c.args.value at ps) (sym kept) (still_filled c.args.value at xs c.requires.chunked.filled)
+    let fits = subst (λ n. c.args.end ≤ n) (sym all_is) c.requires.end in
+    elim c.if-len-eq0.branch [
+      | then-len-eq0 w ↦ subst (λ n. n ≤ c.args.chunks.now.len) (sym w.kept_from-is) fits
+      | else-len-eq0 w ↦ subst (λ n. n ≤ c.args.chunks.now.len) (sym w.kept_from-is) (last_fits c.args.end c.args.chunks.now.len fits)
+    ]
 
 pub returns-then-end-at-clause-ok : goal.returns-then-end-at-clause-ok
 returns-then-end-at-clause-ok g c =
@@ -386,7 +379,7 @@ returns-then-end-at-clause-counted g c =
     }
 
 pub returns-clause-meets_nothing : goal.returns-clause-meets_nothing
-returns-clause-meets_nothing g c = λ out alone none. absurd (omega (arith, c.if-end-at.false, alone))
+returns-clause-meets_nothing g c = λ out alone none. absurd (not_alone c.args.at c.args.end c.if-end-at.false alone)
 
 pub returns-in_err-change_with-clause-meets_nothing : goal.returns-in_err-change_with-clause-meets_nothing
-returns-in_err-change_with-clause-meets_nothing g c = λ out alone none. absurd (omega (arith, c.if-end-at.false, alone))
+returns-in_err-change_with-clause-meets_nothing g c = λ out alone none. absurd (not_alone c.args.at c.args.end c.if-end-at.false alone)

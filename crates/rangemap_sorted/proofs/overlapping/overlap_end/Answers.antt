@@ -1,36 +1,36 @@
-use Rattle.std.proofs.Common.{arith, ◌≡◌, ◌∙◌, ◌-◌, ◌<◌, get_or, length, sym, false, true, inl, inr}
+use Rattle.std.proofs.Common.{arith, ◌≡◌, ◌∙◌, ◌+◌, ◌-◌, ◌<◌, get_or, length, sym, false, true, inl, inr}
 use Rattle.std.proofs.lemmas.Bool.{cases_lt}
 use Rattle.std.proofs.lemmas.List.{get_or_default}
 use Rattle.rangemap_core.specs.engine.Stretch.{starts_within}
 use Rattle.rangemap_core.proofs.PartitionLemmas.{fails_from, one_look}
 use Rattle.rangemap_core.proofs.PlaceLemmas.{S, places, to_spaced}
 use Rattle.rangemap_core.proofs.RestLemmas.{starts_parted}
-use Rattle.rangemap_sorted.proofs.OverlapLemmas.{begun_but_the_last, not_begun_behind}
+use Rattle.rangemap_sorted.proofs.OverlapLemmas.{begun_but_the_last, begun_is_near, not_begun_behind}
+use Rattle.rangemap_sorted.proofs.overlapping.overlap_end.Goals.{After-starts_up_to-last}
 use Rattle.rangemap_sorted.proofs.overlapping.overlap_end.Goals as goal
 
-pub returns-then-near-eq0 : goal.returns-then-near-eq0
-returns-then-near-eq0 g c =
-    let near = c.starts_up_to-near in
-    let behind = not_begun_behind g.met.Q.Kind.placed g.V.PartialEq.eq c.args.query.now c.known_ends.ensures c.args.pairs.now near.result c.requires.canonical (rw (← (c.end.ensures ∙ g.met.Q.Kind.reads.end c.args.query.now)) near.ensures.point) in
-    record {
-      start_le_end = omega arith;
-      in_bounds = c.requires.in_bounds;
-      begun = λ i d l m. absurd (omega (arith, l, m));
-      later = λ i d l m. behind i d (omega (arith, c.if-near-eq0.true)) m;
-    }
+-- the pair that was looked at starts before the query ends, so it is found
+looked_at : (g : _) (c : After-starts_up_to-last g) → c.args.start + 4 < c.starts_up_to-last.result
+looked_at g c =
+    begun_is_near g.met.Q.Kind.placed g.V.PartialEq.eq c.args.query.now c.known_ends.ensures c.args.pairs.now c.starts_up_to-last.result c.requires.canonical (rw (← (c.end.ensures ∙ g.met.Q.Kind.reads.end c.args.query.now)) c.starts_up_to-last.ensures.point)
+    (c.args.start + 4) c.index-pairs-start.result (omega arith) (sym c.is_before.ensures ∙ c.if-is_before.true)
+
+pub overflow_sub-last : goal.overflow_sub-last
+overflow_sub-last g c = let found = looked_at g (goal.at.overflow_sub-last g c).After-starts_up_to-last in omega arith
 
 pub returns-then-is_before : goal.returns-then-is_before
 returns-then-is_before g c =
     let p = g.met.Q.Kind.placed in
     let eq = g.V.PartialEq.eq in
-    let near = c.starts_up_to-near in
-    let last = get_or c.args.pairs.now (near.result - 1) c.index-pairs-near.result in
-    let found = one_look (starts_within (S p eq) c.args.query.now) c.args.pairs.now near.result last (omega arith) near.ensures.bound (get_or_default c.args.pairs.now (near.result - 1) c.index-pairs-near.result last (omega (arith, near.ensures.bound)))
+    let near = c.starts_up_to-last in
+    let more : c.args.start + 4 < near.result = looked_at g (goal.at.returns-then-is_before g c).After-starts_up_to-last in
+    let last = get_or c.args.pairs.now (near.result - 1) c.index-pairs-last.result in
+    let found = one_look (starts_within (S p eq) c.args.query.now) c.args.pairs.now near.result last (omega arith) near.ensures.bound (get_or_default c.args.pairs.now (near.result - 1) c.index-pairs-last.result last (omega (arith, near.ensures.bound)))
     (begun_but_the_last p eq c.args.query.now c.known_ends.ensures c.args.pairs.now near.result c.requires.canonical near.ensures.bound (rw (← (c.end.ensures ∙ g.met.Q.Kind.reads.end c.args.query.now)) near.ensures.point))
     (not_begun_behind p eq c.args.query.now c.known_ends.ensures c.args.pairs.now near.result c.requires.canonical (rw (← (c.end.ensures ∙ g.met.Q.Kind.reads.end c.args.query.now)) near.ensures.point))
-    (near.result - c.from.result)
-    (λ h. let yes : c.is_before-begins.result ≡ true = c.is_before-begins.ensures ∙ h in let one : c.from.result ≡ 0 = rw yes at c.from.ensures in omega arith)
-    (λ h. let no : c.is_before-begins.result ≡ false = c.is_before-begins.ensures ∙ h in let one : c.from.result ≡ 1 = rw no at c.from.ensures in omega arith) in
+    (near.result - 1 + c.from.result)
+    (λ h. let yes : c.is_before-begins.result ≡ true = c.is_before-begins.ensures ∙ h in let one : c.from.result ≡ 1 = rw yes at c.from.ensures in omega arith)
+    (λ h. let no : c.is_before-begins.result ≡ false = c.is_before-begins.ensures ∙ h in let one : c.from.result ≡ 0 = rw no at c.from.ensures in omega arith) in
     record {
       start_le_end = omega arith;
       in_bounds = omega (arith, found.0, c.requires.in_bounds);

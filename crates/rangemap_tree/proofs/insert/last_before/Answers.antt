@@ -27,5 +27,5 @@ returns-then-is_lt g c =
     let ps = c.args.pairs.now in
     let r = c.args.range.now in
     let sp = to_spaced (half_open_placed o) eq ps c.requires.canonical in
-    let a : Range g.row.K.Denot × g.row.V.Denot = (c.in_ok-last.last.now, c.in_ok-last.last_value.now) in
-    (c.requires.near.0, last_before o eq e r.end ps sp c.requires.near.0 a (taken_some deref_pair _ c.args.near c.requires.near (c.in_ok-last.last, c.in_ok-last.last_value) c.in_ok-last.was) r.start c.requires.range (lt_is (cmp a.0.start r.start) (ap is_lt (sym c.cmp.ensures) ∙ sym c.is_lt.ensures ∙ c.if-is_lt.true)))
+    let a : Range g.row.K.Denot × g.row.V.Denot = (c.in_ok-last.last.now, c.in_ok-last.field-0-1.now) in
+    rw c.in_ok-last.was (c.requires.near.0, last_before o eq e r.end ps sp c.requires.near.0 a (taken_some deref_pair _ c.args.near c.requires.near (c.in_ok-last.last, c.in_ok-last.field-0-1) c.in_ok-last.was) r.start c.requires.range (lt_is (cmp a.0.start r.start) (ap is_lt (sym c.cmp.ensures) ∙ sym c.is_lt.ensures ∙ c.if-is_lt.true)))

@@ -1,13 +1,49 @@
-use Rattle.std.proofs.Common.{◌∙◌, sym}
-use Rattle.std.specs.Map.Iter.{deref_pair}
+use Rattle.std.proofs.Common.{arith, ◌≡◌, ◌<◌, ◌∙◌, List, [], ◌∷◌, ◌++◌, Option, Some, None, ap, append_assoc, append-nil, length, subst, sym}
+use Rattle.std.specs.Map.Iter.{TakesLast, deref_pair}
 use Rattle.std.specs.Slice.Iter.{iter_rest}
+use Rattle.rangemap_core.proofs.ListLemmas.{Every-right}
+use Rattle.rangemap_chunked.specs.Chunks.{AreFilled, whole}
 use Rattle.rangemap_chunked.proofs.ChunkLemmas.{last_filled, last_whole}
+use Rattle.rangemap_chunked.proofs.IterLemmas.{no_pairs}
 use Rattle.rangemap_chunked.proofs.iter.IterCursor.take_last.Goals as goal
+
+-- the last of what is left at the back
+behind : {X : Type 0} (front middle back left : List X) (x : X) → back ≡ left ++ x ∷ [] → front ++ (middle ++ back) ≡ (front ++ (middle ++ left)) ++ x ∷ []
+behind front middle back left x is = (λ i. front ++ (middle ++ is i)) ∙ simp append_assoc
+
+-- a chunk has pairs
+not_empty : {X : Type 0} (chunks rest : List (List X)) (chunk : List X) → chunks ≡ rest ++ chunk ∷ [] → AreFilled chunks → chunk ≡ [] → ⊥
+not_empty chunks rest chunk is filled none =
+    let some = Every-right (λ c. 0 < length c) rest (chunk ∷ []) (subst AreFilled is filled) in
+    let one : length chunk ≡ 0 = ap length none in
+    omega (arith, some.0, one)
+
+front_alone : {X : Type 0} (front middle back : List X) → middle ≡ [] → back ≡ [] → front ++ (middle ++ back) ≡ front
+front_alone front middle back no_middle no_back = (λ i. front ++ (no_middle i ++ no_back i)) ∙ append-nil front
+
+-- the last of what is left at the front, where nothing else is
+alone : {A X : Type 0} (shows : A → X) (front left middle back begun : List X) (result : Option A) → middle ≡ [] → back ≡ [] → begun ≡ [] → TakesLast shows front result left → TakesLast shows (front ++ (middle ++ back)) result (left ++ (middle ++ begun))
+alone shows front left middle back begun None no_middle no_back no_begun taken = (front_alone front middle back no_middle no_back ∙ taken.0, front_alone left middle begun no_middle no_begun ∙ taken.1)
+alone shows front left middle back begun (Some x) no_middle no_back no_begun taken = front_alone front middle back no_middle no_back ∙ taken ∙ (λ i. sym (front_alone left middle begun no_middle no_begun) i ++ shows x ∷ [])
 
 pub invariant_of-self-in-Some-split_last : goal.invariant_of-self-in-Some-split_last
 invariant_of-self-in-Some-split_last g c =
     last_filled c.self.inside.chunks.now c.in-Some-split_last.rest.now c.in-Some-split_last.chunk.now c.in-Some-split_last.ensures.cases.0 c.self.invariant
 
+pub returns-in-Some : goal.returns-in-Some
+returns-in-Some g c =
+    sym c.self.view_is ∙ behind (iter_rest c.self.inside.front) (whole c.self.inside.chunks.now) (iter_rest c.self.inside.back) (iter_rest c.take_last.new.self) (deref_pair c.in-Some.pair) c.in-Some.ensures
+
 pub returns-in-Some-split_last : goal.returns-in-Some-split_last
 returns-in-Some-split_last g c =
     sym c.self.view_is ∙ last_whole c.self.inside.chunks.now c.in-Some-split_last.rest.now c.in-Some-split_last.chunk.now c.in-Some-split_last.ensures.cases.0 (iter_rest c.self.inside.front) (iter_rest c.self.inside.back) (iter_rest c.take_last-in-Some-split_last.new.self) (deref_pair c.in_ok-pair.pair) c.in_default.ensures.0 (sym (c.iter-self-inside.ensures.rest ∙ c.as_slice.ensures) ∙ c.in_ok-pair.ensures)
+
+pub returns-in_err-pair : goal.returns-in_err-pair
+returns-in_err-pair g c =
+    absurd (not_empty c.self.inside.chunks.now c.in-Some-split_last.rest.now c.in-Some-split_last.chunk.now c.in-Some-split_last.ensures.cases.0 c.self.invariant (sym (c.iter-self-inside.ensures.rest ∙ c.as_slice.ensures) ∙ c.in_err-pair.ensures.0))
+
+pub returns : goal.returns
+returns g c =
+    subst (λ (all : List (g.row.R.Denot × g.row.V.Denot)). TakesLast deref_pair all c.take_last-2.result (iter_rest c.take_last-2.new.self ++ (whole c.self.inside.chunks.now ++ iter_rest c.take_last.new.self))) c.self.view_is
+    (alone deref_pair (iter_rest c.self.inside.front) (iter_rest c.take_last-2.new.self) (whole c.self.inside.chunks.now) (iter_rest c.self.inside.back) (iter_rest c.take_last.new.self) c.take_last-2.result
+    (no_pairs c.self.inside.chunks.now c.in_default-split_last.ensures.cases) c.in_default.ensures.0 c.in_default.ensures.1 c.take_last-2.ensures)

@@ -36,3 +36,6 @@ copied g c =
 
 pub returns-clause-canon : goal.returns-clause-canon
 returns-clause-canon g c = copied g c
+
+pub returns-clause-same : goal.returns-clause-same
+returns-clause-same g c = rw (take_all c.loop-pair.pair-index c.args.pairs.now (omega arith)) at c.loop-pair.invariant.same

@@ -1,4 +1,4 @@
-//! A value put in among those of a vector.
+//! An insert that std's `Vec` lacks: into room that is there.
 ghost use Rattle.std.specs.Prelude.{◌≡◌, ◌<◌, ◌≤◌, ◌++◌, ◌∷◌, take, drop, length, vec_len, vec_capacity};
 
 use std::alloc::Allocator;

@@ -1,12 +1,12 @@
 //! How many starts a lookup asks for, as a table.
 
-use crate::SortedVec;
-use crate::entries::covering;
 use rangemap_core::closed::Closed;
 use rangemap_core::half_open::HalfOpen;
 use rangemap_core::key_range::KeyRange;
 use rangemap_core::kind::Kind;
 use rangemap_core::store::{Lends, Store, StoreMut};
+use rangemap_sorted::SortedVec;
+use rangemap_sorted::entries::covering;
 use std::alloc::Global;
 use std::ops::{Range, RangeInclusive};
 use std::test::Fail;

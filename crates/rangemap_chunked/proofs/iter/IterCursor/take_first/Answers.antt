@@ -1,0 +1,42 @@
+use Rattle.std.proofs.Common.{arith, ◌≡◌, ◌∙◌, List, [], ◌∷◌, ◌++◌, Option, Some, None, ap, append_assoc, length, subst, sym}
+use Rattle.std.specs.Map.Iter.{TakesFirst, deref_pair}
+use Rattle.std.specs.Slice.Iter.{iter_rest}
+use Rattle.rangemap_chunked.specs.Chunks.{AreFilled, whole}
+use Rattle.rangemap_chunked.proofs.IterLemmas.{no_pairs}
+use Rattle.rangemap_chunked.proofs.iter.IterCursor.take_first.Goals as goal
+
+-- the first of a chunk, where nothing is left before it
+first_whole : {X : Type 0} (chunks rest : List (List X)) (front chunk left back : List X) (x : X) → chunks ≡ chunk ∷ rest → front ≡ [] → chunk ≡ x ∷ left → front ++ (whole chunks ++ back) ≡ x ∷ (left ++ (whole rest ++ back))
+first_whole chunks rest front chunk left back x parts none is = (λ i. none i ++ (whole (parts i) ++ back)) ∙ append_assoc chunk (whole rest) back ∙ (λ i. is i ++ (whole rest ++ back))
+
+not_empty : {X : Type 0} (chunks rest : List (List X)) (chunk : List X) → chunks ≡ chunk ∷ rest → AreFilled chunks → chunk ≡ [] → ⊥
+not_empty chunks rest chunk is filled none =
+    let some = subst AreFilled is filled in
+    let one : length chunk ≡ 0 = ap length none in
+    omega (arith, some.0, one)
+
+-- the first of what is left at the back, where nothing else is
+alone : {A X : Type 0} (shows : A → X) (front begun middle back left : List X) (result : Option A) → front ≡ [] → begun ≡ [] → middle ≡ [] → TakesFirst shows back result left → TakesFirst shows (front ++ (middle ++ back)) result (begun ++ (middle ++ left))
+alone shows front begun middle back left None no_front no_begun no_middle taken = ((λ i. no_front i ++ (no_middle i ++ taken.0 i)), (λ i. no_begun i ++ (no_middle i ++ taken.1 i)))
+alone shows front begun middle back left (Some x) no_front no_begun no_middle taken = (λ i. no_front i ++ (no_middle i ++ taken i)) ∙ (λ i. shows x ∷ (sym no_begun i ++ (sym no_middle i ++ left)))
+
+pub invariant_of-self-in-Some-split_first : goal.invariant_of-self-in-Some-split_first
+invariant_of-self-in-Some-split_first g c = (subst AreFilled c.in-Some-split_first.ensures.cases.0 c.self.invariant).1
+
+pub returns-in-Some : goal.returns-in-Some
+returns-in-Some g c =
+    sym c.self.view_is ∙ (λ i. c.in-Some.ensures i ++ (whole c.self.inside.chunks.now ++ iter_rest c.self.inside.back))
+
+pub returns-in-Some-split_first : goal.returns-in-Some-split_first
+returns-in-Some-split_first g c =
+    sym c.self.view_is ∙ first_whole c.self.inside.chunks.now c.in-Some-split_first.rest.now (iter_rest c.self.inside.front) c.in-Some-split_first.chunk.now (iter_rest c.take_first-in-Some-split_first.new.self) (iter_rest c.self.inside.back) (deref_pair c.in_ok-pair.pair) c.in-Some-split_first.ensures.cases.0 c.in_default.ensures.0 (sym (c.iter-self-inside.ensures.rest ∙ c.as_slice.ensures) ∙ c.in_ok-pair.ensures)
+
+pub returns-in_err-pair : goal.returns-in_err-pair
+returns-in_err-pair g c =
+    absurd (not_empty c.self.inside.chunks.now c.in-Some-split_first.rest.now c.in-Some-split_first.chunk.now c.in-Some-split_first.ensures.cases.0 c.self.invariant (sym (c.iter-self-inside.ensures.rest ∙ c.as_slice.ensures) ∙ c.in_err-pair.ensures.0))
+
+pub returns : goal.returns
+returns g c =
+    subst (λ (all : List (g.row.R.Denot × g.row.V.Denot)). TakesFirst deref_pair all c.take_first-2.result (iter_rest c.take_first.new.self ++ (whole c.self.inside.chunks.now ++ iter_rest c.take_first-2.new.self))) c.self.view_is
+    (alone deref_pair (iter_rest c.self.inside.front) (iter_rest c.take_first.new.self) (whole c.self.inside.chunks.now) (iter_rest c.self.inside.back) (iter_rest c.take_first-2.new.self) c.take_first-2.result
+    c.in_default.ensures.0 c.in_default.ensures.1 (no_pairs c.self.inside.chunks.now c.in_default-split_first.ensures.cases) c.take_first-2.ensures)
