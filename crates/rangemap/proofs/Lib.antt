@@ -17,3 +17,4 @@ pub mod JsonLemmas
 pub mod TextKeys
 pub mod JoinedLemmas
 mod SetReplayLemmas
+mod SharedLemmas

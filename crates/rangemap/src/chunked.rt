@@ -285,7 +285,7 @@ pub type InclusiveChange<K, V> = calls::Change<RangeInclusive<K>, V>;
 /// A call that makes a set over half-open ranges, or changes the one at a place of a list.
 pub type SetCall<T, A = Global> = set_calls::SetCall<Range<T>, A>;
 
-/// A call that every such set has, as a `SetCall` holds it.
+/// A call that every container has. A `SetCall` has each by its own name, without the value.
 pub type SetChange<T> = calls::Change<Range<T>, ()>;
 
 /// A call that makes a set over closed ranges, or changes the one at a place of a list.

@@ -1,5 +1,5 @@
 //! What the keys of a query are, one stretch after another.
-ghost use Rattle.std.specs.Prelude.{IfOk};
+ghost use Rattle.std.specs.Prelude.{◌&&◌, if◌then◌else◌, IfOk, OnOk, Some as SomeWord};
 ghost use Rattle.rangemap_core.specs.Clones.{KeysCloneFaithfully, ValuesCloneFaithfully};
 ghost use Rattle.rangemap_core.specs.Ranges.{IsCanonOf, value_at};
 ghost use Rattle.rangemap_core.specs.Segments.{segments_of};
@@ -8,6 +8,7 @@ use rangemap_containers::container::Container;
 use rangemap_core::common::common;
 use rangemap_core::cursor::Cursor;
 use rangemap_core::kind::known_ends;
+use rangemap_core::store::StoreMut;
 use rangemap_maps::range_map::Map;
 use rangemap_sorted::SortedVec;
 use std::alloc::{AllocError, Allocator};
@@ -54,16 +55,31 @@ pub fn segments<M: Container, B: Allocator + Clone>(
     let mut found = Vec::new(alloc.clone()?);
     stored.append_overlapping(query, &mut found)?;
     let mut all = Map::new_with_step_fns(alloc);
-    // The query itself, where it has a key.
-    if let Some(whole) = common::<M::Kind, M::Range>(query, query)? {
-        all.insert(whole, None)?;
-    }
+    // First every key of the query has none.
+    insert_shared(&mut all, query, query, None)?;
     let mut rest = found.into_iter();
     'pairs: while let Some((range, value)) = rest.take_first() {
-        if let Some(shared) = common::<M::Kind, M::Range>(query, &range)? {
-            all.insert(shared, Some(value))?;
-        }
+        insert_shared(&mut all, query, &range, Some(value))?;
     }
     all.known();
     Ok(all)
+}
+
+// Gives the keys that the query and the range share the value. Where memory or a clone is refused,
+// nothing is promised of the map.
+fn insert_shared<S: StoreMut>(
+    map: &mut Map<S>,
+    query: &S::Range,
+    range: &S::Range,
+    value: S::Value,
+) -> Result<(), AllocError>
+    requires faithful_keys { KeysCloneFaithfully S.Range.Key.is_clone S.Range.Key.cmp }
+    requires faithful_values { ValuesCloneFaithfully S.Value.is_clone S.Value.eq }
+    ensures { OnOk result (IsCanonOf S.Kind.kind S.Value.eq (λ key. if S.Kind.kind.holds query.now key && S.Kind.kind.holds range.now key then SomeWord value else value_at S.Kind.kind map.old key) map.new) }
+{
+    let Some(shared) = common::<S::Kind, S::Range>(query, range)? else {
+        map.known();
+        return Ok(());
+    };
+    map.insert(shared, value)
 }

@@ -77,7 +77,7 @@ pub type Union<'a, T> = unions::Union<Pairs<'a, T, ()>>;
 /// The parts that two sets have in common, in order.
 pub type Intersection<'a, T> = unions::Intersection<Pairs<'a, T, ()>>;
 
-/// A call that every such set has, as a `Call` holds it.
+/// A call that every container has. A set's `Call` has each by its own name, without the value.
 pub type Change<T> = calls::Change<Range<T>, ()>;
 
 /// A call that makes a set or changes the one at a place of a list.

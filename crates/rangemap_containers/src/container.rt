@@ -124,6 +124,7 @@ pub trait Container: PartialEq + Drop {
     fn get(&self, key: &<Self::Range as KeyRange>::Key) -> Option<&Self::Value>
         ensures { option_copied result ≡ value_at Self.Kind.kind (pairs self.now) key.now }
     {
+        // A set has no call that gives a value; a map makes its own.
         let (_, value) = self.get_key_value(key)?;
         Some(value)
     }

@@ -98,10 +98,7 @@ where
     let count = calls.len();
     maps.reserve(count)?;
     let mut answers = Vec::with_capacity(alloc.clone()?, count)?;
-    let mut allocators = Vec::with_capacity(alloc.clone()?, count)?;
-    for _ in 0..count {
-        allocators.push(alloc.clone()?)?;
-    }
+    let allocators = Vec::from_elem(alloc.clone()?, alloc, count)?;
     make_all(allocators, maps, calls, &mut answers);
     Ok(answers)
 }

@@ -8,6 +8,7 @@ use rangemap_core::gaps::{Gaps, gaps_of};
 use rangemap_core::key_range::KeyRange;
 use rangemap_core::kind::Kind;
 use rangemap_core::pair_iter::{OverlappingPairs, PairIter};
+use rangemap_core::reader::Reader;
 use rangemap_core::store::{Lends, Store, StoreMut};
 use std::marker::{Model, PhantomData};
 
@@ -160,7 +161,19 @@ impl<S: Store> Map<S> {
         ensures canonical { IsCanonical S.Kind.kind S.Value.eq self.now }
     {
         self.stored.known();
-        self.stored.read_overlapping::<IsAny>(range, &mut ())
+        self.read_overlapping::<IsAny>(range, &mut ())
+    }
+
+    // Hands the pairs that overlap the range to a reader.
+    fn read_overlapping<U: Reader<S::Range, S::Value>>(
+        &self,
+        range: &S::Range,
+        state: &mut U::State,
+    ) -> U::Answer
+        requires { U.may_read (overlapped S.Kind.kind self.now range.now) state.old }
+        ensures { U.reads (overlapped S.Kind.kind self.now range.now) state.old result state.new }
+    {
+        self.stored.read_overlapping::<U>(range, state)
     }
 }
 

@@ -18,7 +18,7 @@ use std::vec::Vec;
 /// A call that makes a set or changes one, over ranges of type `R`. It names a set by its place in
 /// the list.
 ///
-/// It holds no `Change`, as a map's `Call` does: a caller would have to write `value: ()`.
+/// Unlike a map's `Call` it holds no `Change`: a caller would have to write `value: ()`.
 #[derive(Debug, Drop)]
 pub enum SetCall<R, A: Allocator> {
     /// Makes an empty set.

@@ -3,12 +3,14 @@
 //! What a map tells of values and pairs is made of `get`, `contains`, `first` and `last`; the appends
 //! hand the pairs and gaps of its store on. All other methods are the set's own calls: `self.insert(..)`
 //! is the call of `Set`, which comes before that of a trait.
+ghost use Rattle.rangemap.specs.Ranges.{overlapped, with_unit};
 
 use super::Set;
 use rangemap_containers::container::{Appending, Container};
 use rangemap_core::key_range::KeyRange;
 use rangemap_core::kind::Kind;
-use rangemap_core::store::StoreMut;
+use rangemap_core::reader::Reader;
+use rangemap_core::store::{Store, StoreMut};
 use std::alloc::{AllocError, Allocator};
 
 impl<S: StoreMut<Value = ()> + Drop> Container for Set<S>
@@ -85,19 +87,20 @@ where
         self.overlaps(range)
     }
 
+    #[tactic(auto, using(rangemap_core::proofs::StoredLemmas::all_storable))]
     fn append_all<B: Allocator>(&self, out: &mut Vec<(S::Range, ()), B>) -> Result<(), AllocError> {
-        self.stored.known();
-        self.stored.read::<Appending<S::Kind, B>>(out)
+        self.known();
+        self.read::<Appending<S::Kind, B>>(out)
     }
 
+    #[tactic(auto, using(rangemap_core::proofs::StoredLemmas::all_storable, rangemap_core::proofs::AppendLemmas::met_storable))]
     fn append_overlapping<B: Allocator>(
         &self,
         range: &S::Range,
         out: &mut Vec<(S::Range, ()), B>,
     ) -> Result<(), AllocError> {
-        self.stored.known();
-        self.stored
-            .read_overlapping::<Appending<S::Kind, B>>(range, out)
+        self.known();
+        self.read_overlapping::<Appending<S::Kind, B>>(range, out)
     }
 
     fn append_gaps<B: Allocator>(
@@ -106,5 +109,27 @@ where
         out: &mut Vec<S::Range, B>,
     ) -> Result<(), AllocError> {
         self.stored.append_gaps(outer_range, out)
+    }
+}
+
+impl<S: Store<Value = ()>> Set<S> {
+    // Hands the ranges to a reader of pairs.
+    fn read<U: Reader<S::Range, ()>>(&self, state: &mut U::State) -> U::Answer
+        requires { U.may_read (with_unit S.Kind.kind self.now) state.old }
+        ensures { U.reads (with_unit S.Kind.kind self.now) state.old result state.new }
+    {
+        self.stored.read::<U>(state)
+    }
+
+    // Hands the ranges that overlap the range to a reader of pairs.
+    fn read_overlapping<U: Reader<S::Range, ()>>(
+        &self,
+        range: &S::Range,
+        state: &mut U::State,
+    ) -> U::Answer
+        requires { U.may_read (overlapped S.Kind.kind (with_unit S.Kind.kind self.now) range.now) state.old }
+        ensures { U.reads (overlapped S.Kind.kind (with_unit S.Kind.kind self.now) range.now) state.old result state.new }
+    {
+        self.stored.read_overlapping::<U>(range, state)
     }
 }

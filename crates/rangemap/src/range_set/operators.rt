@@ -81,6 +81,7 @@ where
     /// # Errors
     ///
     /// Memory or a clone was refused.
+    #[tactic(auto, using(rangemap_core::proofs::UnitValueLemmas::canonical_ranges))]
     fn bitor(self, other: &'a Set<S>) -> Result<Set<S>, AllocError> {
         self.stored.known();
         other.stored.known();
@@ -118,6 +119,7 @@ where
     /// # Errors
     ///
     /// Memory or a clone was refused.
+    #[tactic(auto, using(rangemap_core::proofs::UnitValueLemmas::canonical_ranges))]
     fn bitand(self, other: &'a Set<S>) -> Result<Set<S>, AllocError> {
         self.stored.known();
         other.stored.known();

@@ -82,22 +82,23 @@ where
         self.overlaps(range)
     }
 
+    #[tactic(auto, using(rangemap_core::proofs::StoredLemmas::all_storable))]
     fn append_all<B: Allocator>(
         &self,
         out: &mut Vec<(S::Range, S::Value), B>,
     ) -> Result<(), AllocError> {
-        self.known();
+        self.stored.known();
         self.stored.read::<Appending<S::Kind, B>>(out)
     }
 
+    #[tactic(auto, using(rangemap_core::proofs::StoredLemmas::all_storable, rangemap_core::proofs::AppendLemmas::met_storable))]
     fn append_overlapping<B: Allocator>(
         &self,
         range: &S::Range,
         out: &mut Vec<(S::Range, S::Value), B>,
     ) -> Result<(), AllocError> {
         self.known();
-        self.stored
-            .read_overlapping::<Appending<S::Kind, B>>(range, out)
+        self.read_overlapping::<Appending<S::Kind, B>>(range, out)
     }
 
     fn append_gaps<B: Allocator>(

@@ -17,6 +17,12 @@ loop-call-preserved g c =
       room_for_answers = grind (arith, common_steps);
     }
 
+pub make-requires-clause-faithful_keys : goal.make-requires-clause-faithful_keys
+make-requires-clause-faithful_keys g c = c.requires.faithful_keys
+
+pub make-requires-clause-faithful_values : goal.make-requires-clause-faithful_values
+make-requires-clause-faithful_values g c = c.requires.faithful_values
+
 pub returns : goal.returns
 returns g c =
     let zipped = c.zip-call-items.ensures in

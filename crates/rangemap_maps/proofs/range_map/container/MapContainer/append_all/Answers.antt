@@ -1,8 +1,0 @@
-use Rattle.std.proofs.Common.{sym, subst}
-use Rattle.rangemap_core.specs.engine.Stretch.{Every}
-use Rattle.rangemap_core.specs.Ranges.{IsStorable}
-use Rattle.rangemap_core.proofs.StoredLemmas.{all_storable}
-use Rattle.rangemap_maps.proofs.range_map.container.MapContainer.append_all.Goals as goal
-
-pub read-requires : goal.read-requires
-read-requires g c = (subst (Every (λ pair. IsStorable g.S.Kind.Kind.kind pair.0)) (sym c.self.view_is) (all_storable g.S.Kind.Kind.kind g.S.Value.PartialEq.eq _ c.known.ensures), c.requires.faithful_keys, c.requires.faithful_values)
