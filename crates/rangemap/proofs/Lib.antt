@@ -17,4 +17,3 @@ pub mod JsonLemmas
 pub mod TextKeys
 pub mod JoinedLemmas
 mod SetReplayLemmas
-mod SharedLemmas

@@ -5,7 +5,7 @@ use Rattle.std.specs.Borrow.{Bor}
 use Rattle.std.specs.Hash.{HashWrites}
 use Rattle.std.specs.declared.cmp.Ordering.TheVariants.{Equal}
 use Rattle.rangemap_core.specs.Ranges.{RangeKind, IsCanonOf, IsCanonical, IsCanonOfPoints, covering, covers, erase, overlapped, override, same_pairs, same_ranges, unit_eq, value_at, with_unit}
-use Rattle.rangemap_core.specs.Appends.{Appends, AppendsGaps}
+use Rattle.rangemap_core.specs.Appends.{AppendsGaps}
 use Rattle.rangemap_core.specs.Hashes.{pairs_fed, ranges_fed}
 use Rattle.rangemap_core.specs.ListOrder.{pairs_cmp, ranges_cmp}
 use Rattle.rangemap_core.specs.operations.PlaceLaws.{HasPlaces}
@@ -13,7 +13,7 @@ use Rattle.rangemap_core.specs.operations.Places.{RangePlaces}
 use Rattle.rangemap_core.proofs.MetLemmas.{canonical_met}
 use Rattle.rangemap_core.proofs.StoredLemmas.{non_empty_at}
 use Rattle.rangemap_core.proofs.UnitLemmas.{units_cmp, units_fed, units_same}
-use Rattle.rangemap_core.specs.Sets.{Adds, AreCommon, AreEither, IsCanonicalSet, TakesOut, met, range_at, ranges}
+use Rattle.rangemap_core.specs.Sets.{Adds, IsCanonicalSet, TakesOut, met, range_at, ranges}
 use Rattle.rangemap_unions.proofs.UnitValueLemmas.{added, canonical_ranges, covering_covers, covering_range, points_of, ranges_met, taken_out, value_covers, with_ranges}
 
 module _ {K X : Type 0} (k : RangeKind K X) (ps : List (X × ⊤)) (list : List X) (is : ranges ps ≡ list) where
@@ -81,20 +81,7 @@ module _ {K X : Type 0} (k : RangeKind K X) (ps : List (X × ⊤)) (list : List 
   pub shown_last : (o : Option (X × ⊤)) → o ≡ slice_get ps (length ps - 1) → option_map (λ (p : X × ⊤). p.0) o ≡ slice_get list (length list - 1)
   shown_last o found = shown (length ps - 1) o found ∙ ap (λ n. slice_get list (n - 1)) (sym (length_ranges ps) ∙ ap length is)
 
-  -- what an operator makes of the ranges of two maps
-  pub united : (qs : List (X × ⊤)) (other all : List X) → ranges qs ≡ other → AreEither k (ranges ps) (ranges qs) all → AreEither k list other all
-  united qs other all it h = subst (λ rs. AreEither k rs other all) is (subst (λ rs. AreEither k (ranges ps) rs all) it h)
-
-  pub intersected : (qs : List (X × ⊤)) (other all : List X) → ranges qs ≡ other → AreCommon k (ranges ps) (ranges qs) all → AreCommon k list other all
-  intersected qs other all it h = subst (λ rs. AreCommon k rs other all) is (subst (λ rs. AreCommon k (ranges ps) rs all) it h)
-
-  -- so are those that are put behind others
-  pub all_with_unit : (old new : List (X × ⊤)) → Appends k (unit_eq k) ps old new → Appends k (unit_eq k) (with_unit k list) old new
-  all_with_unit old new = subst (λ qs. Appends k (unit_eq k) qs old new) pairs_are
-
-  pub overlapped_with_unit : (q : X) (old new : List (X × ⊤)) → Appends k (unit_eq k) (overlapped k ps q) old new → Appends k (unit_eq k) (overlapped k (with_unit k list) q) old new
-  overlapped_with_unit q old new = subst (λ qs. Appends k (unit_eq k) (overlapped k qs q) old new) pairs_are
-
+  -- gaps that are put behind others
   pub gaps_with_unit : (q : X) (old new : List X) → AppendsGaps k (ranges ps) q old new → AppendsGaps k (ranges (with_unit k list)) q old new
   gaps_with_unit q old new = subst (λ qs. AppendsGaps k (ranges qs) q old new) pairs_are
 

@@ -1,8 +1,10 @@
 -- A set's keys after a change, as one equation of truth values over plain numbers, and the first gap of a range without a loop.
-use Rattle.std.proofs.Common.{◌≡◌, ◌≢◌, ◌<◌, ◌≤◌, ◌+◌, ◌&&◌, ◌||◌, ◌⊎◌, inl, inr, ℕ, List, [], ◌∷◌, ◌++◌, Bool, true, false, Option, Some, None, Result, Ok, IsOkAnd, map, cond, is_some, length, take, get_or, nat_le, nat_lt, not, arith, ap, ◌∙◌, sym, refl, subst, true≢false}
+use Rattle.std.proofs.Common.{◌≡◌, ◌≢◌, ◌<◌, ◌≤◌, ◌+◌, ◌&&◌, ◌||◌, ◌⊎◌, inl, inr, ℕ, List, [], ◌∷◌, ◌++◌, Bool, true, false, Option, Some, None, Result, Ok, IsOkAnd, OnOk, map, cond, is_some, length, take, get_or, nat_le, nat_lt, not, arith, ap, ◌∙◌, sym, refl, subst, true≢false}
 use Rattle.std.proofs.lemmas.Bool.Decides.{nat_tests}
 use Rattle.std.proofs.lemmas.List.{take_more}
 use Rattle.std.proofs.lemmas.List.Elements.{All-nil}
+use Rattle.std.proofs.lemmas.Result.{on_ok_weaker}
+use Rattle.std.specs.Bool.{⊤}
 use Rattle.std.specs.List.{find}
 use Rattle.std.specs.Ordering.{nat_cmp}
 use Rattle.std.specs.Range.{range_inclusive_end, range_inclusive_start}
@@ -80,6 +82,10 @@ module _ {K X : Type 0} (k : RangeKind K X) where
 -- what a set of numbers covers after an insert of `a..b`
 pub added_between : (old new : List (Range ℕ)) (r : Range ℕ) → Adds (half_open nat_cmp) old (r ∷ []) new → (x : ℕ) → covers (half_open nat_cmp) new x ≡ (covers (half_open nat_cmp) old x || (nat_le r.start x && nat_lt x r.end))
 added_between old new r adds x = added (half_open nat_cmp) old new r x tt adds ∙ ap (λ b. covers (half_open nat_cmp) old x || b) (half_open_test r x)
+
+-- the same of a call that may be refused
+pub inserted_between : (result : Result ⊤ AllocError) (old new : List (Range ℕ)) (r : Range ℕ) → OnOk result (Adds (half_open nat_cmp) old (r ∷ []) new) → OnOk result ((x : ℕ) → covers (half_open nat_cmp) new x ≡ (covers (half_open nat_cmp) old x || (nat_le r.start x && nat_lt x r.end)))
+inserted_between result old new r adds = on_ok_weaker result (added_between old new r) adds
 
 -- what a set of numbers covers after a removal of `a..b`
 pub taken_between : (old new : List (Range ℕ)) (r : Range ℕ) → TakesOut (half_open nat_cmp) old r new → (x : ℕ) → covers (half_open nat_cmp) new x ≡ (covers (half_open nat_cmp) old x && not (nat_le r.start x && nat_lt x r.end))

@@ -26,8 +26,8 @@ pub use operators::Operator;
 /// A set of keys in disjoint ranges, which joins ranges that overlap or touch.
 ///
 /// `S` keeps the ranges: a sorted vector, a tree, chunks. A call costs what the map's of its name
-/// does, as the page of `Map` says; `get` and `contains` are lookups. Of *n* stored ranges, and *m* of
-/// another set, those that only sets have:
+/// does, as the page of `Map` says; `get`, `contains`, `first` and `last` are lookups. Of *n* stored
+/// ranges, and *m* of another set, those that only sets have:
 ///
 /// | Call | Time |
 /// |---|---|
@@ -69,7 +69,7 @@ impl<S: StoreMut<Value = ()>> Set<S> {
     /// Returns the empty set over the steps of its kind, whose memory will come from `alloc`.
     ///
     /// Over closed ranges the kind is `Closed<StepFnsT>`, and the steps are those of `StepFnsT`. Half-open
-    /// ranges need none: make them by `new`.
+    /// ranges have none, and `new` makes their set.
     pub fn new_with_step_fns(alloc: S::Alloc) -> Self
         ensures { result ≡ [] }
     {
@@ -176,6 +176,14 @@ where
     /// Nothing is asked of `range`. An empty one strictly inside a stored range meets it, and so
     /// does a reversed one both of whose ends lie strictly inside; of closed ranges a reversed one
     /// meets it also where its ends are the stored ones.
+    ///
+    /// # Examples
+    ///
+    /// ```text
+    /// let set = RangeSet::from(alloc, [0..2, 4..6, 8..9])?;
+    /// let mut found = set.overlapping(&(1..8));
+    /// // found.next() is Some(&(0..2)), found.next_back() is Some(&(4..6)), and then both are None
+    /// ```
     pub fn overlapping(&'a self, range: &'a S::Range) -> OverlappingRanges<S::Overlapping>
         ensures met { result ≡ met S.Kind.kind self.now range.now }
         ensures canonical { IsCanonicalSet S.Kind.kind result }

@@ -28,7 +28,7 @@ mod text;
 ///
 /// | Call | Time | Memory |
 /// |---|---|---|
-/// | `new`, `new_with_step_fns`, `allocator`, `len`, `is_empty` | *O*(1) | none |
+/// | `new`, `new_with_step_fns`, `known`, `allocator`, `len`, `is_empty` | *O*(1) | none |
 /// | lookups, `overlaps` | *O*(log *n*) | none |
 /// | `iter`, `into_iter` | *O*(log *n*) at most, and *O*(*n*) for all items | none |
 /// | `overlapping` | *O*(log *n*), and *O*(*k*) for all items | none |
@@ -73,7 +73,7 @@ impl<S: StoreMut> Map<S> {
     /// Returns the empty map over the steps of its kind, whose memory will come from `alloc`.
     ///
     /// Over closed ranges the kind is `Closed<StepFnsT>`, and the steps are those of `StepFnsT`. Half-open
-    /// ranges need none: make them by `new`.
+    /// ranges have none, and `new` makes their map.
     pub fn new_with_step_fns(alloc: S::Alloc) -> Self
         ensures { result ≡ [] }
     {

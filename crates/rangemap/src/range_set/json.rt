@@ -59,9 +59,10 @@ where
     /// Returns the set that a value of the JSON form stands for: the ranges that the caller's
     /// function reads of its entries, inserted in order, in memory of `alloc`.
     ///
-    /// With `Form::Any` entries may overlap, touch and stand in any order. With `Form::Canonical` a
-    /// value is read, memory aside, exactly if the ranges read are a canonical list, which the set
-    /// then holds.
+    /// With `Form::Any` entries may overlap, touch and stand in any order. With `Form::Canonical` the
+    /// ranges that are read are a canonical list, which the set then holds. Where the function reads
+    /// each time, up to equality, what it may read of a part, a value whose parts may all be read, as
+    /// ranges that the form accepts, is refused for want of memory alone.
     ///
     /// # Requires
     ///

@@ -63,9 +63,10 @@ where
     /// Returns the map that a value of the JSON form stands for: the pairs that the caller's
     /// functions read of its entries, inserted in order, in memory of `alloc`.
     ///
-    /// With `Form::Any` entries may overlap and stand in any order. With `Form::Canonical` a value
-    /// is read, memory aside, exactly if the pairs read are a canonical list, which the map then
-    /// holds.
+    /// With `Form::Any` entries may overlap and stand in any order. With `Form::Canonical` the pairs
+    /// that are read are a canonical list, which the map then holds. Where the functions read each
+    /// time, up to equality, what they may read of a part, a value whose parts may all be read, as
+    /// pairs that the form accepts, is refused for want of memory alone.
     ///
     /// # Requires
     ///

@@ -1,6 +1,5 @@
-use Rattle.std.proofs.lemmas.Result.{on_ok_weaker}
-use Rattle.rangemap.proofs.SetNumberLemmas.{added_between}
+use Rattle.rangemap.proofs.SetNumberLemmas.{inserted_between}
 use Rattle.examples.proofs.calling.add.Goals as goal
 
 pub returns-clause-added : goal.returns-clause-added
-returns-clause-added c = on_ok_weaker c.insert.result (added_between _ _ _) c.insert.ensures.ok
+returns-clause-added c = inserted_between c.insert.result _ _ _ c.insert.ensures.ok

@@ -1,6 +1,5 @@
-use Rattle.std.proofs.lemmas.Result.{on_ok_weaker}
-use Rattle.rangemap.proofs.SetNumberLemmas.{added_between}
+use Rattle.rangemap.proofs.SetNumberLemmas.{inserted_between}
 use Rattle.examples.proofs.calling.note.Goals as goal
 
 pub returns-clause-noted : goal.returns-clause-noted
-returns-clause-noted c = on_ok_weaker c.insert.result (added_between _ _ _) c.insert.ensures.ok
+returns-clause-noted c = inserted_between c.insert.result _ _ _ c.insert.ensures.ok

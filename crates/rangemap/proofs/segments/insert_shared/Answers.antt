@@ -1,6 +1,6 @@
 use Rattle.std.proofs.lemmas.Result.{on_ok_weaker}
 use Rattle.rangemap_core.specs.Ranges.{IsStorable, value_at}
-use Rattle.rangemap.proofs.SharedLemmas.{shares_none, shares_some}
+use Rattle.rangemap_core.proofs.SegmentLemmas.{shares_none, shares_some}
 use Rattle.rangemap.proofs.segments.insert_shared.Goals as goal
 
 pub insert-requires-clause-non_empty : goal.insert-requires-clause-non_empty

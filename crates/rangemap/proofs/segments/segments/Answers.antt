@@ -6,9 +6,8 @@ use Rattle.std.specs.Vec.Iter.{into_iter_items}
 use Rattle.rangemap_core.specs.Ranges.{Alike, overlapped, value_at}
 use Rattle.rangemap_core.specs.Segments.{segments_of}
 use Rattle.rangemap_core.proofs.AppendLemmas.{appended_alone}
-use Rattle.rangemap_core.proofs.SegmentLemmas.{clipped}
+use Rattle.rangemap_core.proofs.SegmentLemmas.{begun_query, clipped, clipped_next}
 use Rattle.rangemap_core.proofs.ClippedCloneLemmas.{clipped_by_clones}
-use Rattle.rangemap.proofs.SharedLemmas.{begun_query, clipped_next}
 use Rattle.rangemap.proofs.segments.segments.Goals as goal
 
 pub insert_shared-requires-clause-faithful_values : goal.insert_shared-requires-clause-faithful_values
