@@ -4,11 +4,11 @@ use Rattle.std.specs.List.{list_all}
 use Rattle.std.specs.Char.{is_ascii_lowercase}
 use Rattle.std.specs.declared.fmt.Debug.{Ghosts as DebugGhosts}
 use Rattle.rangemap_core.specs.declared.key_range.KeyRange.{Ghosts as KeyRangeGhosts}
-use Rattle.rangerun_library.specs.declared.command.Command.{Command}
 use Rattle.rangerun_library.specs.declared.fault.Cause.{Cause}
 use Rattle.rangerun_library.specs.declared.fault.Cause.TheVariants.{Arguments, Command as CommandFault, Number, EmptyRange, Value, Stream, Memory}
 use Rattle.rangerun_library.specs.declared.words.Operands.{Operands}
 use Rattle.rangerun_library.specs.declared.words.Operands.TheVariants.{None, One, Two, Three, More}
+use Rattle.rangerun_library.specs.Bookings.{HasForm as HasBookingForm}
 use Rattle.rangerun_library.specs.Readings.{HasForm, IsReading, lone_names, range_names}
 use Rattle.rangerun_library.specs.Words.{AreEnds, IsDivision, IsNumber, IsOneOf, IsValue, holds_key, number_of}
 use Rattle.rangerun_library.proofs.Ascii.{letters_are_text}
@@ -114,3 +114,28 @@ no_text words first (One one) are has_value none form = none (name_is_text has_v
 no_text words first (Two one two) are has_value none form = none (name_is_text has_value first (one.now ∷ two.now ∷ []) (rw are at form))
 no_text words first (Three one two three) are has_value none form = none (name_is_text has_value first (one.now ∷ two.now ∷ three.now ∷ []) (rw are at form))
 no_text words first More long has_value none form = too_long words long has_value form
+
+-- the name of a command on a calendar is text
+booking_is_text : (name : List ℕ) (operands : List (List ℕ)) → HasBookingForm (name ∷ operands) → IsUtf8 name
+booking_is_text name [] form = rw form (letters_are_text (codes "iter") refl)
+booking_is_text name (one ∷ []) form = absurd form
+booking_is_text name (one ∷ two ∷ []) form = one_is_text (codes "cancel" ∷ codes "free" ∷ []) name refl form
+booking_is_text name (one ∷ two ∷ three ∷ []) form = rw form (letters_are_text (codes "book") refl)
+booking_is_text name (one ∷ two ∷ three ∷ four ∷ more) form = absurd form
+
+-- five words or more are no command's on a calendar
+too_long_booking : (words : List (List ℕ)) → 4 < length words → ¬ HasBookingForm words
+too_long_booking [] long form = omega arith
+too_long_booking (name ∷ []) long form = omega arith
+too_long_booking (name ∷ one ∷ []) long form = omega arith
+too_long_booking (name ∷ one ∷ two ∷ []) long form = omega arith
+too_long_booking (name ∷ one ∷ two ∷ three ∷ []) long form = omega arith
+too_long_booking (name ∷ one ∷ two ∷ three ∷ four ∷ more) long form = form
+
+-- words of which the first is no text are no command's on a calendar
+pub no_booking_text : (words : List (List ℕ)) (first : List ℕ) (operands : Operands) → IsDivision words first operands → (¬ IsUtf8 first) → ¬ HasBookingForm words
+no_booking_text words first None are none form = none (booking_is_text first [] (rw are at form))
+no_booking_text words first (One one) are none form = none (booking_is_text first (one.now ∷ []) (rw are at form))
+no_booking_text words first (Two one two) are none form = none (booking_is_text first (one.now ∷ two.now ∷ []) (rw are at form))
+no_booking_text words first (Three one two three) are none form = none (booking_is_text first (one.now ∷ two.now ∷ three.now ∷ []) (rw are at form))
+no_booking_text words first More long none form = too_long_booking words long form

@@ -4,7 +4,9 @@ use Rattle.std.specs.List.{AllByRecursion}
 use Rattle.std.specs.declared.fmt.Debug.{Ghosts as DebugGhosts}
 use Rattle.rangemap_core.specs.declared.key_range.KeyRange.{Ghosts as KeyRangeGhosts}
 use Rattle.rangerun_library.specs.declared.command.Command.{Command}
-use Rattle.rangerun_library.specs.declared.command.Command.TheVariants.{Insert, Remove, Clear, Get, First, Last, Iter, Len, Overlapping, Overlaps, Gaps, Json}
+use Rattle.rangerun_library.specs.declared.command.Command.TheVariants.{Insert, Remove, Clear, Ask}
+use Rattle.rangerun_library.specs.declared.command.Question.{Question}
+use Rattle.rangerun_library.specs.declared.command.Question.TheVariants.{Get, First, Last, Iter, Len, Overlapping, Overlaps, Gaps, Json}
 use Rattle.rangerun_library.specs.declared.fault.Cause.{Cause}
 use Rattle.rangerun_library.specs.declared.fault.Cause.TheVariants.{Command as CommandFault, Number, EmptyRange, Value}
 use Rattle.rangerun_library.specs.Words.{AreEnds, IsNumber, IsOneOf, IsValue, holds_key, number_of}
@@ -49,24 +51,28 @@ IsRangeOf ranges start end range =
     IsNumber start × IsNumber end × (ranges.read.start range ≡ number_of start) × (ranges.read.end range ≡ number_of end)
     × (ranges.read.IsNonEmpty range ↔ (holds_key ranges.has_end (number_of start) (number_of end) ≡ true))
 
+-- the words are those of the question
+abbrev pub IsAskedAs : {R : Type 0} → KeyRangeGhosts R ℕ → List (List ℕ) → Question R → Type 0
+IsAskedAs ranges words First = words ≡ codes "first" ∷ []
+IsAskedAs ranges words Last = words ≡ codes "last" ∷ []
+IsAskedAs ranges words Iter = words ≡ codes "iter" ∷ []
+IsAskedAs ranges words Len = words ≡ codes "len" ∷ []
+IsAskedAs ranges words Json = words ≡ codes "json" ∷ []
+IsAskedAs ranges words (Get key) = (word : List ℕ) × (words ≡ codes "get" ∷ word ∷ []) × IsNumber word × (key ≡ number_of word)
+IsAskedAs ranges words (Overlapping range) = (start end : List ℕ) × (words ≡ codes "overlapping" ∷ start ∷ end ∷ []) × IsRangeOf ranges start end range
+IsAskedAs ranges words (Overlaps range) = (start end : List ℕ) × (words ≡ codes "overlaps" ∷ start ∷ end ∷ []) × IsRangeOf ranges start end range
+IsAskedAs ranges words (Gaps range) = (start end : List ℕ) × (words ≡ codes "gaps" ∷ start ∷ end ∷ []) × IsRangeOf ranges start end range
+
 module _ {R : Type 0} {ranges : KeyRangeGhosts R ℕ} {prints : DebugGhosts R} where
   -- the words are those of the command
   abbrev pub IsReadAs : Bool → List (List ℕ) → Command R ranges prints → Type 0
   IsReadAs has_value words Clear = words ≡ codes "clear" ∷ []
-  IsReadAs has_value words First = words ≡ codes "first" ∷ []
-  IsReadAs has_value words Last = words ≡ codes "last" ∷ []
-  IsReadAs has_value words Iter = words ≡ codes "iter" ∷ []
-  IsReadAs has_value words Len = words ≡ codes "len" ∷ []
-  IsReadAs has_value words Json = words ≡ codes "json" ∷ []
-  IsReadAs has_value words (Get key) = (word : List ℕ) × (words ≡ codes "get" ∷ word ∷ []) × IsNumber word × (key ≡ number_of word)
   IsReadAs false words (Insert span None) = (start end : List ℕ) × (words ≡ codes "insert" ∷ start ∷ end ∷ []) × AreEndsOf ranges.has_end start end span.start span.end
   IsReadAs true words (Insert span (Some value)) =
       (start end : List ℕ) × (words ≡ codes "insert" ∷ start ∷ end ∷ value.now ∷ []) × AreEndsOf ranges.has_end start end span.start span.end × IsValue value.now
   IsReadAs has_value words (Insert _ _) = ⊥
   IsReadAs has_value words (Remove span) = (start end : List ℕ) × (words ≡ codes "remove" ∷ start ∷ end ∷ []) × AreEndsOf ranges.has_end start end span.start span.end
-  IsReadAs has_value words (Overlapping range) = (start end : List ℕ) × (words ≡ codes "overlapping" ∷ start ∷ end ∷ []) × IsRangeOf ranges start end range
-  IsReadAs has_value words (Overlaps range) = (start end : List ℕ) × (words ≡ codes "overlaps" ∷ start ∷ end ∷ []) × IsRangeOf ranges start end range
-  IsReadAs has_value words (Gaps range) = (start end : List ℕ) × (words ≡ codes "gaps" ∷ start ∷ end ∷ []) × IsRangeOf ranges start end range
+  IsReadAs has_value words (Ask question) = IsAskedAs ranges words question
 
   -- The words are read as the command that they are, and else the fault of the least number is told. In whichever case is said, the
   -- others can't be: so each is answered exactly where it is said.

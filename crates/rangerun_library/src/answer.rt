@@ -2,7 +2,7 @@
 ghost use Rattle.std.specs.Prelude.{◌≡◌, OnErr, OnOk};
 ghost use Rattle.rangerun_library.specs.Commands.{IsCarriedOut};
 
-use crate::command::Command;
+use crate::command::{Command, Question};
 use crate::container::Container;
 use crate::listing::{write_gaps, write_item_or_none, write_json, write_overlapping};
 use std::alloc::{AllocError, Allocator, Global};
@@ -30,14 +30,27 @@ pub fn answer<A: Allocator, C: Container<Alloc = A>>(
             container.clear();
             Ok(())
         }
-        Command::Get(key) => write_item_or_none(text, container.get_key_value(&key)),
-        Command::First => write_item_or_none(text, container.first_range_value()),
-        Command::Last => write_item_or_none(text, container.last_range_value()),
-        Command::Iter => writeln!(text, "{container:?}"),
-        Command::Len => writeln!(text, "{}", container.len()),
-        Command::Overlapping(range) => write_overlapping(alloc, text, container, &range),
-        Command::Overlaps(range) => writeln!(text, "{}", container.overlaps(&range)),
-        Command::Gaps(range) => write_gaps(alloc, text, container, &range),
-        Command::Json => write_json(json_alloc, text, container),
+        Command::Ask(question) => tell(alloc, json_alloc, container, question, text),
+    }
+}
+
+// Appends the line that tells what the container answers.
+fn tell<A: Allocator, C: Container<Alloc = A>>(
+    alloc: A,
+    json_alloc: Global,
+    container: &C,
+    question: Question<C::Range>,
+    text: &mut String<A>,
+) -> Result<(), AllocError> {
+    match question {
+        Question::Get(key) => write_item_or_none(text, container.get_key_value(&key)),
+        Question::First => write_item_or_none(text, container.first_range_value()),
+        Question::Last => write_item_or_none(text, container.last_range_value()),
+        Question::Iter => writeln!(text, "{container:?}"),
+        Question::Len => writeln!(text, "{}", container.len()),
+        Question::Overlapping(range) => write_overlapping(alloc, text, container, &range),
+        Question::Overlaps(range) => writeln!(text, "{}", container.overlaps(&range)),
+        Question::Gaps(range) => write_gaps(alloc, text, container, &range),
+        Question::Json => write_json(json_alloc, text, container),
     }
 }

@@ -17,23 +17,30 @@ pub enum Command<'a, R: NumberRange> {
     Remove(Span<R>),
     /// Take every key out.
     Clear,
-    /// Print the item that has a key.
+    /// Print the answer to a question, which leaves the container as it is.
+    Ask(Question<R>),
+}
+
+/// What a line asks a container of ranges `R`.
+#[derive(Debug, Drop)]
+pub enum Question<R> {
+    /// Which item has a key.
     Get(u32),
-    /// Print the first item.
+    /// Which is the first item.
     First,
-    /// Print the last item.
+    /// Which is the last item.
     Last,
-    /// Print all items.
+    /// Which are all items.
     Iter,
-    /// Print the number of items.
+    /// How many items there are.
     Len,
-    /// Print the items that a range overlaps.
+    /// Which items a range overlaps.
     Overlapping(R),
-    /// Print whether there are any.
+    /// Whether there are any.
     Overlaps(R),
-    /// Print the parts of a range that no item has.
+    /// Which parts of a range no item has.
     Gaps(R),
-    /// Print the JSON form of the container.
+    /// What the JSON form of the container is.
     Json,
 }
 
@@ -70,11 +77,11 @@ fn parse_bare<'a, R: NumberRange>(name: &str) -> Result<Command<'a, R>, Cause>
 {
     match name {
         "clear" => Ok(Command::Clear),
-        "first" => Ok(Command::First),
-        "last" => Ok(Command::Last),
-        "iter" => Ok(Command::Iter),
-        "len" => Ok(Command::Len),
-        "json" => Ok(Command::Json),
+        "first" => Ok(Command::Ask(Question::First)),
+        "last" => Ok(Command::Ask(Question::Last)),
+        "iter" => Ok(Command::Ask(Question::Iter)),
+        "len" => Ok(Command::Ask(Question::Len)),
+        "json" => Ok(Command::Ask(Question::Json)),
         _ => Err(Cause::Command),
     }
 }
@@ -84,7 +91,7 @@ fn parse_get<'a, R: NumberRange>(name: &str, key: &[u8]) -> Result<Command<'a, R
     ensures { (has_value : Bool) → IsReading has_value (name.now ∷ key.now ∷ []) result }
 {
     match name {
-        "get" => Ok(Command::Get(words::number(key)?)),
+        "get" => Ok(Command::Ask(Question::Get(words::number(key)?))),
         _ => Err(Cause::Command),
     }
 }
@@ -106,9 +113,9 @@ fn parse_ends<'a, R: NumberRange>(
             Ok(Command::Insert(parse_span(start, end)?, None))
         }
         "remove" => Ok(Command::Remove(parse_span(start, end)?)),
-        "overlapping" => Ok(Command::Overlapping(parse_query(start, end)?)),
-        "overlaps" => Ok(Command::Overlaps(parse_query(start, end)?)),
-        "gaps" => Ok(Command::Gaps(parse_query(start, end)?)),
+        "overlapping" => Ok(Command::Ask(Question::Overlapping(parse_query(start, end)?))),
+        "overlaps" => Ok(Command::Ask(Question::Overlaps(parse_query(start, end)?))),
+        "gaps" => Ok(Command::Ask(Question::Gaps(parse_query(start, end)?))),
         _ => Err(Cause::Command),
     }
 }

@@ -1,12 +1,15 @@
 //! The program from its arguments to its last answer.
 
+mod subjects;
+
 use crate::container::{ClosedMap, ClosedSet, HalfOpenMap, HalfOpenSet};
 use crate::fault::{Cause, Fault};
 use crate::lines::{Source, fetch};
-use crate::target::{ContainerTarget, Target};
+use crate::target::Target;
 use calendar::Calendar;
 use std::alloc::{Allocator, Global};
 use std::io::{self, BufRead, BufReader, Read, Write};
+use subjects::Subject;
 
 /// Carries out the commands of `input` over the map, the set or the calendar that `args`, the words
 /// after the program's name, ask for, and writes each answer to `output` before it reads the next line.
@@ -40,19 +43,11 @@ pub fn run_in<A: Allocator + Copy, R: Read + Drop, W: Write + Drop>(
         return Err(Cause::Arguments.at(0));
     };
     match kind.as_str() {
-        "map" => run_over::<A, ContainerTarget<A, HalfOpenMap<A>>, R, W>(
-            alloc, json_alloc, input, output,
-        ),
-        "imap" => run_over::<A, ContainerTarget<A, ClosedMap<A>>, R, W>(
-            alloc, json_alloc, input, output,
-        ),
-        "set" => run_over::<A, ContainerTarget<A, HalfOpenSet<A>>, R, W>(
-            alloc, json_alloc, input, output,
-        ),
-        "iset" => run_over::<A, ContainerTarget<A, ClosedSet<A>>, R, W>(
-            alloc, json_alloc, input, output,
-        ),
-        "cal" => run_over::<A, Calendar<A>, R, W>(alloc, json_alloc, input, output),
+        "map" => <HalfOpenMap<A> as Subject<A>>::run(alloc, json_alloc, input, output),
+        "imap" => <ClosedMap<A> as Subject<A>>::run(alloc, json_alloc, input, output),
+        "set" => <HalfOpenSet<A> as Subject<A>>::run(alloc, json_alloc, input, output),
+        "iset" => <ClosedSet<A> as Subject<A>>::run(alloc, json_alloc, input, output),
+        "cal" => <Calendar<A> as Subject<A>>::run(alloc, json_alloc, input, output),
         _ => Err(Cause::Arguments.at(0)),
     }
 }

@@ -1,5 +1,5 @@
 -- The words that the calls took are those of the line.
-use Rattle.std.proofs.Common.{◌<◌, ◌==◌, length, List, arith, rules, tests}
+use Rattle.std.proofs.Common.{◌<◌, ◌==◌, length, arith, rules, tests}
 use Rattle.std.proofs.lemmas.Iterator.Splits.{YieldsList-from_slice_split}
 use Rattle.std.proofs.lemmas.List.Splits.{length-slice_split}
 use Rattle.rangerun_library.specs.Words.{words_of}
