@@ -4,8 +4,8 @@
 //! error.
 //!
 //! To add a container: its type in `store.rt` of `crates/bench_workloads` (of a set `SetStore`
-//! too); its number in `containers.rt` and its arm in `run.rt` of `crates/bench_map`, and the number
-//! in `rattle_side`; its `Container` in `containers`, and its name in `measure` below and in `bytes`;
+//! too), its number in `containers.rt` there and its arm in `dispatch.rt`, and the number in
+//! `rattle_side`; its `Container` in `containers`, and its name in `measure` below and in `bytes`;
 //! where the Rust crate has another one, too, a `map_store!` or `set_store!` in `rust_side`.
 //!
 //! To add a workload: a function in `workloads.rt` of `crates/bench_workloads`, and its arm in `run`

@@ -2,8 +2,8 @@
 
 use crate::side::{MapSide, SetSide};
 
-// A function of `crates/bench_map/src/exports.rt`, over the container that `containers.rt` gives
-// the number. A slice is a pointer and a length there.
+// A function of `crates/bench_map/src/exports.rt`, over the container that has the number in
+// `crates/bench_workloads/src/containers.rt`. A slice is a pointer and a length there.
 macro_rules! run {
     ($container:literal, $export:ident) => {
         |entries, queries, rounds| {

@@ -1,7 +1,7 @@
 //! The calls that a timing program makes. Each names its container by a number of `containers`.
 
-use crate::containers;
 use crate::run::{over_map, over_set};
+use bench_workloads::containers;
 use bench_workloads::input::{Entry, Query};
 use bench_workloads::workloads::Workload;
 use bench_workloads::workloads::sets::SetWorkload;

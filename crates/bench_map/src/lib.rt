@@ -7,6 +7,5 @@
 //! call is for.
 #![tactic(auto)]
 
-mod containers;
 pub mod exports;
 mod run;

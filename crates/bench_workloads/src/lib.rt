@@ -5,7 +5,9 @@
 //! answers is tested, and each run of the bench compares the digests with those of the Rust crate.
 #![tactic(auto)]
 
+pub mod containers;
 pub mod digest;
+pub mod dispatch;
 pub mod input;
 pub mod set_store;
 pub mod store;

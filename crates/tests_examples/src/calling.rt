@@ -11,6 +11,7 @@ use rangemap::{
     RangeInclusiveMap, RangeMap, RangeSet, range_inclusive_set, range_set, tree_map, tree_set,
 };
 use std::cmp::OrderedFloat;
+use std::process::Abort;
 use std::test::Fail;
 
 #[test]
@@ -38,30 +39,50 @@ fn snippets_with_gaps_answer(rt: HostRuntime) -> Result<(), Fail> {
     Ok(())
 }
 
-#[test]
-fn snippets_with_one_set_answer(rt: HostRuntime) -> Result<(), Fail> {
+// Adds ranges to a set one by one.
+fn assert_added<R: AllocGlobal + Abort>(rt: &R) -> Result<(), Fail> {
     let mut set = RangeSet::new(rt.alloc());
     add(&mut set, 0, 2)?;
     add_all(&mut set, &[2..4, 9..9, 5..6])?;
-    assert_same(&rt, set == range_set![in rt.alloc(); 0..4u64, 5..6]?, true);
+    assert_same(rt, set == range_set![in rt.alloc(); 0..4u64, 5..6]?, true);
+    Ok(())
+}
+
+// Adds two shifts to a set, and asks below which hour it lies.
+fn assert_shifts<R: AllocGlobal + Abort>(rt: &R) -> Result<(), Fail> {
     let mut hours = RangeSet::new(rt.alloc());
     add_shifts(&mut hours)?;
-    assert_same(
-        &rt,
-        hours == range_set![in rt.alloc(); 0..5u32, 7..9]?,
-        true,
-    );
+    let expected = range_set![in rt.alloc(); 0..5u32, 7..9]?;
+    assert_same(rt, hours == expected, true);
+    assert_same(rt, are_equal(&hours, &hours), true);
     let found = (is_below(&hours, 9), is_below(&hours, 8));
-    assert_same(&rt, found, (true, false));
+    assert_same(rt, found, (true, false));
+    Ok(())
+}
+
+// Asks the same of a set of closed ranges.
+fn assert_days<R: AllocGlobal + Abort>(rt: &R) -> Result<(), Fail> {
     let days = range_inclusive_set![in rt.alloc(); 0..=4u32, 7..=8]?;
     let found = (is_at_most(&days, 8), is_at_most(&days, 7));
-    assert_same(&rt, found, (true, false));
-    assert_same(&rt, are_equal(&hours, &hours), true);
+    assert_same(rt, found, (true, false));
+    Ok(())
+}
+
+// Notes a range in a set in a tree.
+fn assert_noted<R: AllocGlobal + Abort>(rt: &R) -> Result<(), Fail> {
     let mut seen = tree_set::RangeSet::new(rt.alloc());
     note(&mut seen, 3, 5)?;
     let found = (seen.contains(&4), seen.contains(&5));
-    assert_same(&rt, found, (true, false));
+    assert_same(rt, found, (true, false));
     Ok(())
+}
+
+#[test]
+fn snippets_with_one_set_answer(rt: HostRuntime) -> Result<(), Fail> {
+    assert_added(&rt)?;
+    assert_shifts(&rt)?;
+    assert_days(&rt)?;
+    assert_noted(&rt)
 }
 
 #[test]
@@ -78,35 +99,63 @@ fn snippets_with_two_lists_answer(rt: HostRuntime) -> Result<(), Fail> {
     Ok(())
 }
 
-#[test]
-fn snippets_with_other_maps_answer(rt: HostRuntime) -> Result<(), Fail> {
+// Looks up what three inserts left.
+fn assert_ends<R: AllocGlobal + Abort>(rt: &R) -> Result<(), Fail> {
     let map = ends(rt.alloc())?;
     let found = (map.get(&6).copied(), map.get(&7).copied(), map.len());
-    assert_same(&rt, found, (Some(2), Some(1), 4));
+    assert_same(rt, found, (Some(2), Some(1), 4));
+    Ok(())
+}
+
+// Makes two maps equal, each by inserts in another order.
+fn assert_either_way<R: AllocGlobal + Abort>(rt: &R) -> Result<(), Fail> {
     let mut one = RangeInclusiveMap::new(rt.alloc());
     let mut other = RangeInclusiveMap::new(rt.alloc());
-    assert_same(&rt, either_way(&mut one, &mut other)?, true);
-    assert_same(&rt, (one.get(&9).copied(), one.len()), (Some(1), 2));
-    assert_same(&rt, other == one, true);
+    assert_same(rt, either_way(&mut one, &mut other)?, true);
+    assert_same(rt, (one.get(&9).copied(), one.len()), (Some(1), 2));
+    assert_same(rt, other == one, true);
+    Ok(())
+}
+
+// Asks whether a stock lies below a number.
+fn assert_stock<R: AllocGlobal + Abort>(rt: &R) -> Result<(), Fail> {
     let mut stock = tree_map::RangeMap::new(rt.alloc());
     stock.insert(0..5u32, 3u32)?;
     let found = (are_below(&stock, 2, 9, 4), are_below(&stock, 2, 9, 3));
-    assert_same(&rt, found, (true, false));
+    assert_same(rt, found, (true, false));
+    Ok(())
+}
+
+#[test]
+fn snippets_with_other_maps_answer(rt: HostRuntime) -> Result<(), Fail> {
+    assert_ends(&rt)?;
+    assert_either_way(&rt)?;
+    assert_stock(&rt)
+}
+
+// Adds texts, of which the last two have none between them, to a set.
+fn assert_names<R: AllocGlobal + Abort>(rt: &R) -> Result<(), Fail> {
+    let text = |text: &str| text.to_string(rt.alloc());
+    let mut names = RangeSet::new(rt.alloc());
+    add_texts(&mut names, text("b")?, text("d")?)?;
+    add_texts(&mut names, text("x")?, text("x")?)?;
+    assert_same(rt, names.len(), 1);
+    assert_same(rt, names.contains(&text("c")?), true);
+    Ok(())
+}
+
+// Gives classes to temperatures.
+fn assert_classes<R: AllocGlobal + Abort>(rt: &R) -> Result<(), Fail> {
+    let mut classes = RangeMap::new(rt.alloc());
+    classify(&mut classes, OrderedFloat(36.5), OrderedFloat(38.0), 1)?;
+    classify(&mut classes, OrderedFloat(40.0), OrderedFloat(40.0), 2)?;
+    assert_same(rt, classes.len(), 1);
+    assert_same(rt, classes.get(&OrderedFloat(37.0)).copied(), Some(1));
     Ok(())
 }
 
 #[test]
 fn snippets_with_texts_and_floats_answer(rt: HostRuntime) -> Result<(), Fail> {
-    let text = |text: &str| text.to_string(rt.alloc());
-    let mut names = RangeSet::new(rt.alloc());
-    add_texts(&mut names, text("b")?, text("d")?)?;
-    add_texts(&mut names, text("x")?, text("x")?)?;
-    assert_same(&rt, names.len(), 1);
-    assert_same(&rt, names.contains(&text("c")?), true);
-    let mut classes = RangeMap::new(rt.alloc());
-    classify(&mut classes, OrderedFloat(36.5), OrderedFloat(38.0), 1)?;
-    classify(&mut classes, OrderedFloat(40.0), OrderedFloat(40.0), 2)?;
-    assert_same(&rt, classes.len(), 1);
-    assert_same(&rt, classes.get(&OrderedFloat(37.0)).copied(), Some(1));
-    Ok(())
+    assert_names(&rt)?;
+    assert_classes(&rt)
 }

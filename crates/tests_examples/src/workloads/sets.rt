@@ -2,11 +2,11 @@
 
 use super::{ACROSS, FIRST, SECOND, TWO};
 use crate::same::assert_same;
+use bench_workloads::containers::{CHUNKED_SET, CLOSED_CHUNKED_SET, CLOSED_SET, SET};
 use bench_workloads::digest::followed_by;
+use bench_workloads::dispatch::over_set;
 use bench_workloads::input::Query;
-use bench_workloads::set_store::SetStore;
-use bench_workloads::store::{ChunkedSet, ClosedChunkedSet, ClosedSet, HalfOpenSet};
-use bench_workloads::workloads::sets::{SetWorkload, run};
+use bench_workloads::workloads::sets::SetWorkload;
 use std::process::Abort;
 use std::test::Fail;
 
@@ -22,32 +22,53 @@ const KEYS: [Query; 3] = [
     Query { start: 20, end: 21 },
 ];
 
-fn assert_two_sets<S: SetStore, R: AllocGlobal + Abort>(rt: &R) -> Result<(), Fail> {
-    let digest = run::<S>(SetWorkload::Contents, rt.alloc(), &TWO, &[], 1)?;
+fn assert_two_sets<R: AllocGlobal + Abort>(rt: &R, container: u32) -> Result<(), Fail> {
+    let digest = over_set(SetWorkload::Contents, rt.alloc(), container, &TWO, &[], 1)?;
     assert_same(rt, digest, followed_by(FIRST, SECOND));
-    let digest = run::<S>(SetWorkload::Unions, rt.alloc(), &TWO, &ACROSS, 1)?;
+    let digest = over_set(SetWorkload::Unions, rt.alloc(), container, &TWO, &ACROSS, 1)?;
     assert_same(rt, digest, EITHER);
-    let digest = run::<S>(SetWorkload::Intersections, rt.alloc(), &TWO, &ACROSS, 1)?;
+    let digest = over_set(
+        SetWorkload::Intersections,
+        rt.alloc(),
+        container,
+        &TWO,
+        &ACROSS,
+        1,
+    )?;
     assert_same(rt, digest, BOTH.0 ^ BOTH.1);
-    let digest = run::<S>(SetWorkload::JoinedSets, rt.alloc(), &TWO, &ACROSS, 1)?;
+    let digest = over_set(
+        SetWorkload::JoinedSets,
+        rt.alloc(),
+        container,
+        &TWO,
+        &ACROSS,
+        1,
+    )?;
     assert_same(rt, digest, EITHER);
-    let digest = run::<S>(SetWorkload::CommonSets, rt.alloc(), &TWO, &ACROSS, 1)?;
+    let digest = over_set(
+        SetWorkload::CommonSets,
+        rt.alloc(),
+        container,
+        &TWO,
+        &ACROSS,
+        1,
+    )?;
     assert_same(rt, digest, followed_by(BOTH.0, BOTH.1));
-    let count = run::<S>(SetWorkload::Members, rt.alloc(), &TWO, &KEYS, 1)?;
+    let count = over_set(SetWorkload::Members, rt.alloc(), container, &TWO, &KEYS, 1)?;
     assert_same(rt, count, 2);
-    let len = run::<S>(SetWorkload::Standing, rt.alloc(), &TWO, &[], 1)?;
+    let len = over_set(SetWorkload::Standing, rt.alloc(), container, &TWO, &[], 1)?;
     assert_same(rt, len, 2);
     Ok(())
 }
 
 #[test]
 fn workloads_on_two_sets_answer(rt: HostRuntime) -> Result<(), Fail> {
-    assert_two_sets::<HalfOpenSet, _>(&rt)?;
-    assert_two_sets::<ClosedSet, _>(&rt)
+    assert_two_sets(&rt, SET)?;
+    assert_two_sets(&rt, CLOSED_SET)
 }
 
 #[test]
 fn workloads_on_two_sets_in_chunks_answer(rt: HostRuntime) -> Result<(), Fail> {
-    assert_two_sets::<ChunkedSet, _>(&rt)?;
-    assert_two_sets::<ClosedChunkedSet, _>(&rt)
+    assert_two_sets(&rt, CHUNKED_SET)?;
+    assert_two_sets(&rt, CLOSED_CHUNKED_SET)
 }
