@@ -34,22 +34,39 @@ fn try_pairs<M: InRows>(
     requires faithful_values { ValuesCloneFaithfully M.Value.is_clone M.Value.eq }
 {
     let (query, list) = operands;
-    let map: M = made_of(alloc, row.given)?;
     let mut pairs = pairs_of::<M::Kind, M::Range, M::Value, M::Alloc>(alloc, list)?;
-    let is_appended = if query == "all" {
-        heap.refuse_after(granted);
-        map.append_all(&mut pairs).is_ok()
-    } else {
-        let query = range_of::<M::Kind, M::Range, M::Alloc>(alloc, query)?;
-        heap.refuse_after(granted);
-        map.append_overlapping(&query, &mut pairs).is_ok()
-    };
-    row.end_refusal(heap, granted)?;
+    let is_appended = append_until::<M>(heap, alloc, &mut pairs, (query, row), granted)?;
     let (expected, separator) = expected(row, list, is_appended);
     check_that(
         are_pairs::<M>(pairs.as_slice(), expected, separator),
         "a list differs",
     )?;
+    Ok(is_appended)
+}
+
+// Appends the pairs that a query overlaps, or `all`, of the container that the row has, until the
+// request is refused that comes after `granted` others. Tells whether they were appended.
+fn append_until<M: InRows>(
+    heap: &Heap,
+    alloc: M::Alloc,
+    pairs: &mut Vec<(M::Range, M::Value), M::Alloc>,
+    asked: (&str, &Row<'_>),
+    granted: u64,
+) -> Answer
+    requires faithful_keys { KeysCloneFaithfully M.Range.Key.is_clone M.Range.Key.cmp }
+    requires faithful_values { ValuesCloneFaithfully M.Value.is_clone M.Value.eq }
+{
+    let (query, row) = asked;
+    let map: M = made_of(alloc, row.given)?;
+    let is_appended = if query == "all" {
+        heap.refuse_after(granted);
+        map.append_all(pairs).is_ok()
+    } else {
+        let query = range_of::<M::Kind, M::Range, M::Alloc>(alloc, query)?;
+        heap.refuse_after(granted);
+        map.append_overlapping(&query, pairs).is_ok()
+    };
+    row.end_refusal(heap, granted)?;
     Ok(is_appended)
 }
 

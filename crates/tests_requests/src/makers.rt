@@ -102,14 +102,14 @@ fn kept<'t>(row: &Row<'t>, granted: u64) -> Result<&'t str, Fail> {
     Ok(list.trim())
 }
 
-/// Tries `extend`, which has to keep what inserts of the same pairs keep, and `from_iter`, which
-/// makes a container of the items or nothing.
-pub fn try_makers<M: InRows + OwnCalls>(
+// Extends an empty container by the items of a row, and compares it with one into which they are
+// inserted. Tells whether all were taken.
+fn extend_as_insert<M: InRows + OwnCalls>(
     heap: &Heap,
     alloc: M::Alloc,
     row: &Row<'_>,
     granted: u64,
-) -> Answer
+) -> Result<(M, bool), Fail>
     requires faithful_keys { KeysCloneFaithfully M.Range.Key.is_clone M.Range.Key.cmp }
     requires faithful_values { ValuesCloneFaithfully M.Value.is_clone M.Value.eq }
 {
@@ -122,25 +122,30 @@ pub fn try_makers<M: InRows + OwnCalls>(
     row.end_refusal(heap, granted)?;
     let extended = extend_until::<M>(heap, alloc, items_of::<M>(alloc, row.given)?, granted);
     row.end_refusal(heap, granted)?;
-    let made = collect_until::<M>(heap, alloc, items_of::<M>(alloc, row.given)?, granted);
-    row.end_refusal(heap, granted)?;
-    check_kept(inserted, extended, made, kept(row, granted)?)
-}
-
-// Compares what inserts and an `extend` kept, and what `from_iter` made, with a list. Answers
-// whether all items were inserted.
-fn check_kept<M: InRows>(
-    inserted: (M, bool),
-    extended: (M, bool),
-    made: Result<M, AllocError>,
-    kept: &str,
-) -> Answer {
-    check_row(&extended.0, kept)?;
     check_that(
         extended == inserted,
         "an `extend` keeps what inserts do not",
     )?;
-    let is_made = is_made(made, kept)?;
-    check_that(is_made == extended.1, "`from_iter` is refused otherwise")?;
+    Ok(extended)
+}
+
+/// Tries `extend`, which has to keep what inserts of the same pairs keep, and `from_iter`, which
+/// makes a container of the items or nothing.
+pub fn try_makers<M: InRows + OwnCalls>(
+    heap: &Heap,
+    alloc: M::Alloc,
+    row: &Row<'_>,
+    granted: u64,
+) -> Answer
+    requires faithful_keys { KeysCloneFaithfully M.Range.Key.is_clone M.Range.Key.cmp }
+    requires faithful_values { ValuesCloneFaithfully M.Value.is_clone M.Value.eq }
+{
+    let list = kept(row, granted)?;
+    let (extended, are_all) = extend_as_insert::<M>(heap, alloc, row, granted)?;
+    check_row(&extended, list)?;
+    let made = collect_until::<M>(heap, alloc, items_of::<M>(alloc, row.given)?, granted);
+    row.end_refusal(heap, granted)?;
+    let is_made = is_made(made, list)?;
+    check_that(is_made == are_all, "`from_iter` is refused otherwise")?;
     Ok(is_made)
 }

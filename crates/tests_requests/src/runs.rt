@@ -56,9 +56,9 @@ pub fn try_run<M: InRows>(heap: &Heap, alloc: M::Alloc, row: &Row<'_>, granted: 
     requires faithful_keys { KeysCloneFaithfully M.Range.Key.is_clone M.Range.Key.cmp }
     requires faithful_values { ValuesCloneFaithfully M.Value.is_clone M.Value.eq }
 {
-    let mut map = M::new_with_step_fns(alloc);
     let (first, second) = two_pairs::<M::Kind, M::Range, M::Value, M::Alloc>(alloc, row.given)?;
     let commands = commands::<M>(alloc, first, second)?;
+    let mut map = M::new_with_step_fns(alloc);
     heap.refuse_after(granted);
     let answers = run(alloc, &mut map, commands);
     row.end_refusal(heap, granted)?;

@@ -80,6 +80,11 @@ pub fn check_replay<M: InRows, C: CallOn<M>>(
         are_accepted(answers.as_slice(), accepted),
         format_args!("accepted are not {accepted}"),
     )?;
+    check_kept(alloc, all.as_slice(), kept)
+}
+
+// Compares what containers hold with lists that have a semicolon between them.
+fn check_kept<M: InRows>(alloc: M::Alloc, all: &[M], kept: &str) -> Result<(), Fail> {
     let lists = lists(alloc, kept)?;
     check_same(all.len(), lists.len())?;
     for (map, list) in all.iter().zip(lists.as_slice()) {

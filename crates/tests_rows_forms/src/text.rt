@@ -72,6 +72,24 @@ where
     check_pairs::<SortedVec<Q, R, V, Global>, N>(alloc, pairs, text, lines)
 }
 
+// The same of a map in chunks of up to two pairs.
+fn check_chunked<Q, R, V, const N: usize>(
+    alloc: Global,
+    pairs: [(R, V); N],
+    text: &str,
+    lines: &str,
+) -> Result<(), Fail>
+where
+    Q: Kind<R, Steps = R::Key>,
+    R: KeyRange<Key: Debug> + Debug,
+    V: Eq + Clone + Debug,
+    requires non_empty { AreNonEmpty Q.kind pairs }
+    requires faithful_keys { KeysCloneFaithfully R.Key.is_clone R.Key.cmp }
+    requires faithful_values { ValuesCloneFaithfully V.is_clone V.eq }
+{
+    check_pairs::<InChunks<Q, R, V>, N>(alloc, pairs, text, lines)
+}
+
 #[test]
 fn maps_are_written_in_braces(rt: HostRuntime) -> Result<(), Fail> {
     check_sorted::<HalfOpen, Range<u32>, &str, 2>(
@@ -135,14 +153,14 @@ fn maps_in_a_tree_are_written_in_braces(rt: HostRuntime) -> Result<(), Fail> {
 
 #[test]
 fn maps_in_chunks_are_written_in_braces(rt: HostRuntime) -> Result<(), Fail> {
-    check_pairs::<InChunks<HalfOpen, Range<u32>, char>, 0>(rt.alloc(), [], "{}", "{}")?;
-    check_pairs::<InChunks<HalfOpen, Range<u32>, char>, 4>(
+    check_chunked::<HalfOpen, Range<u32>, char, 0>(rt.alloc(), [], "{}", "{}")?;
+    check_chunked::<HalfOpen, Range<u32>, char, 4>(
         rt.alloc(),
         [(0u32..2, 'a'), (4..6, 'b'), (8..9, 'c'), (9..12, 'd')],
         "{0..2: 'a', 4..6: 'b', 8..9: 'c', 9..12: 'd'}",
         "{\n    0..2: 'a',\n    4..6: 'b',\n    8..9: 'c',\n    9..12: 'd',\n}",
     )?;
-    check_pairs::<InChunks<Closed<u8>, RangeInclusive<u8>, bool>, 3>(
+    check_chunked::<Closed<u8>, RangeInclusive<u8>, bool, 3>(
         rt.alloc(),
         [(0u8..=2, true), (4..=6, false), (8..=255, true)],
         "{0..=2: true, 4..=6: false, 8..=255: true}",

@@ -10,8 +10,8 @@ use std::fmt::Debug;
 use std::iter::ExactSizeIterator;
 use std::test::Fail;
 use tests_row_checks::{
-    ReplayName, Stretches, check_both_ends, check_counted_back, check_replay, check_rows,
-    check_stretches, check_three,
+    ReplayName, Stretches, check_both_ends, check_replay, check_rows, check_stretches,
+    check_three_both_ways,
 };
 use tests_support::{
     FromEnds, InRows, Word, changes_of, check_same, check_text, map_of, parts, three_lists,
@@ -65,16 +65,27 @@ where
 {
     match asked {
         Asked::HandedOver(pairs, texts) => check_handed_over::<S>(alloc, *pairs, *texts),
-        Asked::OneHandedOver(pair, text) => {
-            let map = map_of::<S>(alloc, *pair)?;
-            let copy = map.clone()?;
-            check_both_ends(alloc, map.into_iter(), copy.into_iter(), *text)
-        }
+        Asked::OneHandedOver(pair, text) => check_one_handed_over::<S>(alloc, *pair, *text),
         Asked::Stretches(pairs, stretches) => {
             let map = map_of::<S>(alloc, *pairs)?;
             check_stretches(alloc, &map, stretches)
         }
     }
+}
+
+// Compares the one pair that a map hands over, and its clone.
+fn check_one_handed_over<S>(alloc: Global, pair: &str, text: &str) -> Result<(), Fail>
+where
+    S: HandsOver<Range: Debug, Value: Debug, Alloc = Global> + StoreMut + Drop,
+    <S::Range as KeyRange>::Key: Word<Global>,
+    S::Value: Word<Global>,
+    S::Kind: Kind<S::Range, Steps = <S::Range as KeyRange>::Key>,
+    requires faithful_keys { KeysCloneFaithfully S.Range.Key.is_clone S.Range.Key.cmp }
+    requires faithful_values { ValuesCloneFaithfully S.Value.is_clone S.Value.eq }
+{
+    let map = map_of::<S>(alloc, pair)?;
+    let copy = map.clone()?;
+    check_both_ends(alloc, map.into_iter(), copy.into_iter(), text)
 }
 
 // Compares the three pairs that a map hands over: to a loop, and from both ends.
@@ -90,11 +101,24 @@ where
     requires faithful_keys { KeysCloneFaithfully S.Range.Key.is_clone S.Range.Key.cmp }
     requires faithful_values { ValuesCloneFaithfully S.Value.is_clone S.Value.eq }
 {
+    check_count::<S>(alloc, pairs, 3)?;
+    check_loop(alloc, map_of::<S>(alloc, pairs)?, texts)?;
     let map = map_of::<S>(alloc, pairs)?;
-    check_loop(alloc, map.clone()?, texts)?;
-    let (pairs, again) = (map.clone()?.into_iter(), map.into_iter());
-    check_same(pairs.len(), 3)?;
-    check_three_handed(alloc, pairs, again, texts)
+    let copy = map.clone()?;
+    check_three_both_ways(alloc, map.into_iter(), copy.into_iter(), texts)
+}
+
+// Compares how many pairs a map hands over.
+fn check_count<S>(alloc: Global, pairs: &str, count: usize) -> Result<(), Fail>
+where
+    S: HandsOver<Alloc = Global> + StoreMut + Drop,
+    <S::Range as KeyRange>::Key: Word<Global>,
+    S::Value: Word<Global>,
+    S::Kind: Kind<S::Range, Steps = <S::Range as KeyRange>::Key>,
+    requires faithful_keys { KeysCloneFaithfully S.Range.Key.is_clone S.Range.Key.cmp }
+    requires faithful_values { ValuesCloneFaithfully S.Value.is_clone S.Value.eq }
+{
+    check_same(map_of::<S>(alloc, pairs)?.into_iter().len(), count)
 }
 
 // Compares the three pairs over which a loop goes.
@@ -110,21 +134,12 @@ where
     for pair in map {
         handed.push(pair)?;
     }
-    let (first, middle, last) = three_lists(texts)?;
-    let text = format!(in alloc; "[{first}, {middle}, {last}]")?;
-    check_text(alloc, &handed, text.as_str())
+    check_three_listed(alloc, &handed, texts)
 }
 
-// Compares the three pairs that two iterators hand over which are alike, from both ends.
-fn check_three_handed<I: DoubleEndedIterator<Item: Debug + Drop>>(
-    alloc: Global,
-    pairs: I,
-    again: I,
-    texts: &str,
-) -> Result<(), Fail>
-    requires { (it : I) → I.can_next it × I.can_next_back it }
-{
+// Compares the debug text of a list of three pairs.
+fn check_three_listed<T: Debug>(alloc: Global, pairs: &T, texts: &str) -> Result<(), Fail> {
     let (first, middle, last) = three_lists(texts)?;
-    check_three(alloc, pairs, [first, middle, last], true)?;
-    check_counted_back(alloc, again, [first, middle, last])
+    let text = format!(in alloc; "[{first}, {middle}, {last}]")?;
+    check_text(alloc, pairs, text.as_str())
 }

@@ -16,7 +16,7 @@ use std::iter::ExactSizeIterator;
 use std::ops::{Range, RangeInclusive};
 use std::test::Fail;
 use tests_row_checks::iterated_to_its_end;
-use tests_support::{FromEnds, Word, check_same, check_text, map_of};
+use tests_support::{FromEnds, Word, add_clone, check_same, check_text, map_of};
 
 // Compares the three pairs of a map in a sorted vector: as it lends them, and as it hands them over.
 fn check_three_of_vector<
@@ -29,19 +29,25 @@ fn check_three_of_vector<
     ask_vector::<Q, R, char>(alloc, &Asked::HandedOver(inserted, pairs))
 }
 
+// Compares how many items are to come.
+fn check_len<I: ExactSizeIterator + Drop>(items: I, len: usize) -> Result<(), Fail> {
+    check_same(items.len(), len)
+}
+
+// Compares the slice of the pairs that a map in a sorted vector lends.
+fn check_slice(alloc: Global, map: &RangeMap<u32, char>, text: &str) -> Result<(), Fail> {
+    let pairs = map.iter();
+    check_text(alloc, &pairs.cursor().as_slice(), text)
+}
+
 #[test]
 fn a_loop_goes_over_a_map(rt: HostRuntime) -> Result<(), Fail> {
     let map = RangeMap::from(rt.alloc(), [(4..6u32, 'b'), (0..2, 'a')])?;
-    let pairs = map.iter();
-    check_same(pairs.len(), 2)?;
-    check_text(
-        rt.alloc(),
-        &pairs.cursor().as_slice(),
-        "[(0..2, 'a'), (4..6, 'b')]",
-    )?;
+    check_len(map.iter(), 2)?;
+    check_slice(rt.alloc(), &map, "[(0..2, 'a'), (4..6, 'b')]")?;
     let mut found = Vec::new(rt.alloc());
     for (range, value) in &map {
-        found.push((range.clone()?, *value))?;
+        add_clone(&mut found, range, value)?;
     }
     check_text(rt.alloc(), &found, "[(0..2, 'a'), (4..6, 'b')]")
 }
@@ -51,10 +57,10 @@ fn a_loop_goes_over_a_map(rt: HostRuntime) -> Result<(), Fail> {
 #[test]
 fn a_loop_goes_over_a_map_in_a_tree(rt: HostRuntime) -> Result<(), Fail> {
     let map = map_of::<Tree<u32, char, Global>>(rt.alloc(), "8..9 c, 4..6 b, 0..2 a")?;
-    check_same(map.iter().len(), 3)?;
+    check_len(map.iter(), 3)?;
     let mut found = Vec::new(rt.alloc());
     for (range, value) in &map {
-        found.push((range.clone()?, *value))?;
+        add_clone(&mut found, range, value)?;
     }
     check_text(
         rt.alloc(),
@@ -69,10 +75,10 @@ fn a_loop_goes_over_a_map_in_chunks(rt: HostRuntime) -> Result<(), Fail> {
         rt.alloc(),
         "8..9 c, 4..6 b, 0..2 a",
     )?;
-    check_same(map.iter().len(), 3)?;
+    check_len(map.iter(), 3)?;
     let mut found = Vec::new(rt.alloc());
     for (range, value) in &map {
-        found.push((range.clone()?, *value))?;
+        add_clone(&mut found, range, value)?;
     }
     check_text(
         rt.alloc(),

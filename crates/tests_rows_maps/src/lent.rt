@@ -2,16 +2,12 @@
 ghost use Rattle.rangemap.specs.Clones.{KeysCloneFaithfully};
 
 use rangemap::map::Map;
-use rangemap_core::cursor::LentCursor;
-use rangemap_core::gaps::Gaps;
-use rangemap_core::key_range::KeyRange;
-use rangemap_core::kind::Kind;
 use rangemap_core::store::Lends;
 use std::alloc::Global;
 use std::fmt::Debug;
 use std::test::Fail;
-use tests_row_checks::{check_both_ends, check_three, check_tries};
-use tests_support::{check_that, three_lists};
+use tests_row_checks::{check_both_ends, check_gap, check_three};
+use tests_support::check_that;
 
 /// What a test asks of a map that lends its pairs.
 #[derive(Drop)]
@@ -72,7 +68,7 @@ where
     S::Value: 'a,
 {
     match asked {
-        All::Three => check_three_pairs(alloc, map.iter(), answer, true),
+        All::Three => check_three(alloc, map.iter(), answer, true),
         All::One => check_both_ends(alloc, map.iter(), map.iter(), answer),
     }
 }
@@ -91,7 +87,7 @@ where
     requires { KeysCloneFaithfully S.Range.Key.is_clone S.Range.Key.cmp }
 {
     match asked {
-        In::Three => check_three_pairs(alloc, map.overlapping(range), answer, false),
+        In::Three => check_three(alloc, map.overlapping(range), answer, false),
         In::One => {
             check_that(map.overlaps(range), "a range overlaps no pair")?;
             let (front, back) = (map.overlapping(range), map.overlapping(range));
@@ -102,28 +98,4 @@ where
             check_gap(alloc, gaps, answer)
         }
     }
-}
-
-// Compares the three pairs that are lent.
-fn check_three_pairs<I: DoubleEndedIterator<Item: Debug + Drop>>(
-    alloc: Global,
-    pairs: I,
-    texts: &str,
-    is_counted: bool,
-) -> Result<(), Fail>
-    requires { (it : I) → I.can_next it × I.can_next_back it }
-{
-    let (first, middle, last) = three_lists(texts)?;
-    check_three(alloc, pairs, [first, middle, last], is_counted)
-}
-
-// Compares the one gap of three iterators that are alike, and asks on.
-fn check_gap<'a, Q: Kind<R>, R: KeyRange + Debug + 'a, C: LentCursor<'a, R, GivenValue: Drop>>(
-    alloc: Global,
-    gaps: (Gaps<'a, Q, R, C>, Gaps<'a, Q, R, C>, Gaps<'a, Q, R, C>),
-    gap: &str,
-) -> Result<(), Fail>
-    requires { KeysCloneFaithfully R.Key.is_clone R.Key.cmp }
-{
-    check_tries(alloc, gaps, Gaps::try_next, gap)
 }

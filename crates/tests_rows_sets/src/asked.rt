@@ -6,17 +6,16 @@ use rangemap::set::Set;
 use rangemap_core::key_range::KeyRange;
 use rangemap_core::kind::Kind;
 use rangemap_core::store::{HandsOver, StoreMut};
-use std::alloc::Global;
+use std::alloc::{AllocError, Global};
 use std::fmt::Debug;
 use std::iter::ExactSizeIterator;
 use std::test::Fail;
 use tests_row_checks::{
-    ReplayName, Stretches, check_both_ends, check_counted_back, check_replay, check_rows,
-    check_stretches, check_three,
+    ReplayName, Stretches, check_both_ends, check_replay, check_rows, check_stretches,
+    check_three_both_ways,
 };
 use tests_support::{
-    FromEnds, InRows, Word, changes_of, check_row, check_same, parts, set_of, three_lists,
-    two_lists,
+    FromEnds, InRows, Word, changes_of, check_row, check_same, made_of, parts, set_of, two_lists,
 };
 
 /// What a test asks of sets, which are made of text.
@@ -56,11 +55,7 @@ where
         Asked::Rows(table) => check_rows::<Set<S>>(alloc, *table),
         Asked::Changes(name, row) => check_changes::<Set<S>>(*name, alloc, *row),
         Asked::HandedOver(ranges, texts) => check_handed_over::<S>(alloc, *ranges, *texts),
-        Asked::OneHandedOver(range) => {
-            let set = set_of::<S>(alloc, *range)?;
-            let copy = set.clone()?;
-            check_both_ends(alloc, set.into_iter(), copy.into_iter(), *range)
-        }
+        Asked::OneHandedOver(range) => check_one_handed_over::<S>(alloc, *range),
         Asked::Joined {
             sets,
             either,
@@ -68,8 +63,7 @@ where
         } => check_joined::<S>(alloc, *sets, *either, *common),
         Asked::Laws(laws) => check_laws::<S>(alloc, laws),
         Asked::Stretches(ranges, stretches) => {
-            let set = set_of::<S>(alloc, *ranges)?;
-            check_stretches(alloc, &set, stretches)
+            check_stretches_of::<Set<S>>(alloc, *ranges, stretches)
         }
     }
 }
@@ -87,6 +81,34 @@ pub fn check_changes<M: InRows<Value = (), Alloc = Global>>(
     check_replay::<M, _>(name, alloc, changes, accepted, lists)
 }
 
+// Compares the stretches of the set that has these ranges, and its gaps.
+fn check_stretches_of<M: InRows<Range: Debug, Value = (), Alloc = Global>>(
+    alloc: Global,
+    ranges: &str,
+    stretches: &Stretches<'_>,
+) -> Result<(), Fail>
+where
+    <M::Range as KeyRange>::Key: Debug,
+    M::Kind: Kind<M::Range, Steps = <M::Range as KeyRange>::Key>,
+    requires { KeysCloneFaithfully M.Range.Key.is_clone M.Range.Key.cmp }
+{
+    let set: M = made_of(alloc, ranges)?;
+    check_stretches(alloc, &set, stretches)
+}
+
+// Compares the one range that a set hands over, and its clone.
+fn check_one_handed_over<S>(alloc: Global, range: &str) -> Result<(), Fail>
+where
+    S: HandsOver<Range: Debug, Value = (), Alloc = Global> + StoreMut + Drop,
+    <S::Range as KeyRange>::Key: Word<Global>,
+    S::Kind: Kind<S::Range, Steps = <S::Range as KeyRange>::Key>,
+    requires { KeysCloneFaithfully S.Range.Key.is_clone S.Range.Key.cmp }
+{
+    let set = set_of::<S>(alloc, range)?;
+    let copy = set.clone()?;
+    check_both_ends(alloc, set.into_iter(), copy.into_iter(), range)
+}
+
 // Compares the three ranges that a set hands over, and its clone.
 fn check_handed_over<S: HandsOver<Range: Debug, Value = (), Alloc = Global> + StoreMut + Drop>(
     alloc: Global,
@@ -98,12 +120,21 @@ where
     S::Kind: Kind<S::Range, Steps = <S::Range as KeyRange>::Key>,
     requires { KeysCloneFaithfully S.Range.Key.is_clone S.Range.Key.cmp }
 {
-    let (first, middle, last) = three_lists(texts)?;
-    let three = [first, middle, last];
+    check_count::<S>(alloc, ranges, 3)?;
     let set = set_of::<S>(alloc, ranges)?;
-    check_same(set.clone()?.into_iter().len(), 3)?;
-    check_three(alloc, set.clone()?.into_iter(), three, true)?;
-    check_counted_back(alloc, set.into_iter(), three)
+    let copy = set.clone()?;
+    check_three_both_ways(alloc, set.into_iter(), copy.into_iter(), texts)
+}
+
+// Compares how many ranges a set hands over.
+fn check_count<S>(alloc: Global, ranges: &str, count: usize) -> Result<(), Fail>
+where
+    S: HandsOver<Value = (), Alloc = Global> + StoreMut + Drop,
+    <S::Range as KeyRange>::Key: Word<Global>,
+    S::Kind: Kind<S::Range, Steps = <S::Range as KeyRange>::Key>,
+    requires { KeysCloneFaithfully S.Range.Key.is_clone S.Range.Key.cmp }
+{
+    check_same(set_of::<S>(alloc, ranges)?.into_iter().len(), count)
 }
 
 // Compares what the operators make of two sets.
@@ -122,6 +153,11 @@ where
     let (left, right) = two_lists(sets)?;
     let left = set_of::<S>(alloc, left)?;
     let right = set_of::<S>(alloc, right)?;
-    check_row(&(&left | &right)?, either)?;
-    check_row(&(&left & &right)?, common)
+    check_operated(&left | &right, either)?;
+    check_operated(&left & &right, common)
+}
+
+// Compares the ranges of the set that an operator makes, unless it was refused memory.
+fn check_operated<M: InRows>(made: Result<M, AllocError>, ranges: &str) -> Result<(), Fail> {
+    check_row(&made?, ranges)
 }

@@ -39,11 +39,11 @@ struct Three<'a, S> {
 
 // Runs the laws of an operator that give two sets, and compares their texts. How it distributes is
 // run on sets of its own.
-fn check_sides<S: StoreMut<Range: Debug, Value = (), Alloc = Global> + Drop>(
+fn check_sides<'s, S: StoreMut<Range: Debug, Value = (), Alloc = Global> + Drop>(
     alloc: Global,
     operator: Operator,
-    sets: &Three<'_, Set<S>>,
-    distributed: &Three<'_, Set<S>>,
+    sets: &Three<'s, Set<S>>,
+    distributed: &Three<'s, Set<S>>,
     texts: &str,
 ) -> Result<(), Fail>
 where
@@ -51,11 +51,9 @@ where
     S::Kind: Kind<S::Range, Steps = <S::Range as KeyRange>::Key>,
     requires { KeysCloneFaithfully S.Range.Key.is_clone S.Range.Key.cmp }
 {
-    let (first, second, third) = (sets.first, sets.second, sets.third);
     let (commuted, associated, made) = three_lists(texts)?;
-    check_made(alloc, commutes(operator, first, second), commuted)?;
-    let applied = operator.apply(first, second)?;
-    check_text(alloc, &(applied, operator.apply(second, first)?), commuted)?;
+    check_commuted(alloc, operator, (sets.first, sets.second), commuted)?;
+    let (first, second, third) = (sets.first, sets.second, sets.third);
     check_made(
         alloc,
         associates(operator, first, second, third),
@@ -63,6 +61,24 @@ where
     )?;
     let (first, second, third) = (distributed.first, distributed.second, distributed.third);
     check_made(alloc, distributes(operator, first, second, third), made)
+}
+
+// Compares the two sets that an operator makes of two, by the law and as it is applied to them.
+fn check_commuted<S: StoreMut<Range: Debug, Value = (), Alloc = Global> + Drop>(
+    alloc: Global,
+    operator: Operator,
+    sets: (&Set<S>, &Set<S>),
+    text: &str,
+) -> Result<(), Fail>
+where
+    <S::Range as KeyRange>::Key: Debug,
+    S::Kind: Kind<S::Range, Steps = <S::Range as KeyRange>::Key>,
+    requires { KeysCloneFaithfully S.Range.Key.is_clone S.Range.Key.cmp }
+{
+    let (first, second) = sets;
+    check_made(alloc, commutes(operator, first, second), text)?;
+    let applied = operator.apply(first, second)?;
+    check_text(alloc, &(applied, operator.apply(second, first)?), text)
 }
 
 // Runs the laws that give the first set again, for `|` and for `&`, and compares its text.
@@ -102,17 +118,31 @@ where
         second: &second,
         third: &third,
     };
-    check_sides(alloc, Operator::Union, &sets, &sets, laws.unions)?;
+    check_operators(alloc, &sets, laws)
+}
+
+// Runs all laws on three sets.
+fn check_operators<S: StoreMut<Range: Debug, Value = (), Alloc = Global> + Drop>(
+    alloc: Global,
+    sets: &Three<'_, Set<S>>,
+    laws: &Laws<'_>,
+) -> Result<(), Fail>
+where
+    <S::Range as KeyRange>::Key: Debug,
+    S::Kind: Kind<S::Range, Steps = <S::Range as KeyRange>::Key>,
+    requires { KeysCloneFaithfully S.Range.Key.is_clone S.Range.Key.cmp }
+{
+    check_sides(alloc, Operator::Union, sets, sets, laws.unions)?;
     // The first two have no key in common, so in `&` the third stands between them.
     let crossed = Three {
-        first: &first,
-        second: &third,
-        third: &second,
+        first: sets.first,
+        second: sets.third,
+        third: sets.second,
     };
     let distributed = Three {
-        first: &third,
-        second: &first,
-        third: &second,
+        first: sets.third,
+        second: sets.first,
+        third: sets.second,
     };
     check_sides(
         alloc,
@@ -121,7 +151,7 @@ where
         &distributed,
         laws.intersections,
     )?;
-    check_first(alloc, &sets, laws.first)
+    check_first(alloc, sets, laws.first)
 }
 
 #[test]

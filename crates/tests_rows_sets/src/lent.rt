@@ -13,7 +13,7 @@ use std::alloc::{AllocError, Global};
 use std::fmt::{Debug, Write};
 use std::iter::{DoubleEndedIterator, Iterator};
 use std::test::Fail;
-use tests_row_checks::{check_both_ends, check_three, check_tries};
+use tests_row_checks::{check_both_ends, check_gap, check_three, check_tries};
 use tests_support::{check_same, check_text, check_that, three_lists, two_lists};
 
 /// What a test asks of a set that lends its ranges, or of two.
@@ -75,7 +75,7 @@ where
     requires { KeysCloneFaithfully S.Range.Key.is_clone S.Range.Key.cmp }
 {
     match asked {
-        All::Three => check_three_ranges(alloc, set.iter(), answer, true),
+        All::Three => check_three(alloc, set.iter(), answer, true),
         All::One => check_both_ends(alloc, set.iter(), set.iter(), answer),
         All::OfBoth(asked) => check_of_both(alloc, set, other, asked, answer),
     }
@@ -95,7 +95,7 @@ where
     requires { KeysCloneFaithfully S.Range.Key.is_clone S.Range.Key.cmp }
 {
     match asked {
-        In::Three => check_three_ranges(alloc, set.overlapping(range), answer, false),
+        In::Three => check_three(alloc, set.overlapping(range), answer, false),
         In::One => {
             check_that(set.overlaps(range), "a range overlaps no range")?;
             let (front, back) = (set.overlapping(range), set.overlapping(range));
@@ -139,30 +139,6 @@ where
             check_rests(alloc, lefts, rights, *from_front, answer)
         }
     }
-}
-
-// Compares the three ranges that are lent.
-fn check_three_ranges<I: DoubleEndedIterator<Item: Debug + Drop>>(
-    alloc: Global,
-    ranges: I,
-    texts: &str,
-    is_counted: bool,
-) -> Result<(), Fail>
-    requires { (it : I) → I.can_next it × I.can_next_back it }
-{
-    let (first, middle, last) = three_lists(texts)?;
-    check_three(alloc, ranges, [first, middle, last], is_counted)
-}
-
-// Compares the one gap of three iterators that are alike, and asks on.
-fn check_gap<'a, Q: Kind<R>, R: KeyRange + Debug + 'a, C: LentCursor<'a, R, GivenValue: Drop>>(
-    alloc: Global,
-    gaps: (Gaps<'a, Q, R, C>, Gaps<'a, Q, R, C>, Gaps<'a, Q, R, C>),
-    gap: &str,
-) -> Result<(), Fail>
-    requires { KeysCloneFaithfully R.Key.is_clone R.Key.cmp }
-{
-    check_tries(alloc, gaps, Gaps::try_next, gap)
 }
 
 // Takes two gaps by calls in turn, asks on, and compares the text of what is answered behind the hint.

@@ -27,8 +27,8 @@ pub use own_calls::{OwnCalls, extend_by, made_from};
 pub use replays::{items_of, set_calls_of};
 pub use tests_words::{
     Costly, FromEnds, Heap, MANY, Plain, ReadsGaps, ReadsPairs, Refusing, SignedSteps, Text, Tries,
-    Word, are_ranges, calls_of, changes_of, check_made, check_same, check_text, check_that, filled,
-    first_word, is_range, lists, pair_of, pairs_of, parts, query_of, range_of, ranges_of,
-    read_change, rows, take_item, tell_gaps, tell_pairs, tell_ranges, three_lists, two_lists,
-    two_parts,
+    Word, add_clone, are_ranges, calls_of, changes_of, check_made, check_same, check_text,
+    check_that, filled, first_word, is_range, lists, pair_of, pairs_of, parts, query_of, range_of,
+    ranges_of, read_change, rows, take_item, tell_gaps, tell_pairs, tell_ranges, three_lists,
+    two_lists, two_parts,
 };

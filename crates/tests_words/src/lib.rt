@@ -27,7 +27,7 @@ pub use grammar::{
     first_word, last_item, lists, parts, rows, take_item, three_lists, two_lists, two_parts,
 };
 pub use heaps::{Heap, MANY, Text};
-pub use pairs::{pair_of, pairs_of, ranges_of};
+pub use pairs::{add_clone, pair_of, pairs_of, ranges_of};
 pub use ranges::{FromEnds, are_ranges, filled, is_range, query_of, range_of};
 pub use readers::{ReadsGaps, ReadsPairs, tell_gaps, tell_pairs, tell_ranges};
 pub use refusing::Refusing;

@@ -1,4 +1,4 @@
-//! Pairs and ranges that a text names, with a plus between them.
+//! Pairs and ranges that a text names, with a plus between them, and lists of pairs.
 ghost use Rattle.std.specs.Prelude.{IfOk};
 ghost use Rattle.rangemap_core.specs.Ranges.{AreNonEmpty};
 ghost use Rattle.rangemap_core.specs.Sets.{AreNonEmptyRanges};
@@ -8,7 +8,7 @@ use crate::ranges::range_of;
 use crate::words::Word;
 use rangemap_core::key_range::KeyRange;
 use rangemap_core::kind::Kind;
-use std::alloc::Allocator;
+use std::alloc::{AllocError, Allocator};
 use std::test::Fail;
 
 /// Makes the range and the value of a pair.
@@ -55,4 +55,14 @@ pub fn ranges_of<Q: Kind<R>, R: KeyRange<Key: Word<A>>, A: Allocator + Copy>(
         }
     }
     Ok(all)
+}
+
+/// Adds a clone of a pair to a list.
+pub fn add_clone<R: Clone, V: Copy + Drop>(
+    found: &mut Vec<(R, V)>,
+    range: &R,
+    value: &V,
+) -> Result<(), AllocError> {
+    found.push((range.clone()?, *value))?;
+    Ok(())
 }

@@ -1,10 +1,10 @@
 //! What a set keeps of ranges that stand apart.
 ghost use Rattle.rangemap.specs.Clones.{KeysCloneFaithfully};
 
-use super::{extend_until, insert_until, kept};
+use super::{extend_as_insert, kept};
 use crate::row::{Answer, Row};
 use std::test::Fail;
-use tests_support::{Heap, InRows, OwnCalls, check_that, items_of, pairs_of, range_of};
+use tests_support::{Heap, InRows, OwnCalls, check_that, range_of};
 
 /// Tries `extend`, which has to keep what inserts of the same ranges keep: the first of them. The row
 /// says of each number of granted requests how many.
@@ -16,22 +16,14 @@ pub fn try_growths<S: InRows<Value = ()> + OwnCalls>(
 ) -> Answer
     requires faithful_keys { KeysCloneFaithfully S.Range.Key.is_clone S.Range.Key.cmp }
 {
-    let inserted = insert_until::<S>(
-        heap,
-        alloc,
-        pairs_of::<S::Kind, S::Range, (), S::Alloc>(alloc, row.given)?,
-        granted,
-    );
-    row.end_refusal(heap, granted)?;
-    let extended = extend_until::<S>(heap, alloc, items_of::<S>(alloc, row.given)?, granted);
-    row.end_refusal(heap, granted)?;
-    let count = kept(row, granted)?.parse()?;
+    let count: usize = kept(row, granted)?.parse()?;
+    let (extended, are_all) = extend_as_insert::<S>(heap, alloc, row, granted)?;
     let first = first_of::<S>(alloc, row.given, count)?;
     check_that(
-        extended == inserted && extended.0 == first && first.len() == count,
+        extended == first && first.len() == count,
         "an `extend` keeps other ranges than the first",
     )?;
-    Ok(extended.1)
+    Ok(are_all)
 }
 
 // Makes a set of the first ranges, of which there are so many.

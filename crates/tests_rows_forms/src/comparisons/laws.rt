@@ -5,10 +5,12 @@ use super::folding::Folding;
 use super::hash_of;
 use super::tallied::{Counts, Tallied, Tally};
 use rangemap::RangeMap;
+use rangemap::container::Container;
 use rangemap::laws::comparisons::{equal_maps_hash_alike, equality_agrees_with_order};
+use rangemap::laws::equal_exactly_when_alike;
 use std::alloc::{AllocError, Global};
 use std::cmp::Ordering;
-use std::hash::Hasher;
+use std::hash::{Hash, Hasher};
 use std::test::Fail;
 use tests_support::check_that;
 
@@ -31,15 +33,15 @@ fn are_counted((ours, theirs): Tallies<'_>, counts: Counts) -> bool {
 }
 
 // Whether a map lies so to another by the law, for which it was compared by `==` and by `cmp`.
-fn lies<'a>(one: &Map<'a>, other: &Map<'a>, tallies: Tallies<'a>, order: Ordering) -> bool {
+fn lies<M: Container + Ord>(one: &M, other: &M, tallies: Tallies<'_>, order: Ordering) -> bool {
     equality_agrees_with_order(one, other) == (order.is_eq(), order)
         && are_counted(tallies, (1, 1, 0))
 }
 
-// Whether two maps hash alike by the law, if they are equal, for which each was fed once.
-fn are_alike<'a>(one: &Map<'a>, same: &Map<'a>, tallies: Tallies<'a>) -> bool {
+// Whether two maps are equal and hash alike by the law, for which each was fed once.
+fn are_alike<M: Container + Hash>(one: &M, same: &M, tallies: Tallies<'_>) -> bool {
     let hash = hash_of(one);
-    if one != same {
+    if equal_exactly_when_alike(one, same) != (true, false) {
         return false;
     }
     let _ = (tallies.0.taken(), tallies.1.taken());
@@ -48,16 +50,25 @@ fn are_alike<'a>(one: &Map<'a>, same: &Map<'a>, tallies: Tallies<'a>) -> bool {
     (left.finish(), right.finish()) == (hash, hash) && are_counted(tallies, (0, 0, 1))
 }
 
-// Whether the laws make their calls, and no others, on maps that count for one of the two.
+// Whether the laws make their calls, and no others, on a map, on one that is equal to it, and on one
+// that is greater, whose values count for the other of the two.
+fn are_called<M: Container + Ord + Hash>(
+    one: &M,
+    same: &M,
+    greater: &M,
+    tallies: Tallies<'_>,
+) -> bool {
+    lies(one, same, tallies, Ordering::Equal)
+        && lies(one, greater, tallies, Ordering::Less)
+        && are_alike(one, same, tallies)
+}
+
+// Whether the laws make their calls on maps that count for one of the two.
 fn make_their_calls<'a>(alloc: Global, tallies: Tallies<'a>) -> Result<bool, AllocError> {
     let one = map_to(alloc, 'a', tallies.0)?;
     let same = map_to(alloc, 'a', tallies.1)?;
     let greater = map_to(alloc, 'b', tallies.1)?;
-    Ok(
-        lies(&one, &same, tallies, Ordering::Equal)
-            && lies(&one, &greater, tallies, Ordering::Less)
-            && are_alike(&one, &same, tallies),
-    )
+    Ok(are_called(&one, &same, &greater, tallies))
 }
 
 #[test]

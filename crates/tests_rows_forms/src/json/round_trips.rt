@@ -14,6 +14,7 @@ use rangemap_core::kind::Kind;
 use rangemap_core::store::{HandsOver, StoreMut};
 use rangemap_sorted::SortedVec;
 use rangemap_tree::Tree;
+use serde_json::Value;
 use std::alloc::Global;
 use std::fmt::Debug;
 use std::ops::{Range, RangeInclusive};
@@ -29,22 +30,42 @@ where
 {
     let map: Map<S> = Made::made_of(alloc, pairs)?;
     for form in [Form::Any, Form::Canonical] {
-        let functions = round_trips::Functions {
-            write_key: write_number,
-            write_value: write_number,
-            read_key: read_number,
-            read_value: read_number,
-        };
-        let answer = functions.reading_what_was_written_is_equal(alloc, alloc, form, &map);
-        let Ok((value, again)) = answer else {
-            return Err(Fail::new("a map was not read again"));
-        };
-        check_same(value.to_string(alloc)?.as_str(), written)?;
-        check_that(again == map, "what was read again differs")?;
-        check_map_again(alloc, &again, text)?;
+        check_map_read(alloc, form, &map, written, text)?;
     }
     let again: Map<S> = round_trips::from_iter_of_into_iter_is_equal(alloc, map)?;
     check_map_again(alloc, &again, text)
+}
+
+// Writes a map and reads it again in this form, and compares what was written and what was read.
+fn check_map_read<S>(
+    alloc: Global,
+    form: Form,
+    map: &Map<S>,
+    written: &str,
+    text: &str,
+) -> Result<(), Fail>
+where
+    S: StoreMut<Range: KeyRange<Key = u32> + Debug, Value = u32, Alloc = Global> + Drop,
+    S::Kind: Kind<S::Range, Steps = <S::Range as KeyRange>::Key>,
+{
+    let functions = round_trips::Functions {
+        write_key: write_number,
+        write_value: write_number,
+        read_key: read_number,
+        read_value: read_number,
+    };
+    let answer = functions.reading_what_was_written_is_equal(alloc, alloc, form, map);
+    let Ok((value, again)) = answer else {
+        return Err(Fail::new("a map was not read again"));
+    };
+    check_written(alloc, &value, written)?;
+    check_that(again == *map, "what was read again differs")?;
+    check_map_again(alloc, &again, text)
+}
+
+// Compares the text of the value that was written.
+fn check_written(alloc: Global, value: &Value, text: &str) -> Result<(), Fail> {
+    check_same(value.to_string(alloc)?.as_str(), text)
 }
 
 // Compares the text of how many pairs a map has, of the first and the last of them, and of all.
@@ -65,19 +86,34 @@ where
 {
     let set: Set<S> = Made::made_of(alloc, ranges)?;
     for form in [Form::Any, Form::Canonical] {
-        let functions = set_round_trips::Functions {
-            write_key: write_number,
-            read_key: read_number,
-        };
-        let answer = functions.reading_what_was_written_is_equal(alloc, alloc, form, &set);
-        let Ok((value, again)) = answer else {
-            return Err(Fail::new("a set was not read again"));
-        };
-        check_same(value.to_string(alloc)?.as_str(), written)?;
-        check_that(again == set, "what was read again differs")?;
-        check_set_again(alloc, &again, text)?;
+        check_set_read(alloc, form, &set, written, text)?;
     }
     let again: Set<S> = set_round_trips::from_iter_of_into_iter_is_equal(alloc, set)?;
+    check_set_again(alloc, &again, text)
+}
+
+// Writes a set and reads it again in this form, and compares what was written and what was read.
+fn check_set_read<S>(
+    alloc: Global,
+    form: Form,
+    set: &Set<S>,
+    written: &str,
+    text: &str,
+) -> Result<(), Fail>
+where
+    S: StoreMut<Range: KeyRange<Key = u32> + Debug, Value = (), Alloc = Global> + Drop,
+    S::Kind: Kind<S::Range, Steps = <S::Range as KeyRange>::Key>,
+{
+    let functions = set_round_trips::Functions {
+        write_key: write_number,
+        read_key: read_number,
+    };
+    let answer = functions.reading_what_was_written_is_equal(alloc, alloc, form, set);
+    let Ok((value, again)) = answer else {
+        return Err(Fail::new("a set was not read again"));
+    };
+    check_written(alloc, &value, written)?;
+    check_that(again == *set, "what was read again differs")?;
     check_set_again(alloc, &again, text)
 }
 

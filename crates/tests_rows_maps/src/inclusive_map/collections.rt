@@ -7,10 +7,22 @@ use rangemap_chunked::Chunks;
 use rangemap_core::closed::Closed;
 use rangemap_core::store::StoreMut;
 use rangemap_sorted::SortedVec;
-use std::alloc::Global;
+use std::alloc::{AllocError, Global};
+use std::fmt::Debug;
 use std::ops::RangeInclusive;
 use std::test::Fail;
 use tests_support::{check_same, check_text};
+
+// Compares the text of three maps, two of which calls make.
+fn check_all<M: Debug + Drop>(
+    alloc: Global,
+    extended: M,
+    made: Result<M, AllocError>,
+    listed: Result<M, AllocError>,
+    text: &str,
+) -> Result<(), Fail> {
+    check_text(alloc, &(extended, made?, listed?), text)
+}
 
 // Compares a map that a chain extends, one that a chain makes, and one that an array makes.
 fn check_chains_and_array<S>(alloc: Global) -> Result<(), Fail>
@@ -20,11 +32,19 @@ where
 {
     let mut extended: Map<S> = Map::new(alloc);
     extended.extend((0..2u32).map(|i| (10 * i..=10 * i + 4, 'a')))?;
-    let made: Map<S> = Map::from_iter(alloc, (0..3u32).map(|i| (10 * i..=10 * i + 9, 'b')))?;
-    let listed: Map<S> = Map::from(alloc, [(0..=100, 'a'), (100..=200, 'b'), (200..=300, 'c')])?;
-    check_text(
+    let made: Result<Map<S>, AllocError> = Map::from_iter(
         alloc,
-        &(extended, made, listed),
+        (0..3u32).map(|i| (10 * i..=10 * i + 9, 'b')),
+    );
+    let listed: Result<Map<S>, AllocError> = Map::from(
+        alloc,
+        [(0..=100, 'a'), (100..=200, 'b'), (200..=300, 'c')],
+    );
+    check_all(
+        alloc,
+        extended,
+        made,
+        listed,
         "({0..=4: 'a', 10..=14: 'a'}, {0..=29: 'b'}, {0..=99: 'a', 100..=199: 'b', 200..=300: 'c'})",
     )
 }
@@ -38,9 +58,9 @@ fn value_of(place: u32) -> Noted {
     })
 }
 
-// Compares which of equal values stay: the last one of those that are joined, in maps that an array
-// makes, a chain makes and a chain extends.
-fn check_notes<S>(alloc: Global) -> Result<(), Fail>
+// Compares which of equal values stays in a map that an array makes: the last one of those that are
+// joined.
+fn check_listed_notes<S>(alloc: Global) -> Result<(), Fail>
 where
     S: StoreMut<Kind = Closed<u32>, Range = RangeInclusive<u32>, Value = Noted, Alloc = Global>
         + Drop,
@@ -49,7 +69,15 @@ where
     check_same(
         (note_at(&listed, 0), note_at(&listed, 7)),
         (Some('y'), Some('y')),
-    )?;
+    )
+}
+
+// The same in a map that a chain makes and another extends.
+fn check_chained_notes<S>(alloc: Global) -> Result<(), Fail>
+where
+    S: StoreMut<Kind = Closed<u32>, Range = RangeInclusive<u32>, Value = Noted, Alloc = Global>
+        + Drop,
+{
     // 0..=9 and 10..=19 touch; 20..=24 touches these, and 30..=34 nothing.
     let mut map: Map<S> = Map::from_iter(
         alloc,
@@ -62,6 +90,16 @@ where
     map.extend((2..4u32).map(|i| (10 * i..=10 * i + 4, value_of(i))))?;
     let notes = (note_at(&map, 0), note_at(&map, 24), note_at(&map, 30));
     check_same(notes, (Some('z'), Some('z'), Some('x')))
+}
+
+// Compares which of equal values stay in maps over a store.
+fn check_notes<S>(alloc: Global) -> Result<(), Fail>
+where
+    S: StoreMut<Kind = Closed<u32>, Range = RangeInclusive<u32>, Value = Noted, Alloc = Global>
+        + Drop,
+{
+    check_listed_notes::<S>(alloc)?;
+    check_chained_notes::<S>(alloc)
 }
 
 #[test]
