@@ -19,7 +19,7 @@ mod soaked;
 
 use chance::Chance;
 use model::Model;
-use session::{Report, soak_map, soak_set};
+use session::{Maps, Report, Session, Sets};
 use soaked::{
     ChunkedPairs, ChunkedRanges, ClosedChunkedPairs, ClosedChunkedRanges, ClosedPairs,
     ClosedRanges, Heap, Kept, Pairs, Profile, Ranges, TreePairs, TreeRanges,
@@ -54,9 +54,17 @@ fn tell(rt: &HostRuntime, heap: &Heap, name: &str, report: Report) -> io::Result
     }
 }
 
-// The model of a container, of which nothing was called yet.
-fn model_of<'a>(rt: &HostRuntime, heap: &'a Heap, profile: Profile, seed: u64) -> Model<'a> {
-    Model::new(rt.alloc(), Chance::new(heap, seed), profile)
+// Makes the calls on a container, and prints how they went. Answers whether nothing differed.
+fn soak_one<'a, S: Session<'a>>(
+    rt: &HostRuntime,
+    heap: &'a Heap,
+    name: &str,
+    profile: Profile,
+    seed: u64,
+    calls: u64,
+) -> io::Result<bool> {
+    let model = Model::new(rt.alloc(), Chance::new(heap, seed), profile);
+    tell(rt, heap, name, S::soak(heap, model, calls))
 }
 
 // Makes the calls on every map, until one differs. Answers whether none did.
@@ -75,16 +83,18 @@ fn soak_maps(rt: &HostRuntime, heap: &Heap, seed: u64, calls: u64) -> io::Result
         kept: Kept::InTree,
         ..map
     };
-    let report = soak_map::<Pairs<'_>>(heap, model_of(rt, heap, map, seed), calls);
-    if !tell(rt, heap, "map", report)? {
-        return Ok(false);
-    }
-    let report = soak_map::<ClosedPairs<'_>>(heap, model_of(rt, heap, inclusive_map, seed), calls);
-    if !tell(rt, heap, "inclusive_map", report)? {
-        return Ok(false);
-    }
-    let report = soak_map::<TreePairs<'_>>(heap, model_of(rt, heap, tree_map, seed), calls);
-    tell(rt, heap, "tree_map", report)
+    Ok(
+        soak_one::<Maps<Pairs<'_>>>(rt, heap, "map", map, seed, calls)?
+            && soak_one::<Maps<ClosedPairs<'_>>>(
+                rt,
+                heap,
+                "inclusive_map",
+                inclusive_map,
+                seed,
+                calls,
+            )?
+            && soak_one::<Maps<TreePairs<'_>>>(rt, heap, "tree_map", tree_map, seed, calls)?,
+    )
 }
 
 // Makes the calls on every set, until one differs. Answers whether none did.
@@ -103,16 +113,18 @@ fn soak_sets(rt: &HostRuntime, heap: &Heap, seed: u64, calls: u64) -> io::Result
         kept: Kept::InTree,
         ..set
     };
-    let report = soak_set::<Ranges<'_>>(heap, model_of(rt, heap, set, seed), calls);
-    if !tell(rt, heap, "set", report)? {
-        return Ok(false);
-    }
-    let report = soak_set::<ClosedRanges<'_>>(heap, model_of(rt, heap, inclusive_set, seed), calls);
-    if !tell(rt, heap, "inclusive_set", report)? {
-        return Ok(false);
-    }
-    let report = soak_set::<TreeRanges<'_>>(heap, model_of(rt, heap, tree_set, seed), calls);
-    tell(rt, heap, "tree_set", report)
+    Ok(
+        soak_one::<Sets<Ranges<'_>>>(rt, heap, "set", set, seed, calls)?
+            && soak_one::<Sets<ClosedRanges<'_>>>(
+                rt,
+                heap,
+                "inclusive_set",
+                inclusive_set,
+                seed,
+                calls,
+            )?
+            && soak_one::<Sets<TreeRanges<'_>>>(rt, heap, "tree_set", tree_set, seed, calls)?,
+    )
 }
 
 // Makes the calls on every map in chunks, until one differs. Answers whether none did.
@@ -126,16 +138,17 @@ fn soak_chunked_maps(rt: &HostRuntime, heap: &Heap, seed: u64, calls: u64) -> io
         blocks_of_each: 0,
         ..map
     };
-    let report = soak_map::<ChunkedPairs<'_>>(heap, model_of(rt, heap, map, seed), calls);
-    if !tell(rt, heap, "chunked map", report)? {
-        return Ok(false);
-    }
-    let report = soak_map::<ClosedChunkedPairs<'_>>(
-        heap,
-        model_of(rt, heap, inclusive_map, seed),
-        calls,
-    );
-    tell(rt, heap, "chunked inclusive_map", report)
+    Ok(
+        soak_one::<Maps<ChunkedPairs<'_>>>(rt, heap, "chunked map", map, seed, calls)?
+            && soak_one::<Maps<ClosedChunkedPairs<'_>>>(
+                rt,
+                heap,
+                "chunked inclusive_map",
+                inclusive_map,
+                seed,
+                calls,
+            )?,
+    )
 }
 
 // Makes the calls on every set in chunks, until one differs. Answers whether none did.
@@ -149,16 +162,17 @@ fn soak_chunked_sets(rt: &HostRuntime, heap: &Heap, seed: u64, calls: u64) -> io
         blocks_of_each: 0,
         ..set
     };
-    let report = soak_set::<ChunkedRanges<'_>>(heap, model_of(rt, heap, set, seed), calls);
-    if !tell(rt, heap, "chunked set", report)? {
-        return Ok(false);
-    }
-    let report = soak_set::<ClosedChunkedRanges<'_>>(
-        heap,
-        model_of(rt, heap, inclusive_set, seed),
-        calls,
-    );
-    tell(rt, heap, "chunked inclusive_set", report)
+    Ok(
+        soak_one::<Sets<ChunkedRanges<'_>>>(rt, heap, "chunked set", set, seed, calls)?
+            && soak_one::<Sets<ClosedChunkedRanges<'_>>>(
+                rt,
+                heap,
+                "chunked inclusive_set",
+                inclusive_set,
+                seed,
+                calls,
+            )?,
+    )
 }
 
 // Makes the calls on every container, until one differs. Answers whether none did.

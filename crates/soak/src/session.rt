@@ -6,6 +6,7 @@
 
 mod answers;
 mod calls;
+mod stores;
 
 use crate::call::Call;
 use crate::difference::{Difference, Stop, check};
@@ -19,6 +20,7 @@ use rangemap_core::key_range::KeyRange;
 use rangemap_core::kind::Kind;
 use rangemap_core::store::StoreMut;
 use std::alloc::AllocError;
+pub use stores::{Maps, Sets};
 
 /// How a run ended.
 #[derive(Drop)]
@@ -50,8 +52,18 @@ impl Report {
     }
 }
 
-/// Makes so many calls on a map over a store, as `soak` does.
-pub fn soak_map<S>(heap: S::Alloc, model: Model<'_>, calls: u64) -> Report
+/// Containers on which runs are made.
+///
+/// It asks for no other trait, so that a proof which names a container tells of its keys and values
+/// alone, and not of all that a container does.
+pub trait Session<'a> {
+    /// Makes so many calls on a container whose memory comes from `heap`, of which nothing else holds
+    /// memory. Stops at the first difference.
+    fn soak(heap: &'a Heap, model: Model<'_>, calls: u64) -> Report;
+}
+
+// Makes so many calls on a map over a store, as `soak` does.
+fn soak_map<S>(heap: S::Alloc, model: Model<'_>, calls: u64) -> Report
 where
     S: StoreMut<Alloc: Copy> + Drop,
     S::Range: PointRange<S::Alloc>,
@@ -62,8 +74,8 @@ where
     soak::<Map<S>>(heap, model, calls)
 }
 
-/// Makes so many calls on a set over a store, as `soak` does.
-pub fn soak_set<S>(heap: S::Alloc, model: Model<'_>, calls: u64) -> Report
+// Makes so many calls on a set over a store, as `soak` does.
+fn soak_set<S>(heap: S::Alloc, model: Model<'_>, calls: u64) -> Report
 where
     S: StoreMut<Value = (), Alloc: Copy> + Drop,
     S::Range: PointRange<S::Alloc>,

@@ -13,11 +13,13 @@ use tests_support::OwnCalls;
 mod boxed;
 mod costly;
 mod gaps;
+mod keys;
 mod maps;
 mod marks;
 mod numbers;
 mod sets;
 
+pub use keys::PointKey;
 pub use maps::{ChunkedPairs, ClosedChunkedPairs, ClosedPairs, Pairs, TreePairs};
 pub use sets::{ChunkedRanges, ClosedChunkedRanges, ClosedRanges, Ranges, TreeRanges};
 pub use tests_support::Heap;

@@ -47,8 +47,7 @@ pub fn copy<S: Soaked>(subject: &mut S, model: &mut Model<'_>) -> Result<bool, S
     let held = model.chance.heap.held();
     model.chance.refuse_one();
     let made = subject.clone();
-    let is_refused = model.answer(made.is_ok(), false, held)?;
-    check_made(subject, model, &made, &model.points, held)?;
+    let is_refused = check_made(subject, model, &made, false, &model.points, held)?;
     if let Ok(copy) = made {
         *subject = copy;
         model.take_copy(subject.len());
@@ -66,9 +65,7 @@ pub fn collect<S: Soaked>(
     let items = items::<S>(subject.heap(), runs)?;
     model.chance.refuse_one();
     let made = made_from::<S>(subject.heap(), items);
-    let is_refused = model.answer(made.is_ok(), true, held)?;
-    check_made(subject, model, &made, &Points::of(runs), held)?;
-    Ok(is_refused)
+    check_made(subject, model, &made, true, &Points::of(runs), held)
 }
 
 /// `|` or `&` with a set that is made for it; of a map, a lookup.
@@ -88,23 +85,24 @@ pub fn combine<S: Soaked>(
         return get(subject, model, point);
     };
     let points = model.points.combined(&Points::of(runs), is_union);
-    let is_refused = model.answer(made.is_ok(), true, held)?;
-    check_made(subject, model, &made, &points, held)?;
-    Ok(is_refused)
+    check_made(subject, model, &made, true, &points, held)
 }
 
 // Compares a container that was made, unless it was refused, with the points that it is to have,
-// and with this one.
+// and with this one. `by_changes` and `held` are those of `Model::answer`. Answers whether it was
+// refused.
 fn check_made<S: Soaked>(
     subject: &S,
     model: &Model<'_>,
     made: &Result<S, AllocError>,
+    by_changes: bool,
     points: &Points,
     held: u64,
-) -> Result<(), Stop> {
+) -> Result<bool, Stop> {
+    let is_refused = model.answer(made.is_ok(), by_changes, held)?;
     if let Ok(made) = made {
         let list = list(model.alloc, made)?;
         model.check_made(points, &list, made.len(), *made == *subject, held)?;
     }
-    Ok(())
+    Ok(is_refused)
 }

@@ -1,10 +1,9 @@
 //! Keys each of which holds a block of memory.
 ghost use Rattle.std.specs.Prelude.{◌≡◌, IfOk};
 
-use super::{Heap, PointRange, Told};
-use crate::points::Piece;
+use super::Heap;
+use super::keys::{PointKey, ToldKey};
 use std::alloc::{AllocError, Allocator};
-use std::ops::Range;
 
 /// A number in a block of its own.
 ///
@@ -34,37 +33,23 @@ impl<A: Allocator + Clone> Clone for Boxed<A> {
     }
 }
 
-impl<'a> PointRange<&'a Heap> for Range<Boxed<&'a Heap>> {
+impl<'a> ToldKey for Boxed<&'a Heap> {
     ghost use Rattle.std.proofs.Common.{rules};
     ghost use Rattle.std.specs.Cmp.Rules.{comparing};
-    ghost use Rattle.std.specs.Prelude.{◌<◌};
 
-    ghost IsNonEmpty = { λ range. range.start.number.value < range.end.number.value };
+    ghost point = { λ key. key.number.value };
 
-    ghost takes = { λ range non_empty. Prim.search (comparing, rules) };
-
-    fn from_points(
-        heap: &'a Heap,
-        first: u8,
-        last: u8,
-    ) -> Result<Range<Boxed<&'a Heap>>, AllocError> {
-        let start = Boxed::new(heap, u16::from(first))?;
-        let end = Boxed::new(heap, u16::from(last) + 1)?;
-        Ok(start..end)
-    }
-}
-
-impl<'a> Told for Range<Boxed<&'a Heap>> {
-    ghost use Rattle.std.proofs.Common.{rules};
-    ghost use Rattle.std.specs.Cmp.Rules.{comparing};
+    ghost ordered = { λ a b before. Prim.search (comparing, rules) };
 
     ghost faithful = { Prim.search (comparing, rules) };
 
-    fn piece(&self, mark: u8) -> Piece {
-        Piece {
-            start: *self.start.number,
-            end: *self.end.number,
-            mark,
-        }
+    fn point(&self) -> u16 {
+        *self.number
+    }
+}
+
+impl<'a> PointKey<&'a Heap> for Boxed<&'a Heap> {
+    fn of(heap: &'a Heap, number: u16) -> Result<Boxed<&'a Heap>, AllocError> {
+        Boxed::new(heap, number)
     }
 }

@@ -2,6 +2,7 @@
 
 use super::boxed::Boxed;
 use super::gaps::ask_for_gaps;
+use super::keys::ToldKey;
 use super::{Heap, LendsGaps, Mark, PointRange, Soaked, Told};
 use crate::chance::Chance;
 use crate::difference::Stop;
@@ -94,10 +95,10 @@ impl<'a, Q: Kind<R, Steps = R::Key>, R: Told, V: Eq + Clone> LendsGaps<R>
     }
 }
 
-impl<'a> LendsGaps<Range<Boxed<&'a Heap>>> for Map<TreePairs<'a>> {
+impl<'a, K: ToldKey, V: Eq + Clone> LendsGaps<Range<K>> for Map<Tree<K, V, &'a Heap>> {
     fn ask_for_lent_gaps(
         &self,
-        outer: &Range<Boxed<&'a Heap>>,
+        outer: &Range<K>,
         pieces: &[Piece],
         chance: &mut Chance<'_>,
     ) -> Result<bool, Stop> {

@@ -3,6 +3,7 @@ ghost use Rattle.rangemap.specs.Clones.{KeysCloneFaithfully};
 
 use super::boxed::Boxed;
 use super::gaps::ask_for_gaps;
+use super::keys::ToldKey;
 use super::{Heap, LendsGaps, PointRange, Soaked, Told};
 use crate::chance::Chance;
 use crate::difference::Stop;
@@ -107,10 +108,10 @@ impl<'a, Q: Kind<R, Steps = R::Key>, R: Told> LendsGaps<R> for Set<SortedVec<Q, 
     }
 }
 
-impl<'a> LendsGaps<Range<Boxed<&'a Heap>>> for Set<TreeRanges<'a>> {
+impl<'a, K: ToldKey> LendsGaps<Range<K>> for Set<Tree<K, (), &'a Heap>> {
     fn ask_for_lent_gaps(
         &self,
-        outer: &Range<Boxed<&'a Heap>>,
+        outer: &Range<K>,
         pieces: &[Piece],
         chance: &mut Chance<'_>,
     ) -> Result<bool, Stop> {
