@@ -1,7 +1,8 @@
 //! The calls that a timing program makes. Each names its container by a number of `containers`.
 
-use crate::run::{over_map, over_set};
+use crate::answer::answer;
 use bench_workloads::containers;
+use bench_workloads::dispatch::{over_map, over_set};
 use bench_workloads::input::{Entry, Query};
 use bench_workloads::workloads::Workload;
 use bench_workloads::workloads::sets::SetWorkload;
@@ -17,23 +18,23 @@ pub extern "C" fn bench_contents(
     rounds: u32,
 ) -> u64 {
     if container < containers::SET {
-        over_map(
+        answer(over_map(
             Workload::Contents,
             alloc,
             container,
             entries,
             queries,
             rounds,
-        )
+        ))
     } else {
-        over_set(
+        answer(over_set(
             SetWorkload::Contents,
             alloc,
             container,
             entries,
             queries,
             rounds,
-        )
+        ))
     }
 }
 
@@ -46,14 +47,14 @@ pub extern "C" fn bench_inserts(
     queries: &[Query],
     rounds: u32,
 ) -> u64 {
-    over_map(
+    answer(over_map(
         Workload::Inserts,
         alloc,
         container,
         entries,
         queries,
         rounds,
-    )
+    ))
 }
 
 /// The value at the start of each query.
@@ -65,14 +66,14 @@ pub extern "C" fn bench_lookups(
     queries: &[Query],
     rounds: u32,
 ) -> u64 {
-    over_map(
+    answer(over_map(
         Workload::Lookups,
         alloc,
         container,
         entries,
         queries,
         rounds,
-    )
+    ))
 }
 
 /// All pairs.
@@ -84,14 +85,14 @@ pub extern "C" fn bench_iterations(
     queries: &[Query],
     rounds: u32,
 ) -> u64 {
-    over_map(
+    answer(over_map(
         Workload::Iterations,
         alloc,
         container,
         entries,
         queries,
         rounds,
-    )
+    ))
 }
 
 /// A clone from which the queries are removed.
@@ -103,14 +104,14 @@ pub extern "C" fn bench_removals(
     queries: &[Query],
     rounds: u32,
 ) -> u64 {
-    over_map(
+    answer(over_map(
         Workload::Removals,
         alloc,
         container,
         entries,
         queries,
         rounds,
-    )
+    ))
 }
 
 /// The pairs that each query overlaps.
@@ -122,14 +123,14 @@ pub extern "C" fn bench_overlaps(
     queries: &[Query],
     rounds: u32,
 ) -> u64 {
-    over_map(
+    answer(over_map(
         Workload::Overlaps,
         alloc,
         container,
         entries,
         queries,
         rounds,
-    )
+    ))
 }
 
 /// The gaps in each query.
@@ -141,7 +142,7 @@ pub extern "C" fn bench_gaps(
     queries: &[Query],
     rounds: u32,
 ) -> u64 {
-    over_map(Workload::Gaps, alloc, container, entries, queries, rounds)
+    answer(over_map(Workload::Gaps, alloc, container, entries, queries, rounds))
 }
 
 /// A clone.
@@ -153,7 +154,7 @@ pub extern "C" fn bench_clones(
     queries: &[Query],
     rounds: u32,
 ) -> u64 {
-    over_map(Workload::Clones, alloc, container, entries, queries, rounds)
+    answer(over_map(Workload::Clones, alloc, container, entries, queries, rounds))
 }
 
 /// Whether the map equals a clone.
@@ -165,14 +166,14 @@ pub extern "C" fn bench_comparisons(
     queries: &[Query],
     rounds: u32,
 ) -> u64 {
-    over_map(
+    answer(over_map(
         Workload::Comparisons,
         alloc,
         container,
         entries,
         queries,
         rounds,
-    )
+    ))
 }
 
 /// A clone from which one call removes all.
@@ -184,14 +185,14 @@ pub extern "C" fn bench_emptyings(
     queries: &[Query],
     rounds: u32,
 ) -> u64 {
-    over_map(
+    answer(over_map(
         Workload::Emptyings,
         alloc,
         container,
         entries,
         queries,
         rounds,
-    )
+    ))
 }
 
 /// A new container of the entries, marked while it stands.
@@ -204,23 +205,23 @@ pub extern "C" fn bench_standing(
     rounds: u32,
 ) -> u64 {
     if container < containers::SET {
-        over_map(
+        answer(over_map(
             Workload::Standing,
             alloc,
             container,
             entries,
             queries,
             rounds,
-        )
+        ))
     } else {
-        over_set(
+        answer(over_set(
             SetWorkload::Standing,
             alloc,
             container,
             entries,
             queries,
             rounds,
-        )
+        ))
     }
 }
 
@@ -233,14 +234,14 @@ pub extern "C" fn bench_unions(
     queries: &[Query],
     rounds: u32,
 ) -> u64 {
-    over_set(
+    answer(over_set(
         SetWorkload::Unions,
         alloc,
         container,
         entries,
         queries,
         rounds,
-    )
+    ))
 }
 
 /// The items of the intersection of two sets.
@@ -252,14 +253,14 @@ pub extern "C" fn bench_intersections(
     queries: &[Query],
     rounds: u32,
 ) -> u64 {
-    over_set(
+    answer(over_set(
         SetWorkload::Intersections,
         alloc,
         container,
         entries,
         queries,
         rounds,
-    )
+    ))
 }
 
 /// The set of the keys of either of two sets.
@@ -271,14 +272,14 @@ pub extern "C" fn bench_joined_sets(
     queries: &[Query],
     rounds: u32,
 ) -> u64 {
-    over_set(
+    answer(over_set(
         SetWorkload::JoinedSets,
         alloc,
         container,
         entries,
         queries,
         rounds,
-    )
+    ))
 }
 
 /// The set of the keys of both of two sets.
@@ -290,14 +291,14 @@ pub extern "C" fn bench_common_sets(
     queries: &[Query],
     rounds: u32,
 ) -> u64 {
-    over_set(
+    answer(over_set(
         SetWorkload::CommonSets,
         alloc,
         container,
         entries,
         queries,
         rounds,
-    )
+    ))
 }
 
 /// Whether the start of each query is in the set.
@@ -309,12 +310,12 @@ pub extern "C" fn bench_members(
     queries: &[Query],
     rounds: u32,
 ) -> u64 {
-    over_set(
+    answer(over_set(
         SetWorkload::Members,
         alloc,
         container,
         entries,
         queries,
         rounds,
-    )
+    ))
 }

@@ -7,5 +7,5 @@
 //! call is for.
 #![tactic(auto)]
 
+mod answer;
 pub mod exports;
-mod run;
