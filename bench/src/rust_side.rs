@@ -49,6 +49,7 @@ fn number_of(first: u64, behind: u64) -> u64 {
 trait Store {
     fn empty() -> Self;
     fn insert(&mut self, start: u64, end: u64, value: u32);
+    fn len(&self) -> usize;
 
     /// A digest of all pairs in their order.
     fn digest(&self) -> u64;

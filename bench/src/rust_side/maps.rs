@@ -15,7 +15,6 @@ pub const CLOSED: MapSide = side::<RangeInclusiveMap<u64, u32>>();
 pub const TEXTS: MapSide = side::<RangeMap<u64, String>>();
 
 trait MapStore: Store + Clone + PartialEq {
-    fn len(&self) -> usize;
     fn remove(&mut self, start: u64, end: u64);
     fn number_at(&self, key: u64) -> Option<u64>;
     fn mix(&self) -> u64;
@@ -39,16 +38,16 @@ macro_rules! map_store {
                 $map::insert(self, Keys::up_to(start, end), V::made_of(value));
             }
 
+            fn len(&self) -> usize {
+                $map::len(self)
+            }
+
             fn digest(&self) -> u64 {
                 in_turn(self.iter().map(number_of))
             }
         }
 
         impl<V: Stored> MapStore for $map<u64, V> {
-            fn len(&self) -> usize {
-                $map::len(self)
-            }
-
             fn remove(&mut self, start: u64, end: u64) {
                 $map::remove(self, Keys::up_to(start, end));
             }

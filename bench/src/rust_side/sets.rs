@@ -10,7 +10,6 @@ pub const SET: SetSide = side::<RangeSet<u64>>();
 pub const CLOSED_SET: SetSide = side::<RangeInclusiveSet<u64>>();
 
 trait SetStore: Store {
-    fn len(&self) -> usize;
     fn has(&self, key: u64) -> bool;
     fn mix_of_union(&self, other: &Self) -> u64;
     fn mix_of_intersection(&self, other: &Self) -> u64;
@@ -29,16 +28,16 @@ macro_rules! set_store {
                 $set::insert(self, Keys::up_to(start, end));
             }
 
+            fn len(&self) -> usize {
+                $set::len(self)
+            }
+
             fn digest(&self) -> u64 {
                 in_turn(self.iter().map(Keys::number))
             }
         }
 
         impl SetStore for $set<u64> {
-            fn len(&self) -> usize {
-                $set::len(self)
-            }
-
             fn has(&self, key: u64) -> bool {
                 self.contains(&key)
             }

@@ -1,4 +1,5 @@
-//! The numbers by which a timing program names the containers.
+//! The numbers by which a timing program names the containers. Those of maps come before `SET`, by
+//! which the crate `bench_map` tells them from those of sets.
 
 /// The map over half-open ranges.
 pub const HALF_OPEN: u32 = 0;

@@ -1,7 +1,8 @@
 //! The snippets of README.md and docs/CALLING.md, whole, and a caller of each other lemma that the
 //! page names.
 ghost use Rattle.std.specs.Prelude.{◌≡◌, ◌≢◌, ◌+◌, ◌<◌, ◌≤◌, ◌^◌, ◌&&◌, ◌||◌, ℕ, IfNone, IfOk, IfSome, OnErr, OnOk, map, nat_le, nat_lt, Some, None, false, true};
-ghost use Rattle.std.specs.Ordering.{nat_cmp};
+ghost use Rattle.std.specs.Ordering.{nan_last_cmp, nat_cmp};
+ghost use Rattle.std.specs.String.{string_cmp};
 ghost use Rattle.rangemap.specs.Ranges.{AreGaps, closed, covers, half_open, value_at};
 ghost use Rattle.rangemap.specs.Sets.{AreCommon, CoverEither};
 
@@ -86,6 +87,13 @@ pub fn add_texts(set: &mut RangeSet<String>, from: String, to: String) -> Result
     set.insert(range)
 }
 
+/// Returns whether a text is in a set.
+pub fn has_text(set: &RangeSet<String>, text: &String) -> bool
+    ensures { result ≡ covers (half_open string_cmp) set.now text.now }
+{
+    set.contains(text)
+}
+
 /// Puts the temperatures from one up to and without another into a class, if there are any. No
 /// clause says what it puts there.
 pub fn classify(
@@ -101,6 +109,13 @@ pub fn classify(
         return Ok(());
     }
     classes.insert(range, class)
+}
+
+/// Returns the class of a temperature, if it has one.
+pub fn class_at(classes: &RangeMap<OrderedFloat<f64>, u8>, at: &OrderedFloat<f64>) -> Option<u8>
+    ensures { result ≡ value_at (half_open (λ x y. nan_last_cmp x.0 y.0)) classes.now at.now }
+{
+    classes.get(at).copied()
 }
 
 /// Returns the hours of a range at which nobody is on.

@@ -20,7 +20,10 @@ use rangemap_unions::{self as unions, OverlappingRanges, Ranges};
 use std::alloc::Global;
 use std::ops::{Range, RangeInclusive};
 
-/// A map of disjoint half-open ranges, `a..b`, to values, in chunks.
+/// A map of disjoint half-open ranges, `a..b`, to values, in chunks, which joins ranges that touch
+/// and have equal values.
+///
+/// The range of an `insert` or a `remove` is not empty: `range.start < range.end`.
 ///
 /// # Examples
 ///
@@ -52,16 +55,21 @@ use std::ops::{Range, RangeInclusive};
 /// overlapping<'a>(&'a self, range: &'a Range<K>) -> Overlapping<'a, K, V, A>
 /// overlaps(&self, range: &Range<K>) -> bool
 /// gaps<'a>(&'a self, outer_range: &'a Range<K>) -> Gaps<'a, K, V, A>
-/// to_value(&self, alloc: Global, write_key, write_value) -> Result<Value, WriteError<E>>
-/// from_value(alloc: A, form: Form, value: &Value, read_key, read_value) -> Result<Self, ReadError<E>>
+/// to_value<E, WK: Fn(&K) -> Result<Value, E>, WV: Fn(&V) -> Result<Value, E>>(
+///     &self, alloc: Global, write_key: WK, write_value: WV) -> Result<Value, WriteError<E>>
+/// from_value<E, RK: Fn(&Value) -> Result<K, E>, RV: Fn(&Value) -> Result<V, E>>(
+///     alloc: A, form: Form, value: &Value, read_key: RK, read_value: RV) -> Result<Self, ReadError<E>>
 /// ```
 ///
 /// Each is described, with its contract, at `Map`; with `==`, the orders, `Hash` and `{:?}` beside.
 pub type RangeMap<K, V, A = Global> = Map<Chunks<HalfOpen, Range<K>, V, A, SIZE>>;
 
-/// A map of disjoint closed ranges, `a..=b`, to values, in chunks. `StepFnsT` is the type whose
-/// steps tell which of them touch, mostly `K` itself: `inclusive_map::RangeInclusiveMap` says what
-/// exists where it is.
+/// A map of disjoint closed ranges, `a..=b`, to values, in chunks, which joins ranges that touch and
+/// have equal values. `StepFnsT` is the type whose steps tell which of them touch, mostly `K` itself:
+/// `inclusive_map::RangeInclusiveMap` says what exists where it is.
+///
+/// The range of an `insert` or a `remove` is not empty, `range.start() <= range.end()`, and was not
+/// iterated to its end.
 ///
 /// # Examples
 ///
@@ -93,8 +101,10 @@ pub type RangeMap<K, V, A = Global> = Map<Chunks<HalfOpen, Range<K>, V, A, SIZE>
 /// overlapping<'a>(&'a self, range: &'a RangeInclusive<K>) -> InclusiveOverlapping<'a, K, V, A>
 /// overlaps(&self, range: &RangeInclusive<K>) -> bool
 /// gaps<'a>(&'a self, outer_range: &'a RangeInclusive<K>) -> InclusiveGaps<'a, K, V, StepFnsT, A>
-/// to_value(&self, alloc: Global, write_key, write_value) -> Result<Value, WriteError<E>>
-/// from_value(alloc: A, form: Form, value: &Value, read_key, read_value) -> Result<Self, ReadError<E>>
+/// to_value<E, WK: Fn(&K) -> Result<Value, E>, WV: Fn(&V) -> Result<Value, E>>(
+///     &self, alloc: Global, write_key: WK, write_value: WV) -> Result<Value, WriteError<E>>
+/// from_value<E, RK: Fn(&Value) -> Result<K, E>, RV: Fn(&Value) -> Result<V, E>>(
+///     alloc: A, form: Form, value: &Value, read_key: RK, read_value: RV) -> Result<Self, ReadError<E>>
 /// ```
 ///
 /// Each is described, with its contract, at `Map`; with `==`, the orders, `Hash` and `{:?}` beside.
@@ -102,7 +112,10 @@ pub type RangeInclusiveMap<K, V, StepFnsT = K, A = Global> = Map<
     Chunks<Closed<StepFnsT>, RangeInclusive<K>, V, A, SIZE>,
 >;
 
-/// A set of keys in disjoint half-open ranges, `a..b`, in chunks.
+/// A set of keys in disjoint half-open ranges, `a..b`, in chunks, which joins ranges that overlap or
+/// touch.
+///
+/// The range of an `insert` or a `remove` is not empty: `range.start < range.end`.
 ///
 /// # Examples
 ///
@@ -136,16 +149,21 @@ pub type RangeInclusiveMap<K, V, StepFnsT = K, A = Global> = Map<
 /// union<'a>(&'a self, other: &'a Self) -> Union<'a, T, A>
 /// intersection<'a>(&'a self, other: &'a Self) -> Intersection<'a, T, A>
 /// &left | &right, &left & &right -> Result<Self, AllocError>
-/// to_value(&self, alloc: Global, write_key) -> Result<Value, WriteError<E>>
-/// from_value(alloc: A, form: Form, value: &Value, read_key) -> Result<Self, ReadError<E>>
+/// to_value<E, WK: Fn(&T) -> Result<Value, E>>(
+///     &self, alloc: Global, write_key: WK) -> Result<Value, WriteError<E>>
+/// from_value<E, RK: Fn(&Value) -> Result<T, E>>(
+///     alloc: A, form: Form, value: &Value, read_key: RK) -> Result<Self, ReadError<E>>
 /// ```
 ///
 /// Each is described, with its contract, at `Set`; with `==`, the orders, `Hash` and `{:?}` beside.
 pub type RangeSet<T, A = Global> = Set<Chunks<HalfOpen, Range<T>, (), A, SIZE>>;
 
-/// A set of keys in disjoint closed ranges, `a..=b`, in chunks. `StepFnsT` is the type whose steps
-/// tell which of them touch, mostly `T` itself: `inclusive_set::RangeInclusiveSet` says what exists
-/// where it is.
+/// A set of keys in disjoint closed ranges, `a..=b`, in chunks, which joins ranges that overlap or
+/// touch. `StepFnsT` is the type whose steps tell which of them touch, mostly `T` itself:
+/// `inclusive_set::RangeInclusiveSet` says what exists where it is.
+///
+/// The range of an `insert` or a `remove` is not empty, `range.start() <= range.end()`, and was not
+/// iterated to its end.
 ///
 /// # Examples
 ///
@@ -179,8 +197,10 @@ pub type RangeSet<T, A = Global> = Set<Chunks<HalfOpen, Range<T>, (), A, SIZE>>;
 /// union<'a>(&'a self, other: &'a Self) -> InclusiveUnion<'a, T, A>
 /// intersection<'a>(&'a self, other: &'a Self) -> InclusiveIntersection<'a, T, A>
 /// &left | &right, &left & &right -> Result<Self, AllocError>
-/// to_value(&self, alloc: Global, write_key) -> Result<Value, WriteError<E>>
-/// from_value(alloc: A, form: Form, value: &Value, read_key) -> Result<Self, ReadError<E>>
+/// to_value<E, WK: Fn(&T) -> Result<Value, E>>(
+///     &self, alloc: Global, write_key: WK) -> Result<Value, WriteError<E>>
+/// from_value<E, RK: Fn(&Value) -> Result<T, E>>(
+///     alloc: A, form: Form, value: &Value, read_key: RK) -> Result<Self, ReadError<E>>
 /// ```
 ///
 /// Each is described, with its contract, at `Set`; with `==`, the orders, `Hash` and `{:?}` beside.

@@ -13,7 +13,8 @@ use std::ops::RangeInclusive;
 use std::{slice, vec};
 
 /// A set of keys in disjoint closed ranges, `a..=b`, which joins ranges that overlap or touch: those
-/// that touch have no key between. `StepFnsT` is the type whose steps tell that, mostly `T` itself.
+/// that touch have no key between. `StepFnsT` is the type whose steps tell that, mostly `T` itself. It
+/// keeps them in one sorted vector.
 ///
 /// `new`, `from`, `from_iter`, `extend`, `into_iter`, `|`, `&`, `to_value`, `from_value` and `{:?}`
 /// exist where `StepFnsT` is `T`. The range of an `insert` or a `remove` is not empty,
@@ -58,8 +59,10 @@ use std::{slice, vec};
 /// union<'a>(&'a self, other: &'a Self) -> Union<'a, T>
 /// intersection<'a>(&'a self, other: &'a Self) -> Intersection<'a, T>
 /// &left | &right, &left & &right -> Result<Self, AllocError>
-/// to_value(&self, alloc: Global, write_key) -> Result<Value, WriteError<E>>
-/// from_value(alloc: A, form: Form, value: &Value, read_key) -> Result<Self, ReadError<E>>
+/// to_value<E, WK: Fn(&T) -> Result<Value, E>>(
+///     &self, alloc: Global, write_key: WK) -> Result<Value, WriteError<E>>
+/// from_value<E, RK: Fn(&Value) -> Result<T, E>>(
+///     alloc: A, form: Form, value: &Value, read_key: RK) -> Result<Self, ReadError<E>>
 /// ```
 ///
 /// Each is described, with its contract, at `Set`; with `==`, the orders, `Hash` and `{:?}` beside.

@@ -58,6 +58,6 @@ pub mod tree_set;
 pub use inclusive_map::RangeInclusiveMap;
 pub use inclusive_set::RangeInclusiveSet;
 pub use map::RangeMap;
-pub use rangemap_core::std_ext::{StepFns, StepLite};
 pub use rangemap_formats::json::{Form, Part, ReadError, WriteError};
+pub use rangemap_steps::{StepFns, StepLite};
 pub use set::RangeSet;

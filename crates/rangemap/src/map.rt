@@ -15,6 +15,8 @@ use std::{slice, vec};
 /// A map of disjoint half-open ranges, `a..b`, to values, which joins ranges that touch and have
 /// equal values. It keeps them in one sorted vector.
 ///
+/// The range of an `insert` or a `remove` is not empty: `range.start < range.end`.
+///
 /// # Examples
 ///
 /// ```text
@@ -50,8 +52,10 @@ use std::{slice, vec};
 /// overlapping<'a>(&'a self, range: &'a Range<K>) -> Overlapping<'a, K, V>
 /// overlaps(&self, range: &Range<K>) -> bool
 /// gaps<'a>(&'a self, outer_range: &'a Range<K>) -> Gaps<'a, K, V>
-/// to_value(&self, alloc: Global, write_key, write_value) -> Result<Value, WriteError<E>>
-/// from_value(alloc: A, form: Form, value: &Value, read_key, read_value) -> Result<Self, ReadError<E>>
+/// to_value<E, WK: Fn(&K) -> Result<Value, E>, WV: Fn(&V) -> Result<Value, E>>(
+///     &self, alloc: Global, write_key: WK, write_value: WV) -> Result<Value, WriteError<E>>
+/// from_value<E, RK: Fn(&Value) -> Result<K, E>, RV: Fn(&Value) -> Result<V, E>>(
+///     alloc: A, form: Form, value: &Value, read_key: RK, read_value: RV) -> Result<Self, ReadError<E>>
 /// ```
 ///
 /// Each is described, with its contract, at `Map`; with `==`, the orders, `Hash` and `{:?}` beside.

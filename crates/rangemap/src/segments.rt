@@ -43,17 +43,17 @@ use std::iter::IntoIterator;
 /// ```
 pub fn segments<M: Container, B: Allocator + Clone>(
     alloc: B,
-    stored: &M,
+    container: &M,
     query: &M::Range,
 ) -> Result<Map<SortedVec<M::Kind, M::Range, Option<M::Value>, B>>, AllocError>
     requires faithful_keys { KeysCloneFaithfully M.Range.Key.is_clone M.Range.Key.cmp }
     requires faithful_values { ValuesCloneFaithfully M.Value.is_clone M.Value.eq }
-    ensures { IfOk result (IsCanonOf M.Kind.kind ⟦<Option<M::Value> as PartialEq>⟧.eq (segments_of M.Kind.kind (value_at M.Kind.kind (M.pairs stored.now)) query.now)) }
+    ensures { IfOk result (IsCanonOf M.Kind.kind ⟦<Option<M::Value> as PartialEq>⟧.eq (segments_of M.Kind.kind (value_at M.Kind.kind (M.pairs container.now)) query.now)) }
 {
     known_ends::<M::Kind, M::Range>(query);
-    stored.known();
+    container.known();
     let mut found = Vec::new(alloc.clone()?);
-    stored.append_overlapping(query, &mut found)?;
+    container.append_overlapping(query, &mut found)?;
     let mut all = Map::new_with_step_fns(alloc);
     // First every key of the query has none.
     insert_shared(&mut all, query, query, None)?;

@@ -12,7 +12,8 @@ use std::alloc::Global;
 use std::ops::Range;
 use std::{slice, vec};
 
-/// A set of keys in disjoint half-open ranges, `a..b`, which joins ranges that overlap or touch.
+/// A set of keys in disjoint half-open ranges, `a..b`, which joins ranges that overlap or touch. It
+/// keeps them in one sorted vector.
 ///
 /// The range of an `insert` or a `remove` is not empty: `range.start < range.end`.
 ///
@@ -57,8 +58,10 @@ use std::{slice, vec};
 /// union<'a>(&'a self, other: &'a Self) -> Union<'a, T>
 /// intersection<'a>(&'a self, other: &'a Self) -> Intersection<'a, T>
 /// &left | &right, &left & &right -> Result<Self, AllocError>
-/// to_value(&self, alloc: Global, write_key) -> Result<Value, WriteError<E>>
-/// from_value(alloc: A, form: Form, value: &Value, read_key) -> Result<Self, ReadError<E>>
+/// to_value<E, WK: Fn(&T) -> Result<Value, E>>(
+///     &self, alloc: Global, write_key: WK) -> Result<Value, WriteError<E>>
+/// from_value<E, RK: Fn(&Value) -> Result<T, E>>(
+///     alloc: A, form: Form, value: &Value, read_key: RK) -> Result<Self, ReadError<E>>
 /// ```
 ///
 /// Each is described, with its contract, at `Set`; with `==`, the orders, `Hash` and `{:?}` beside.

@@ -16,6 +16,8 @@ use std::ops::Range;
 /// A set of keys in disjoint half-open ranges, `a..b`, which joins ranges that overlap or touch. It
 /// keeps them in a B-tree, from starts to ends.
 ///
+/// The range of an `insert` or a `remove` is not empty: `range.start < range.end`.
+///
 /// # Examples
 ///
 /// ```text
@@ -52,8 +54,10 @@ use std::ops::Range;
 /// union<'a>(&'a self, other: &'a Self) -> Union<'a, T>
 /// intersection<'a>(&'a self, other: &'a Self) -> Intersection<'a, T>
 /// &left | &right, &left & &right -> Result<Self, AllocError>
-/// to_value(&self, alloc: Global, write_key) -> Result<Value, WriteError<E>>
-/// from_value(alloc: A, form: Form, value: &Value, read_key) -> Result<Self, ReadError<E>>
+/// to_value<E, WK: Fn(&T) -> Result<Value, E>>(
+///     &self, alloc: Global, write_key: WK) -> Result<Value, WriteError<E>>
+/// from_value<E, RK: Fn(&Value) -> Result<T, E>>(
+///     alloc: A, form: Form, value: &Value, read_key: RK) -> Result<Self, ReadError<E>>
 /// ```
 ///
 /// Each is described, with its contract, at `Set`; with `==`, the orders, `Hash` and `{:?}` beside.

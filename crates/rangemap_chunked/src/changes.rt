@@ -7,7 +7,9 @@ ghost use Rattle.rangemap_chunked.specs.Chunks.{AreChunks, AreFilled, IsCounted,
 
 use crate::chunk::Chunk;
 use crate::joins::settle;
-use crate::search::{chunk_starts_by_end, end_from, first_failing, may_overflow, start_of};
+use crate::search::{
+    chunk_starts_by_end, first_failing, first_met_chunk, may_overflow, met_chunks_end,
+};
 use crate::wide::{Counts, change_over};
 use rangemap_core::key_range::KeyRange;
 use rangemap_core::kind::{Kind, known_ends};
@@ -41,13 +43,15 @@ pub fn insert_into<Q: Kind<R>, R: KeyRange, V: Eq + Clone, A: Allocator + Clone,
         chunks.push(chunk)?;
         return Ok(Counts { before: 0, after });
     }
-    let at = start_of::<Q, R, V, A>(chunks, &range);
+    let at = first_met_chunk::<Q, R, V, A>(chunks, &range);
+    // A chunk that starts where the range ends counts too, since its first pair may be joined with the new
+    // one. `met_chunks_end` leaves it out.
     let end = first_failing(
         chunks,
         at,
         |chunk| chunk_starts_by_end::<Q, R, V, A>(chunk, &range),
     );
-    let counts = change_over::<Q, R, V, A>(chunks, at, end, range, Some(value))?;
+    let counts = change_over::<Q, R, V, A>(chunks, at..end, range, Some(value))?;
     settle::<R, V, A, N>(chunks, at, true);
     Ok(counts)
 }
@@ -80,12 +84,12 @@ pub fn remove_from<Q: Kind<R>, R: KeyRange, V: Eq + Clone, A: Allocator + Clone,
             after: 0,
         });
     }
-    let at = start_of::<Q, R, V, A>(chunks, &range);
-    let end = end_from::<Q, R, V, A>(chunks, &range, at);
-    if may_overflow::<Q, R, V, A>(chunks, len, at, end, &range) {
+    let at = first_met_chunk::<Q, R, V, A>(chunks, &range);
+    let end = met_chunks_end::<Q, R, V, A>(chunks, &range, at);
+    if may_overflow::<Q, R, V, A>(chunks, len, at..end, &range) {
         return Err(AllocError);
     }
-    let counts = change_over::<Q, R, V, A>(chunks, at, end, range, None)?;
+    let counts = change_over::<Q, R, V, A>(chunks, at..end, range, None)?;
     // A removal that meets nothing asks for no memory: it changes no chunk's size.
     let is_resized = at + 1 < end || counts.before != counts.after;
     settle::<R, V, A, N>(chunks, at, is_resized);

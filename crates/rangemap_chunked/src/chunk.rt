@@ -172,7 +172,7 @@ impl<R: KeyRange, V: Eq + Clone, A: Allocator> Chunk<R, V, A> {
             }
             return Err(AllocError);
         };
-        cut(others, 0, place);
+        cut(others, 0..place);
         Ok(())
     }
 

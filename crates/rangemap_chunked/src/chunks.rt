@@ -14,8 +14,8 @@ use rangemap_sorted::entries::covering;
 use std::alloc::{AllocError, Allocator};
 use std::marker::{Model, PhantomData};
 
-/// How many pairs a chunk has at most, in the containers that users name. docs/SPEED.md says what
-/// other sizes cost.
+/// How many pairs a chunk has at most, in the containers that users name, where memory is not refused.
+/// docs/SPEED.md says what other sizes cost.
 pub const SIZE: usize = 512;
 
 /// Pairs of a range and a value in chunks, each a sorted vector of up to `N` pairs, or of more where
@@ -33,13 +33,17 @@ pub const SIZE: usize = 512;
 /// | `iter`, `read`, `into_pairs` | *O*(1), and *O*(*n*) for all items | none |
 /// | `overlapping`, `read_overlapping` | *O*(log *n*), and *O*(*k*) for all items | none |
 /// | `append_gaps` | *O*(log *n* + *k*) | growth, clones |
-/// | `insert`, `remove` | *O*(log *n* + *N* + *c*), and drops of *k* pairs | growth of a chunk, clones |
+/// | `insert`, `remove` | *O*(log *n* + *N* + *c*), and drops of *k* pairs | growth of a chunk or of their list, a new chunk, clones of keys, of values and of the allocator |
 /// | `clear` | *O*(*n*), as each drop | none |
 /// | `copy` | *O*(*n*) | the chunks, clones |
 ///
 /// A change of a wide range drops whole chunks and moves none of their pairs. No chunk is ever
-/// empty, and one that a change leaves small becomes one with a neighbour, where the two have no more
-/// than half of `N` together and memory is not refused for that.
+/// empty. The chunk in which an `insert` begins, or a `remove` that alters its size, becomes one with
+/// a neighbour where the two have no more than half of `N` together and memory is not refused for
+/// that. What stays of the last chunk of a wide change, and the neighbours of one that is dropped, wait
+/// for a change of their own.
+///
+/// For each stored range a `copy` clones two keys and a value, and for each chunk the allocator.
 ///
 /// The pairs are counted by a `usize`. So an `insert` beside more than `usize::MAX - 2` pairs is refused,
 /// even one that adds none, and so is a `remove` that might leave more than can be counted. Memory ends
@@ -161,14 +165,13 @@ impl<Q: Kind<R>, R: KeyRange, V: Eq + Clone, A: Allocator + Clone, const N: usiz
     }
 
     fn copy(&self, alloc: A) -> Result<Self, AllocError> {
-        let len = self.len;
         let mut chunks = Vec::with_capacity(alloc, self.chunks.len())?;
         for chunk in &self.chunks {
             chunks.push_reserved(chunk.copy::<Q>()?);
         }
         Ok(Chunks {
             chunks,
-            len,
+            len: self.len,
             kind: PhantomData,
         })
     }

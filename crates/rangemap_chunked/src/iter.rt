@@ -9,8 +9,8 @@ use std::alloc::Allocator;
 use std::marker::Model;
 use std::slice;
 
-/// The pairs of a range and a value that are still to come, from both ends: all of a map, or those
-/// that overlap a range.
+/// The pairs of a range and a value that are still to come, from both ends: all of the chunks, or
+/// those that overlap a range.
 #[derive(Drop)]
 pub struct Iter<'a, R, V, A: Allocator> {
     // What is left of the chunk that was begun from the front.
@@ -83,8 +83,7 @@ impl<'a, R, V, A: Allocator> Cursor for Iter<'a, R, V, A> {
         if let Some((chunk, rest)) = self.chunks.split_first() {
             self.front = chunk.as_slice().iter();
             self.chunks = rest;
-            let pair = self.front.take_first()?;
-            return Some(pair);
+            return self.front.take_first();
         }
         self.back.take_first()
     }
@@ -96,8 +95,7 @@ impl<'a, R, V, A: Allocator> Cursor for Iter<'a, R, V, A> {
         if let Some((chunk, rest)) = self.chunks.split_last() {
             self.back = chunk.as_slice().iter();
             self.chunks = rest;
-            let pair = self.back.take_last()?;
-            return Some(pair);
+            return self.back.take_last();
         }
         self.front.take_last()
     }

@@ -51,7 +51,7 @@ pub fn settle<R: Drop, V: Drop, A: Allocator + Clone, const N: usize>(
 {
     let chunk = &chunks[at];
     if chunk.len() == 0 {
-        cut(chunks, at, at + 1);
+        cut(chunks, at..at + 1);
         return;
     }
     if !is_resized {
@@ -66,7 +66,7 @@ pub fn settle<R: Drop, V: Drop, A: Allocator + Clone, const N: usize>(
     } else {
         at
     };
-    let _is_joined = join_small::<R, V, A, N>(chunks, at);
+    join_small::<R, V, A, N>(chunks, at);
 }
 
 // Joins a chunk with the one behind it, where both are small and memory allows. Returns whether
@@ -94,6 +94,6 @@ fn join_small<R: Drop, V: Drop, A: Allocator, const N: usize>(
     let Ok(()) = front[at].append(&mut back[0]) else {
         return false;
     };
-    cut(chunks, at + 1, at + 2);
+    cut(chunks, at + 1..at + 2);
     true
 }

@@ -1,5 +1,5 @@
-//! The pairs of a map or a set in chunks, each a sorted vector of some hundred pairs, so that changes at
-//! random places stay fast at any size.
+//! The pairs of a map or a set in chunks, each a sorted vector of up to some hundreds of pairs, so that
+//! changes at random places stay fast at any size. `Chunks` makes a store of them, for `Map` and `Set`.
 #![tactic(auto)]
 
 mod changes;

@@ -5,7 +5,7 @@ ghost use Rattle.rangemap_chunked.specs.Chunks.{AreChunks, whole};
 
 use crate::chunk::Chunk;
 use crate::iter::Iter;
-use crate::search::{end_from, start_of};
+use crate::search::{first_met_chunk, met_chunks_end};
 use rangemap_core::key_range::KeyRange;
 use rangemap_core::kind::{Kind, known_ends};
 use rangemap_sorted::overlapping::{overlapping_tail, take_begun};
@@ -22,11 +22,11 @@ pub(crate) fn overlapping<'a, Q: Kind<R>, R: KeyRange, V: Eq, A: Allocator>(
     requires { AreChunks Q.kind V.eq chunks.now }
     ensures { result ≡ overlapped Q.kind (whole chunks.now) query.now }
 {
-    if chunks.len() == 0 {
+    if chunks.is_empty() {
         return Iter::over(&[]);
     }
-    let at = start_of::<Q, R, V, A>(chunks, query);
-    let end = end_from::<Q, R, V, A>(chunks, query, at);
+    let at = first_met_chunk::<Q, R, V, A>(chunks, query);
+    let end = met_chunks_end::<Q, R, V, A>(chunks, query, at);
     known_ends::<Q, R>(query);
     let first = overlapping_tail::<Q, R, V>(chunks[at].as_slice(), query);
     if end <= at + 1 {

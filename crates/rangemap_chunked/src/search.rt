@@ -16,6 +16,7 @@ use rangemap_core::key_range::KeyRange;
 use rangemap_core::kind::{Endpoint, Kind, known_ends};
 use rangemap_sorted::overlapping::Overlapping;
 use std::alloc::Allocator;
+use std::ops::Range;
 
 // A key that is searched for, as a closure may hold it: the checker refuses one that holds a bare
 // `R::Key` where the kind of the ranges is open.
@@ -32,7 +33,7 @@ fn chunk_starts_by<Q: Kind<R>, R: KeyRange, V: Eq, A: Allocator>(
     ensures { result ≡ chunk_by (shape_of Q.kind Q.end_place V.eq) (SomeWord sought.now.key.now) chunk.now }
 {
     match chunk.as_slice().first() {
-        Some(pair) => !sought.key.cmp(pair.0.start()).is_lt(),
+        Some(pair) => sought.key.cmp(pair.0.start()).is_ge(),
         None => true,
     }
 }
@@ -80,7 +81,7 @@ pub fn chunk_with<'a, Q: Kind<R>, R: KeyRange, V: Eq, A: Allocator>(
 }
 
 /// Returns the place of the chunk from which on pairs may overlap the range or touch it.
-pub fn start_of<Q: Kind<R>, R: KeyRange, V: Eq, A: Allocator>(
+pub fn first_met_chunk<Q: Kind<R>, R: KeyRange, V: Eq, A: Allocator>(
     chunks: &[Chunk<R, V, A>],
     range: &R,
 ) -> usize
@@ -116,7 +117,7 @@ pub fn first_failing<T, P: Fn(&T) -> bool>(items: &[T], at: usize, passes: P) ->
 
 /// Returns the place of the first chunk behind `at` from which on no pair overlaps the range, where none
 /// before the chunk `at` does.
-pub fn end_from<Q: Kind<R>, R: KeyRange, V: Eq, A: Allocator>(
+pub fn met_chunks_end<Q: Kind<R>, R: KeyRange, V: Eq, A: Allocator>(
     chunks: &[Chunk<R, V, A>],
     range: &R,
     at: usize,
@@ -159,24 +160,24 @@ pub fn last_touched<Q: Kind<R>, R: KeyRange, V: Eq, A: Allocator>(
 }
 
 /// Returns whether a removal may leave more pairs than a `usize` can count, so that it is to be refused.
-/// The range overlaps only chunks from `at` up to `end`.
+/// The range overlaps only the chunks at `places`.
 pub fn may_overflow<Q: Kind<R>, R: KeyRange, V: Eq, A: Allocator>(
     chunks: &[Chunk<R, V, A>],
     len: usize,
-    at: usize,
-    end: usize,
+    places: Range<usize>,
     range: &R,
 ) -> bool
     requires chunked { AreChunks Q.kind V.eq chunks.now }
-    requires in_bounds { at < length chunks.now }
-    requires end { end ≤ length chunks.now }
-    requires past { IsPastStart (shape_of Q.kind Q.end_place V.eq) chunks.now range.now (at + 1) }
-    requires begun { at + 1 < end → AllWithin (λ chunk. chunk_below (shape_of Q.kind Q.end_place V.eq) (Q.end_place range.now) chunk ≡ true) chunks.now 0 end }
+    requires in_bounds { places.start < length chunks.now }
+    requires end { places.end ≤ length chunks.now }
+    requires past { IsPastStart (shape_of Q.kind Q.end_place V.eq) chunks.now range.now (places.start + 1) }
+    requires begun { places.start + 1 < places.end → AllWithin (λ chunk. chunk_below (shape_of Q.kind Q.end_place V.eq) (Q.end_place range.now) chunk ≡ true) chunks.now 0 places.end }
     requires non_empty { Q.kind.IsNonEmpty range.now }
-    ensures alone { overlapped Q.kind (whole chunks.now) range.now ≡ [] → end ≤ at + 1 }
+    ensures alone { overlapped Q.kind (whole chunks.now) range.now ≡ [] → places.end ≤ places.start + 1 }
     ensures refused { result ≡ true → overlapped Q.kind (whole chunks.now) range.now ≡ [] → ⊥ }
-    ensures allowed { result ≡ false → (len < usize.MAX) ⊎ ((end ≤ at + 1) × (overlapped Q.kind (slice_index_or chunks.now at []) range.now ≡ [])) }
+    ensures allowed { result ≡ false → (len < usize.MAX) ⊎ ((places.end ≤ places.start + 1) × (overlapped Q.kind (slice_index_or chunks.now places.start []) range.now ≡ [])) }
 {
+    let Range { start: at, end } = places;
     known_ends::<Q, R>(range);
     if len < usize::MAX {
         return false;

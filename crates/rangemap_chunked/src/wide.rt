@@ -18,6 +18,7 @@ use rangemap_core::key_range::KeyRange;
 use rangemap_core::kind::{Kind, known_ends};
 use rangemap_sorted::splice::cut;
 use std::alloc::{AllocError, Allocator};
+use std::ops::Range;
 
 /// How many pairs stood in the stretch of chunks that a change went over, before it and after it.
 #[derive(Drop)]
@@ -29,38 +30,38 @@ pub struct Counts {
 }
 
 /// Gives every key of the range the value, or takes it out where there is none. The range overlaps
-/// or touches only chunks from `at` up to `end`. Without a value, the chunk at `at` may be left empty.
+/// or touches only the chunks at `places`. Without a value, the first of these may be left empty.
 ///
 /// # Errors
 ///
 /// Memory or a clone was refused: then no pair is changed.
 pub fn change_over<Q: Kind<R>, R: KeyRange, V: Eq + Clone, A: Allocator>(
     chunks: &mut Vec<Chunk<R, V, A>, A>,
-    at: usize,
-    end: usize,
+    places: Range<usize>,
     range: R,
     value: Option<V>,
 ) -> Result<Counts, AllocError>
     requires chunked { AreChunks Q.kind V.eq chunks.old.items }
     requires fits { length (whole chunks.old.items) ≤ usize.MAX }
-    requires start { at < length chunks.old.items }
-    requires end { end ≤ length chunks.old.items }
-    requires before { IsClearBefore (shape_of Q.kind Q.end_place V.eq) chunks.old.items range at }
-    requires past { IsPastStart (shape_of Q.kind Q.end_place V.eq) chunks.old.items range (at + 1) }
-    requires begun { at + 1 < end → AllWithin (λ chunk. chunk_by (shape_of Q.kind Q.end_place V.eq) (Q.end_place range) chunk ≡ true) chunks.old.items 0 end }
-    requires behind { IsPastBehind (shape_of Q.kind Q.end_place V.eq) chunks.old.items range end }
-    requires clear { IfSome value (λ _. IsClearBehind (shape_of Q.kind Q.end_place V.eq) chunks.old.items range end) }
+    requires start { places.start < length chunks.old.items }
+    requires end { places.end ≤ length chunks.old.items }
+    requires before { IsClearBefore (shape_of Q.kind Q.end_place V.eq) chunks.old.items range places.start }
+    requires past { IsPastStart (shape_of Q.kind Q.end_place V.eq) chunks.old.items range (places.start + 1) }
+    requires begun { places.start + 1 < places.end → AllWithin (λ chunk. chunk_by (shape_of Q.kind Q.end_place V.eq) (Q.end_place range) chunk ≡ true) chunks.old.items 0 places.end }
+    requires behind { IsPastBehind (shape_of Q.kind Q.end_place V.eq) chunks.old.items range places.end }
+    requires clear { IfSome value (λ _. IsClearBehind (shape_of Q.kind Q.end_place V.eq) chunks.old.items range places.end) }
     requires non_empty { Q.kind.IsNonEmpty range }
     requires faithful_keys { KeysCloneFaithfully R.Key.is_clone R.Key.cmp }
     requires faithful_values { ValuesCloneFaithfully V.is_clone V.eq }
     ensures ok { OnOk result (IsChanged Q.kind V.eq (value_at Q.kind (whole chunks.old.items)) range value (whole chunks.new.items)) }
-    ensures filled { AreFilledBut value at chunks.new.items }
-    ensures in_bounds { at < length chunks.new.items }
+    ensures filled { AreFilledBut value places.start chunks.new.items }
+    ensures in_bounds { places.start < length chunks.new.items }
     ensures err { OnErr result (chunks.new.items ≡ chunks.old.items) }
     ensures counted { IfOk result (λ counts. IsCounted V.eq (grown value) (whole chunks.old.items) (whole chunks.new.items) counts.before counts.after) }
-    ensures meets_nothing { value ≡ NoneWord → end ≤ at + 1 → overlapped Q.kind (slice_index_or chunks.old.items at []) range ≡ [] → IsOk result × (chunks.new.items ≡ chunks.old.items) }
+    ensures meets_nothing { value ≡ NoneWord → places.end ≤ places.start + 1 → overlapped Q.kind (slice_index_or chunks.old.items places.start []) range ≡ [] → IsOk result × (chunks.new.items ≡ chunks.old.items) }
 {
     known_ends::<Q, R>(&range);
+    let Range { start: at, end } = places;
     if end <= at + 1 {
         let chunk = &mut chunks[at];
         let before = chunk.len();
@@ -81,7 +82,7 @@ pub fn change_over<Q: Kind<R>, R: KeyRange, V: Eq + Clone, A: Allocator>(
     let after = first.len();
     // The last chunk goes with those between where nothing is left of it.
     let kept_from = if later.len() == 0 { end } else { last };
-    cut(chunks, at + 1, kept_from);
+    cut(chunks, at + 1..kept_from);
     Ok(Counts { before, after })
 }
 

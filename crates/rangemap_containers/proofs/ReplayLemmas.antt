@@ -1,4 +1,4 @@
--- What calls on a list of maps make of the functions that these stand for.
+-- What calls on a list of containers make of the functions that these stand for.
 use Rattle.std.proofs.Common.{arith, ◌≡◌, ℕ, ◌<◌, ◌≤◌, Bool, true, false, List, [], ◌∷◌, ◌++◌, length, map, get_or, set, Option, None, Some, inl, inr, Result, Ok, Err, IfOk, OnOk, OnErr, IsOk, is_ok, refl, subst, sym, ap, ◌∙◌, true≢false}
 use Rattle.std.proofs.IntoIterSteps.{All-taken}
 use Rattle.std.specs.Cmp.{IsEquivalence}
@@ -51,7 +51,7 @@ module _ (C X A B : Type 0) where
       at_end (inl w) = w.1.0
       at_end (inr w) = as_many s xs t ran same ∙ w.1.0
 
--- what calls make of the functions, from what each makes of the maps
+-- what calls make of the functions, from what each makes of the containers
 module _ {K X V M C : Type 0} (k : RangeKind K X) (eq : V → V → Bool) (pairs : M → List (X × V)) (step : List (K → Option V) → C → Bool → List (K → Option V) → Type 0) where
   pub made_in_turn : (old new : List M) (calls : List C) (answers : List Bool) → Run (Makes k eq pairs step) old calls answers new → MakesAll k eq pairs step old calls answers new
   made_in_turn old new [] [] r fs h = (fs, refl, subst (AreCanonOf k eq pairs fs) (sym r) h)
@@ -74,7 +74,7 @@ one_there : {F : Type 0} {o : Option F} {f g : F} → o ≡ Some f → o ≡ Som
 one_there {f = f} a b = ap (λ o. unwrap_or o f) (sym a ∙ b)
 
 module _ {K X V M : Type 0} (k : RangeKind K X) {eq : V → V → Bool} (e : IsEquivalence eq) (shown : M → List (X × V)) (ls : List M) where
-  -- the function at a map's place has the map's list
+  -- the function at a container's place has the container's list
   abbrev Shows : (K → Option V) → M → Type 0
   Shows f m = IsCanonOf k eq f (shown m)
 
@@ -89,7 +89,7 @@ module _ {K X V M : Type 0} (k : RangeKind K X) {eq : V → V → Bool} (e : IsE
     pub clear_past : Makes k eq shown (ChangeStep k) ls (Clear at) false ls
     clear_past fs h = (fs, (refl, omega (arith, as_long Shows fs ls h)), h)
 
-  -- a call at the place of a map that was l and is m
+  -- a call at the place of a container that was l and is m
   module _ (at : ℕ) (l m : M) (here : at < length ls) (is : l ≡ get_or ls at l) where
     same : shown m ≡ shown l → (fs : List (K → Option V)) → AreCanonOf k eq shown fs ls → AreCanonOf k eq shown fs (set ls at m)
     same s fs h = kept Shows fs ls at l m h here is (λ f c. subst (IsCanonOf k eq f) (sym s) c)
@@ -117,6 +117,6 @@ module _ {K X V M : Type 0} (k : RangeKind K X) {eq : V → V → Bool} (e : IsE
         let own = found Shows fs ls at l h here is in
         (_, (own.0, own.1, refl), added Shows fs ls own.0 m h (canon_along k e (value_at k (shown l)) own.0 (shown m) own.2.represents copy))
 
-  -- a call that adds a map
+  -- a call that adds a container
   pub new_made : (m : M) → shown m ≡ [] → Makes k eq shown (ChangeStep k) ls New true (ls ++ m ∷ [])
   new_made m empty fs h = (_, refl, added Shows fs ls nothing m h (rw empty (record { canonical = tt; represents = λ x key. refl })))

@@ -64,7 +64,8 @@ pub trait Container: PartialEq + Drop {
     ///
     /// # Errors
     ///
-    /// Memory or a clone was refused: then the container is as it was.
+    /// Memory or a clone was refused, or the change might leave more ranges than the store can count: then
+    /// the container is as it was.
     fn insert(&mut self, range: Self::Range, value: Self::Value) -> Result<(), AllocError>
         requires non_empty { Self.Kind.kind.IsNonEmpty range }
         requires faithful_keys { KeysCloneFaithfully Self.Range.Key.is_clone Self.Range.Key.cmp }
@@ -234,14 +235,14 @@ pub trait Container: PartialEq + Drop {
 /// memory and succeeds.
 pub fn collect_gaps<M: Container, B: Allocator>(
     alloc: B,
-    stored: &M,
+    container: &M,
     outer_range: &M::Range,
 ) -> Result<Vec<M::Range, B>, AllocError>
     requires { KeysCloneFaithfully M.Range.Key.is_clone M.Range.Key.cmp }
-    ensures ok { IfOk result (λ gaps. AreGaps M.Kind.kind (map (λ pair. pair.0) (M.pairs stored.now)) outer_range.now gaps.items) }
-    ensures of_nothing { AreGaps M.Kind.kind (map (λ pair. pair.0) (M.pairs stored.now)) outer_range.now [] → IsOk result }
+    ensures ok { IfOk result (λ gaps. AreGaps M.Kind.kind (map (λ pair. pair.0) (M.pairs container.now)) outer_range.now gaps.items) }
+    ensures of_nothing { AreGaps M.Kind.kind (map (λ pair. pair.0) (M.pairs container.now)) outer_range.now [] → IsOk result }
 {
     let mut gaps = Vec::new(alloc);
-    stored.append_gaps(outer_range, &mut gaps)?;
+    container.append_gaps(outer_range, &mut gaps)?;
     Ok(gaps)
 }

@@ -33,14 +33,14 @@ pub trait CallOn<M: Container>: Drop {
     ///
     /// The list has room for one container more. No range is empty, or was iterated to its end, and
     /// clones are faithful, as for `insert`.
-    fn make(self, alloc: M::Alloc, maps: &mut Vec<M, M::Alloc>) -> bool
-        requires room { vec_len maps.old < vec_capacity maps.old }
+    fn make(self, alloc: M::Alloc, containers: &mut Vec<M, M::Alloc>) -> bool
+        requires room { vec_len containers.old < vec_capacity containers.old }
         requires non_empty { has_non_empty self }
         requires faithful_keys { KeysCloneFaithfully M.Range.Key.is_clone M.Range.Key.cmp }
         requires faithful_values { ValuesCloneFaithfully M.Value.is_clone M.Value.eq }
-        ensures made { Makes M.Kind.kind M.Value.eq M.pairs step maps.old.items self result maps.new.items }
-        ensures len { vec_len maps.new ≤ vec_len maps.old + 1 }
-        ensures capacity { vec_capacity maps.old ≤ vec_capacity maps.new };
+        ensures made { Makes M.Kind.kind M.Value.eq M.pairs step containers.old.items self result containers.new.items }
+        ensures len { vec_len containers.new ≤ vec_len containers.old + 1 }
+        ensures capacity { vec_capacity containers.old ≤ vec_capacity containers.new };
 }
 
 /// Makes any list of calls, in order, on a list of containers, and answers of each whether it was
@@ -84,7 +84,7 @@ pub trait CallOn<M: Container>: Drop {
 /// ```
 pub fn replay<M: Container, C: CallOn<M>>(
     alloc: M::Alloc,
-    maps: &mut Vec<M, M::Alloc>,
+    containers: &mut Vec<M, M::Alloc>,
     calls: Vec<C, M::Alloc>,
 ) -> Result<Vec<bool, M::Alloc>, AllocError>
 where
@@ -92,34 +92,34 @@ where
     requires non_empty { AllByRecursion C.has_non_empty calls.items }
     requires faithful_keys { KeysCloneFaithfully M.Range.Key.is_clone M.Range.Key.cmp }
     requires faithful_values { ValuesCloneFaithfully M.Value.is_clone M.Value.eq }
-    ensures ok { IfOk result (λ answers. MakesAll M.Kind.kind M.Value.eq M.pairs C.step maps.old.items calls.items answers.items maps.new.items) }
-    ensures err { OnErr result (maps.new.items ≡ maps.old.items) }
+    ensures ok { IfOk result (λ answers. MakesAll M.Kind.kind M.Value.eq M.pairs C.step containers.old.items calls.items answers.items containers.new.items) }
+    ensures err { OnErr result (containers.new.items ≡ containers.old.items) }
 {
     let count = calls.len();
-    maps.reserve(count)?;
+    containers.reserve(count)?;
     let mut answers = Vec::with_capacity(alloc.clone()?, count)?;
     let allocators = Vec::from_elem(alloc.clone()?, alloc, count)?;
-    make_all(allocators, maps, calls, &mut answers);
+    make_all(allocators, containers, calls, &mut answers);
     Ok(answers)
 }
 
 // Makes the calls, for which there is room, with an allocator for each.
 fn make_all<M: Container, C: CallOn<M>>(
     allocators: Vec<M::Alloc, M::Alloc>,
-    maps: &mut Vec<M, M::Alloc>,
+    containers: &mut Vec<M, M::Alloc>,
     calls: Vec<C, M::Alloc>,
     answers: &mut Vec<bool, M::Alloc>,
 )
     requires allocators { vec_len allocators ≡ vec_len calls }
-    requires room { vec_len maps.old + vec_len calls ≤ vec_capacity maps.old }
+    requires room { vec_len containers.old + vec_len calls ≤ vec_capacity containers.old }
     requires room_for_answers { vec_len calls ≤ vec_capacity answers.old }
     requires no_answers { answers.old.items ≡ [] }
     requires non_empty { AllByRecursion C.has_non_empty calls.items }
     requires faithful_keys { KeysCloneFaithfully M.Range.Key.is_clone M.Range.Key.cmp }
     requires faithful_values { ValuesCloneFaithfully M.Value.is_clone M.Value.eq }
-    ensures { Run (Makes M.Kind.kind M.Value.eq M.pairs C.step) maps.old.items calls.items answers.new.items maps.new.items }
+    ensures { Run (Makes M.Kind.kind M.Value.eq M.pairs C.step) containers.old.items calls.items answers.new.items containers.new.items }
 {
     for (call, alloc) in calls.into_iter().zip(allocators) {
-        answers.push_reserved(call.make(alloc, maps));
+        answers.push_reserved(call.make(alloc, containers));
     }
 }

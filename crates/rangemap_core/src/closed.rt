@@ -6,7 +6,7 @@ ghost use Rattle.rangemap_core.specs.engine.Endpoints.{IsAskedAt, endpoint_of};
 ghost use Rattle.rangemap_core.specs.Ranges.{closed};
 
 use crate::kind::{Endpoint, Kind, Touch};
-use crate::std_ext::StepFns;
+use rangemap_steps::StepFns;
 use std::alloc::AllocError;
 use std::marker::PhantomData;
 use std::ops::RangeInclusive;

@@ -25,10 +25,10 @@ pub trait Cursor: Drop {
     /// The pairs that are still to come.
     ghost left: { Self → List (Self.Range × Self.Value) };
 
-    /// The range that what is there of it is, or to which it leads.
+    /// The range itself, or the one that the reference points to.
     ghost given: { Self.Given → Self.Range };
 
-    /// The value.
+    /// The value itself, or the one that the reference points to.
     ghost given_value: { Self.GivenValue → Self.Value };
 
     /// Takes the first pair that is still to come.

@@ -15,22 +15,22 @@ pub trait KeyRange: Drop {
     /// What contracts know of the ranges where every value counts as a key.
     ghost read: { RangeKind Self.Key Self };
 
-    /// Whether they have their end.
+    /// Whether a range has the key at its end.
     ghost has_end: { Bool };
 
-    /// The ends of the range stand so that it has a key.
+    /// By its two ends, the range has a key.
     ghost has_key: { Self → Type 0 };
 
-    /// No one has iterated over the range to its end.
+    /// The range was not iterated to its end.
     ghost is_fresh: { Self → Type 0 };
 
-    /// The places from which and to which they go.
+    /// The places at which ranges start and end.
     ghost places: { RangePlaces (Self.Key × Bool) Self };
 
-    /// What a text has between the ends.
+    /// What the debug text of a range has between its ends.
     ghost dots: { List ℕ };
 
-    /// Returns what a text has between the ends: `..` or `..=`.
+    /// Returns what the debug text of a range has between its ends: `..` or `..=`.
     fn dots() -> &'static str
         ensures { result.now ≡ dots };
 
@@ -51,14 +51,14 @@ pub trait KeyRange: Drop {
     fn between(start: Self::Key, end: Self::Key) -> Option<Self>
         ensures { IsBetween read has_end start end result };
 
-    /// They answer by their ends.
+    /// What a range holds, and what it meets, follows from its ends.
     ghost interval: { IsInterval read has_end };
 
-    /// Their keys are ordered as their type says.
+    /// Keys are ordered as their type orders them.
     ghost order: { (x y : Self.Key) → read.cmp x y ≡ Self.Key.cmp x y };
 
-    /// They answer by their places. A key is at the place before it, and cuts a range there or,
-    /// where ranges have their end, at the place after it.
+    /// What a range holds follows from its places too. A key is at the place before it, and cuts a range
+    /// there or, where ranges have the key at their end, at the place after it.
     ghost has_places: { HasPlaces read places (λ x. (x, false)) (λ x. (x, has_end)) };
 }
 

@@ -86,11 +86,11 @@ pub trait Kind<R: KeyRange> {
         ensures ok { IfOk result (IsSame kind (part_of (endpoint_of from.entry) (endpoint_of to.entry))) }
         ensures succeeds { KeysCloneInfallibly R.Key.is_infallible → IsOk result };
 
-    /// Ranges of the kind lie between places in a total order, and answer by the places of their
-    /// endpoints, the empty and the reversed ones too.
+    /// Ranges lie between places in a total order. What a range holds, and what it meets, follows from
+    /// the places of its endpoints, of an empty or a reversed one too.
     ghost placed: { IsPlaced kind end_place part_of };
 
-    /// They answer by their ends.
+    /// What a range holds, and what it meets, follows from its ends.
     ghost interval: { IsInterval kind R.has_end };
 
     /// A range that has a key and is fresh is not empty.
@@ -102,16 +102,16 @@ pub trait Kind<R: KeyRange> {
     /// A range that is not empty is fresh.
     ghost is_fresh_of: { (range : R) → kind.IsNonEmpty range → R.is_fresh range };
 
-    /// They are read as without steps.
+    /// The order of keys, and the start, the end and the keys of a range, are those of `KeyRange::read`.
     ghost reads: { ReadsAs kind R.read };
 
-    /// They go from place to place, as without steps.
+    /// What a range holds follows from its places too, as `KeyRange::has_places` says.
     ghost has_places: { HasPlaces kind R.places (λ x. (x, false)) (λ x. (x, R.has_end)) };
 
-    /// A canonical list is one without steps too.
+    /// A canonical list is canonical where every value counts as a key, too.
     ghost canonical_unstepped: { (ranges : List R) → IsCanonicalSet kind ranges → IsCanonicalSet R.read ranges };
 
-    /// A range that is not empty without steps is not empty.
+    /// A range that is not empty where every value counts as a key is not empty.
     ghost non_empty_stepped: { (range : R) → R.read.IsNonEmpty range → kind.IsNonEmpty range };
 }
 

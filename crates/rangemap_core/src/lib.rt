@@ -15,6 +15,5 @@ pub mod kind;
 pub mod pair_iter;
 pub mod pairs;
 pub mod reader;
-pub mod std_ext;
 pub mod store;
 mod vectors;

@@ -6,8 +6,9 @@ use crate::key_range::KeyRange;
 
 /// What reads pairs, one after another: it changes a state and gives an answer.
 ///
-/// A store hands its pairs to a reader (`Store::read`), since code over any store can't name the
-/// iterators that it lends: hash, texts and the JSON form are readers.
+/// A store hands its pairs to a reader (`Store::read`, `Store::read_overlapping`), since code over any
+/// store can't name the iterators that it lends: hash, texts, the JSON form, `overlaps` and the appends of
+/// containers are readers.
 pub trait Reader<R: KeyRange, V> {
     /// What it changes.
     type State;

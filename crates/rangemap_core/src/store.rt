@@ -133,7 +133,8 @@ pub trait StoreMut: Store {
     ///
     /// # Errors
     ///
-    /// Memory, or a clone of a key or value, was refused: then the store is as it was.
+    /// Memory, or a clone of a key, of a value or of the allocator, was refused, or the change might leave
+    /// more pairs than the store can count: then the store is as it was.
     fn insert(&mut self, range: Self::Range, value: Self::Value) -> Result<(), AllocError>
         requires non_empty { Self.Kind.kind.IsNonEmpty range }
         requires faithful_keys { KeysCloneFaithfully Self.Range.Key.is_clone Self.Range.Key.cmp }

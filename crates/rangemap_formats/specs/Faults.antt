@@ -14,7 +14,7 @@ at_entry words at rest = Some words ++? Some (decimal at) ++? Some rest
 -- what was wrong with the list that was read, or with its entry at a place
 abbrev pub read_error_text : {E : Type 0} → (E → Option (List ℕ)) → ReadError E → Option (List ℕ)
 read_error_text text NotAList = Some (codes "the value is not a list")
-read_error_text text (BadEntry at) = at_entry (codes "entry ") at (codes " is laid out otherwise")
+read_error_text text (BadEntry at) = at_entry (codes "entry ") at (codes " has the wrong layout")
 read_error_text text (BadKey at Start fault) = at_entry (codes "the start of entry ") at (codes ": ") ++? text fault
 read_error_text text (BadKey at End fault) = at_entry (codes "the end of entry ") at (codes ": ") ++? text fault
 read_error_text text (BadValue at fault) = at_entry (codes "the value of entry ") at (codes ": ") ++? text fault

@@ -28,7 +28,7 @@ pub fn compare<S: Store<Value: Ord>>(left: &S, right: &S) -> Ordering
     left.read_both::<Compared<S::Kind>>(right, &mut ())
 }
 
-// Tells whether the pairs of either are equal.
+// Tells whether the pairs of two stores are equal, one by one.
 struct Same<Q>(PhantomData<Q>);
 
 impl<Q: Kind<R>, R: KeyRange, V: Eq> ReaderOfBoth<R, V> for Same<Q> {
@@ -41,23 +41,22 @@ impl<Q: Kind<R>, R: KeyRange, V: Eq> ReaderOfBoth<R, V> for Same<Q> {
 
     ghost reads = { λ left right _ result _. result ≡ same_pairs Q.kind V.eq left right };
 
-    fn read<C: Peek<Range = R, Value = V>>(left: C, right: C, _state: &mut ()) -> bool {
-        let (mut ours, mut theirs) = (left, right);
-        'pairs: while let Some(our) = ours.take_first() {
-            let Some(their) = theirs.take_first() else {
+    fn read<C: Peek<Range = R, Value = V>>(mut left: C, mut right: C, _state: &mut ()) -> bool {
+        'pairs: while let Some(left_pair) = left.take_first() {
+            let Some(right_pair) = right.take_first() else {
                 return false;
             };
-            let (range, value) = C::parts(&our);
-            let (other, other_value) = C::parts(&their);
-            if !is_same::<Q, R, V>(range, value, other, other_value) {
+            let (left_range, left_value) = C::parts(&left_pair);
+            let (right_range, right_value) = C::parts(&right_pair);
+            if !is_same::<Q, R, V>(left_range, left_value, right_range, right_value) {
                 return false;
             }
         }
-        theirs.take_first().is_none()
+        right.take_first().is_none()
     }
 }
 
-// Compares the pairs of one with those of the other.
+// Compares the pairs of one store with those of another.
 struct Compared<Q>(PhantomData<Q>);
 
 impl<Q: Kind<R>, R: KeyRange, V: Ord> ReaderOfBoth<R, V> for Compared<Q> {
@@ -70,26 +69,25 @@ impl<Q: Kind<R>, R: KeyRange, V: Ord> ReaderOfBoth<R, V> for Compared<Q> {
 
     ghost reads = { λ left right _ result _. result ≡ pairs_cmp Q.kind V.cmp left right };
 
-    fn read<C: Peek<Range = R, Value = V>>(left: C, right: C, _state: &mut ()) -> Ordering {
-        let (mut ours, mut theirs) = (left, right);
-        'pairs: while let Some(our) = ours.take_first() {
-            let Some(their) = theirs.take_first() else {
+    fn read<C: Peek<Range = R, Value = V>>(mut left: C, mut right: C, _state: &mut ()) -> Ordering {
+        'pairs: while let Some(left_pair) = left.take_first() {
+            let Some(right_pair) = right.take_first() else {
                 return Ordering::Greater;
             };
-            let (range, value) = C::parts(&our);
-            let (other, other_value) = C::parts(&their);
+            let (left_range, left_value) = C::parts(&left_pair);
+            let (right_range, right_value) = C::parts(&right_pair);
             // By the starts, where these are equal by the ends, and where the ranges are equal by the
             // values.
-            let found = range
+            let found = left_range
                 .start()
-                .cmp(other.start())
-                .then_with(|| range.end().cmp(other.end()))
-                .then_with(|| value.cmp(other_value));
+                .cmp(right_range.start())
+                .then_with(|| left_range.end().cmp(right_range.end()))
+                .then_with(|| left_value.cmp(right_value));
             if found.is_ne() {
                 return found;
             }
         }
-        if theirs.take_first().is_none() {
+        if right.take_first().is_none() {
             Ordering::Equal
         } else {
             Ordering::Less

@@ -42,7 +42,8 @@ pub enum Form {
 pub enum ReadError<E> {
     /// The value is not a list.
     NotAList,
-    /// The entry is not laid out as those of the container are.
+    /// The entry is not laid out as those of the container are: `[[start, end], value]` of a map, and
+    /// `[start, end]` of a set.
     BadEntry {
         /// Its place.
         at: usize,

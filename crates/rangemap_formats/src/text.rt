@@ -11,8 +11,7 @@ use rangemap_core::key_range::KeyRange;
 use rangemap_core::kind::Kind;
 use rangemap_core::reader::Reader;
 use rangemap_core::store::Store;
-use std::fmt;
-use std::fmt::{Debug, Formatter};
+use std::fmt::{self, Debug, Formatter};
 use std::marker::PhantomData;
 
 /// Writes the pairs, each as `T` does, with `, ` between, in braces. Under `{:#?}` each has a line of

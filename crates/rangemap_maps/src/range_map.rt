@@ -8,7 +8,6 @@ use rangemap_core::gaps::{Gaps, gaps_of};
 use rangemap_core::key_range::KeyRange;
 use rangemap_core::kind::Kind;
 use rangemap_core::pair_iter::{OverlappingPairs, PairIter};
-use rangemap_core::reader::Reader;
 use rangemap_core::store::{Lends, Store, StoreMut};
 use std::marker::{Model, PhantomData};
 
@@ -29,7 +28,7 @@ mod text;
 /// | Call | Time | Memory |
 /// |---|---|---|
 /// | `new`, `new_with_step_fns`, `known`, `allocator`, `len`, `is_empty` | *O*(1) | none |
-/// | lookups, `overlaps` | *O*(log *n*) | none |
+/// | lookups, `first_range_value`, `last_range_value`, `overlaps` | *O*(log *n*) at most | none |
 /// | `iter`, `into_iter` | *O*(log *n*) at most, and *O*(*n*) for all items | none |
 /// | `overlapping` | *O*(log *n*), and *O*(*k*) for all items | none |
 /// | `gaps` | *O*(log *n*), and *O*(*k*) for all items | clones for a gap |
@@ -161,19 +160,7 @@ impl<S: Store> Map<S> {
         ensures canonical { IsCanonical S.Kind.kind S.Value.eq self.now }
     {
         self.stored.known();
-        self.read_overlapping::<IsAny>(range, &mut ())
-    }
-
-    // Hands the pairs that overlap the range to a reader.
-    fn read_overlapping<U: Reader<S::Range, S::Value>>(
-        &self,
-        range: &S::Range,
-        state: &mut U::State,
-    ) -> U::Answer
-        requires { U.may_read (overlapped S.Kind.kind self.now range.now) state.old }
-        ensures { U.reads (overlapped S.Kind.kind self.now range.now) state.old result state.new }
-    {
-        self.stored.read_overlapping::<U>(range, state)
+        self.stored.read_overlapping::<IsAny>(range, &mut ())
     }
 }
 

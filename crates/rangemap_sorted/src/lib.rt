@@ -2,7 +2,7 @@
 //!
 //! The engine goes over slices of pairs, for any kind of range: the search by halving, what a query
 //! meets, and the changes, which make every clone and all room that they need first.
-//! `SortedVec` is the store that `Map` and `Set` stand on.
+//! `SortedVec` makes a store of it, for `Map` and `Set`.
 #![tactic(auto)]
 
 pub mod entries;

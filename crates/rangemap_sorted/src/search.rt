@@ -44,8 +44,8 @@ pub fn count_up_to<'a, Q: Kind<R>, R: KeyRange + 'a, V>(
     if len == 0 {
         return 0;
     }
-    let places = len.ilog2();
-    let whole = 1usize << places;
+    let exponent = len.ilog2();
+    let whole = 1usize << exponent;
     let mut base = 0;
     if key.cmp(probe.start(len - whole)).is_ge() {
         base = len - whole + 1;
@@ -53,8 +53,8 @@ pub fn count_up_to<'a, Q: Kind<R>, R: KeyRange + 'a, V>(
     let mut half = whole;
     'halves: while 1 < half {
         half /= 2;
-        // This never turns. In a loop that has no other within, LLVM makes a branch of the
-        // conditional move below, which docs/SPEED.md tells of.
+        // Its body never runs: `base + half` is at most `len`. In a loop that has no other within, LLVM
+        // makes a branch of the conditional move below, which docs/SPEED.md tells of.
         'fits: while len < base + half {
             half >>= 1;
         }

@@ -28,8 +28,9 @@ use std::{slice, vec};
 /// | `clear` | *O*(*n*), as each drop | none |
 /// | `copy` | *O*(*n*) | the vector, clones |
 ///
-/// The first pair asks for room for twelve, and a growth doubles it. It is given back where the
-/// container is dropped; a `copy` has room for the pairs that there are.
+/// The first pair asks for room for twelve, and a growth doubles it. `clear` keeps the room for later
+/// inserts, and it is given back where the container is dropped. A `copy` has room for the pairs that
+/// there are, and for each clones two keys and a value.
 #[derive(Drop)]
 pub struct SortedVec<Q: Kind<R>, R: KeyRange, V: Eq + Clone, A: Allocator> {
     pairs: Vec<(R, V), A>,

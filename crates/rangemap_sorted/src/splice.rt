@@ -8,7 +8,9 @@ use std::ops::Range;
 
 mod turn;
 
-// How many values the first block has room for, so that a small container asks for memory once.
+// How many values the first block has room for, so that a small container asks for memory once: among
+// ten ranges, the fewest that docs/SPEED.md times, an insert may add two. No times of other numbers were
+// kept. The rows of refused requests count this room.
 const FIRST_ROOM: usize = 12;
 
 /// Puts the values in the place of those at `places`, in order.
@@ -60,7 +62,7 @@ pub fn splice<T: Drop, A: Allocator>(
     let at = put(list, at, end, right);
     let pushed = list.len() - len;
     turn_right(&mut list[end..], pushed);
-    cut(list, at, end);
+    cut(list, at..end);
     Ok(())
 }
 
@@ -94,17 +96,17 @@ fn put<T: Drop, A: Allocator>(
     }
 }
 
-/// Takes out the values from `start` up to `end`, if there are any. Those behind are moved as `splice`
-/// says.
+/// Takes out the values at `places`, if there are any. Those behind are moved as `splice` says.
 ///
 /// # Requires
 ///
-/// `start` is at most `end`, and `end` at most the length.
-pub fn cut<T: Drop, A: Allocator>(list: &mut Vec<T, A>, start: usize, end: usize)
-    requires start_le_end { start ≤ end }
-    requires in_bounds { end ≤ vec_len list.old }
-    ensures { list.new.items ≡ take start list.old.items ++ drop end list.old.items }
+/// The stretch lies in the vector.
+pub fn cut<T: Drop, A: Allocator>(list: &mut Vec<T, A>, places: Range<usize>)
+    requires start_le_end { places.start ≤ places.end }
+    requires in_bounds { places.end ≤ vec_len list.old }
+    ensures { list.new.items ≡ take places.start list.old.items ++ drop places.end list.old.items }
 {
+    let Range { start, end } = places;
     if start < end {
         let count = end - start;
         let len = list.len();

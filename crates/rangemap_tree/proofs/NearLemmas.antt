@@ -14,9 +14,9 @@ use Rattle.rangemap_core.proofs.PlaceOrderLemmas.{lt_le, lt_le_trans}
 use Rattle.rangemap_tree.specs.Starts.{before, from, past, up_to}
 use Rattle.rangemap_tree.specs.Sides.{shape}
 use Rattle.rangemap_tree.proofs.FilterLemmas.{filter_no, filter_passes, filter_same}
-use Rattle.rangemap_tree.proofs.SplitLemmas.{all_from, all_full, grouped, not_lt_of_le, parts_at, split_past}
+use Rattle.rangemap_tree.proofs.SplitLemmas.{all_from, all_full, grouped, not_lt_of_le, parts_at, split_past, starts_below}
 
-not_below : (b c : Bool) → c ≡ true → (b && not c) ≡ false
+pub not_below : (b c : Bool) → c ≡ true → (b && not c) ≡ false
 not_below true true h = refl
 not_below false true h = refl
 not_below b false h = absurd (true≢false (sym h))
@@ -68,11 +68,7 @@ module _ {K V : Type 0} {cmp : K → K → Ordering} (o : IsTotalOrder cmp) (eq 
     spaced = subst (IsSpaced S) whole c
 
     below : Every (λ (u : Range K × V). cmp u.0.start b.0.start ≡ Less) us
-    below = both us (all_full o eq e us (IsSpaced-left S (place_total o) us (b ∷ past cmp y ps) spaced)) (before_first S (place_total o) e us (past cmp y ps) b spaced)
-      where
-        both : (ws : List (Range K × V)) → Every (λ (p : Range K × V). cmp p.0.start p.0.end ≡ Less) ws → Every (λ (u : Range K × V). IsApart S u b) ws → Every (λ (u : Range K × V). cmp u.0.start b.0.start ≡ Less) ws
-        both [] f g = tt
-        both (w ∷ ws) f g = (lt_le_trans o w.0.start w.0.end b.0.start f.0 g.0.before, both ws f.1 g.1)
+    below = starts_below o eq e us b (past cmp y ps) spaced
 
     -- the two parts at a key behind the start of the last and before all that start past y
     pub parts_behind : (x : K) → cmp b.0.start x ≡ Less → Every (λ (p : Range K × V). is_gt (cmp x p.0.start) ≡ false) (past cmp y ps) → (before cmp x ps ≡ us ++ b ∷ []) × (from cmp x ps ≡ past cmp y ps)

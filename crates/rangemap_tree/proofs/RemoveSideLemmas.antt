@@ -1,7 +1,9 @@
 -- What a remove leaves on either side of a range, by the starts of the pairs.
-use Rattle.std.proofs.Common.{◌≡◌, List, [], ◌∷◌, ◌++◌, Bool, true, false, cond, ◌&&◌, Option, Some, None, filter, refl, sym, ap, ◌∙◌, subst, Ordering, Less, Equal, Greater, is_lt, is_gt}
+use Rattle.std.proofs.Common.{◌≡◌, List, [], ◌∷◌, ◌++◌, Bool, true, false, cond, ◌&&◌, Option, Some, None, filter, refl, sym, ap, ◌∙◌, subst, not, Ordering, Less, Equal, Greater, is_lt, is_le, is_gt}
 use Rattle.std.specs.Cmp.{IsTotalOrder, IsEquivalence}
 use Rattle.std.specs.Ordering.{ordering_reverse}
+use Rattle.std.specs.BTreeMap.Range.{range_contains}
+use Rattle.std.specs.declared.ops.Bound.TheVariants.{Excluded, Included}
 use Rattle.std.specs.declared.ops.Range.{Range}
 use Rattle.rangemap_core.specs.Ranges.{half_open, overlapped}
 use Rattle.rangemap_core.specs.engine.Places.{place_cmp}
@@ -14,7 +16,9 @@ use Rattle.rangemap_core.proofs.PlaceOrderLemmas.{lt_le, le_trans, lt_le_trans}
 use Rattle.rangemap_tree.specs.Starts.{before, from, past, recut}
 use Rattle.rangemap_tree.specs.Sides.{shape, IsLeftCut, IsRightCut}
 use Rattle.rangemap_tree.proofs.StartLemmas.{recut_last}
-use Rattle.rangemap_tree.proofs.SplitLemmas.{grouped, none_up_to, split}
+use Rattle.rangemap_tree.proofs.FilterLemmas.{filter_no, filter_same}
+use Rattle.rangemap_tree.proofs.NearLemmas.{not_below}
+use Rattle.rangemap_tree.proofs.SplitLemmas.{below_test, grouped, le_of, none_up_to, parts_at, split, starts_below}
 
 pub not_none : {X : Type 0} (f : X → Bool) (us : List X) (b : X) (ws : List X) → f b ≡ true → filter f (us ++ b ∷ ws) ≡ [] → true ≡ false
 not_none f [] b ws t h = absurd (let q : b ∷ filter f ws ≡ [] = sym (ap (λ c. cond c (b ∷ filter f ws) (filter f ws)) t) ∙ h in cc)
@@ -115,6 +119,36 @@ module _ {K V : Type 0} {cmp : K → K → Ordering} (o : IsTotalOrder cmp) (eq 
 
     pub untouched_none : before cmp r.end ps ≡ [] → Every (λ (p : Range K × V). is_gt (cmp p.0.end r.start) ≡ false) (before cmp r.end ps)
     untouched_none h = subst (Every (λ (p : Range K × V). is_gt (cmp p.0.end r.start) ≡ false)) (sym h) tt
+
+    -- where the last that starts before the end starts before the start
+    module _ (us : List (Range K × V)) (b : Range K × V) (is : before cmp r.end ps ≡ us ++ b ∷ []) (early : cmp b.0.start r.start ≡ Less) where
+      parts : ps ≡ (us ++ b ∷ []) ++ from cmp r.end ps
+      parts = sym high.0 ∙ ap (λ xs. xs ++ from cmp r.end ps) is
+
+      all_early : Every (λ (p : Range K × V). cmp p.0.start r.start ≡ Less) (us ++ b ∷ [])
+      all_early =
+          let sp : IsSpaced S (us ++ b ∷ from cmp r.end ps) = subst (IsSpaced S) (parts ∙ grouped us b (from cmp r.end ps)) c in
+          Every-append _ us (b ∷ []) (Every-map _ _ us (λ u k. o.trans u.0.start b.0.start r.start k early) (starts_below o eq e us b (from cmp r.end ps) sp)) (early, tt)
+
+      all_late : Every (λ (p : Range K × V). is_gt (cmp r.start p.0.start) ≡ false) (from cmp r.end ps)
+      all_late = Every-map _ _ (from cmp r.end ps) (λ p k. lt_le o r.start p.0.start (lt_le_trans o r.start r.end p.0.start full k)) high_above
+
+      -- it is the last before the start
+      pub last_before_start : before cmp r.start ps ≡ us ++ b ∷ []
+      last_before_start = ap (before cmp r.start) parts ∙ (parts_at o r.start (us ++ b ∷ []) (from cmp r.end ps) all_early all_late).0
+
+      abbrev within : Range K × V → Bool
+      within p = range_contains cmp (Included r.start) (Excluded r.end) p.0.start
+
+      -- and none starts within the range
+      pub none_starts_within : filter within ps ≡ []
+      none_starts_within =
+          ap (filter within) parts
+          ∙ filter_same within (λ _. false) ((us ++ b ∷ []) ++ from cmp r.end ps)
+          (Every-append _ (us ++ b ∷ []) (from cmp r.end ps)
+          (Every-map _ _ (us ++ b ∷ []) (λ p k. ap (λ t. t && not (is_le (cmp r.end p.0.start))) (below_test o r.start p k)) all_early)
+          (Every-map _ _ (from cmp r.end ps) (λ p k. not_below (is_le (cmp r.start p.0.start)) (is_le (cmp r.end p.0.start)) (le_of (cmp r.end p.0.start) k)) high_above))
+          ∙ filter_no ((us ++ b ∷ []) ++ from cmp r.end ps)
 
     -- the last that starts before the end overlaps where it ends after the start
     pub last_overlaps : (us : List (Range K × V)) (b : Range K × V) → before cmp r.end ps ≡ us ++ b ∷ [] → cmp r.start b.0.end ≡ Less → overlapped (half_open cmp) ps r ≡ [] → true ≡ false

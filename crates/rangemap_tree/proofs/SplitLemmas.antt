@@ -7,7 +7,7 @@ use Rattle.rangemap_core.specs.engine.Places.{place_cmp}
 use Rattle.rangemap_core.specs.engine.PlacedKinds.{place_total}
 use Rattle.rangemap_core.specs.engine.Shape.{Shape, IsSpaced}
 use Rattle.rangemap_core.specs.engine.Stretch.{Every}
-use Rattle.rangemap_core.proofs.ListLemmas.{Every-map, apart_from_all}
+use Rattle.rangemap_core.proofs.ListLemmas.{Every-map, Every-right, apart_from_all}
 use Rattle.rangemap_core.proofs.PlaceOrderLemmas.{lt_le, lt_le_trans, le_lt_trans, lt_or_le}
 use Rattle.rangemap_tree.specs.Starts.{before, from, past, up_to}
 use Rattle.rangemap_tree.specs.Sides.{shape}
@@ -49,7 +49,7 @@ pub grouped : {X : Type 0} (us : List X) (a : X) (ws : List X) → (us ++ a ∷ 
 grouped us a ws = simp append_assoc
 
 module _ {K V : Type 0} {cmp : K → K → Ordering} (o : IsTotalOrder cmp) where
-  below_test : (y : K) (p : Range K × V) → cmp p.0.start y ≡ Less → is_le (cmp y p.0.start) ≡ false
+  pub below_test : (y : K) (p : Range K × V) → cmp p.0.start y ≡ Less → is_le (cmp y p.0.start) ≡ false
   below_test y p h = ap is_le (o.antisymm y p.0.start) ∙ gt_not_le (cmp p.0.start y) h
 
   pub all_from : (y : K) (post : List (Range K × V)) → Every (λ (p : Range K × V). is_gt (cmp y p.0.start) ≡ false) post → (before cmp y post ≡ []) × (from cmp y post ≡ post)
@@ -76,6 +76,11 @@ module _ {K V : Type 0} {cmp : K → K → Ordering} (o : IsTotalOrder cmp) (eq 
 
   pub rises : (a : Range K × V) (ps : List (Range K × V)) → IsSpaced S (a ∷ ps) → Every (λ (b : Range K × V). cmp a.0.start b.0.start ≡ Less) ps
   rises a ps c = Every-map _ _ ps (λ b h. lt_le_trans o a.0.start a.0.end b.0.start c.0 h.before) (apart_from_all S places a ps c)
+
+  -- of a spaced list, those before a pair start before it
+  pub starts_below : (us : List (Range K × V)) (b : Range K × V) (ws : List (Range K × V)) → IsSpaced S (us ++ b ∷ ws) → Every (λ (u : Range K × V). cmp u.0.start b.0.start ≡ Less) us
+  starts_below [] b ws c = tt
+  starts_below (u ∷ us) b ws c = ((Every-right _ us (b ∷ ws) (rises u (us ++ b ∷ ws) c)).0, starts_below us b ws c.2)
 
   pub all_full : (ps : List (Range K × V)) → IsSpaced S ps → Every (λ (p : Range K × V). cmp p.0.start p.0.end ≡ Less) ps
   all_full [] c = tt

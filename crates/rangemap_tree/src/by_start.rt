@@ -84,7 +84,7 @@ impl<K: Ord, V, A: Allocator> ByStart<K, V, A> {
         }
     }
 
-    /// Returns the pairs that start between two bounds, in order.
+    /// Returns the pairs that start within `from` and before `to`, in order.
     pub fn between(&self, from: Bound<&K>, to: &K) -> Pairs<'_, K, V>
         requires { IsForward (IsLeBy K.cmp) (IsLtBy K.cmp) (bound_map (λ x. x.now) from) (Excluded to.now) }
         ensures { result ≡ filter (λ p. range_contains K.cmp (bound_map (λ x. x.now) from.entry) (Excluded to.now) p.0.start) self.now }
@@ -132,8 +132,8 @@ impl<K: Ord + Clone, V: Clone, A: Allocator + Clone> ByStart<K, V, A> {
 }
 
 impl<K: Ord + Clone, V, A: Allocator + Clone> ByStart<K, V, A> {
-    /// Returns clones of the starts of the pairs that start between two bounds, in order, in memory
-    /// of a clone of the allocator.
+    /// Returns clones of the starts of the pairs that start within `from` and before `to`, in order, in
+    /// memory of a clone of the allocator.
     ///
     /// # Errors
     ///

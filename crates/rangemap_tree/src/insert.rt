@@ -7,7 +7,7 @@ ghost use Rattle.rangemap_tree.specs.Sides.{IsLeft, IsRight};
 ghost use Rattle.rangemap_tree.specs.Starts.{before, up_to};
 
 use crate::by_start::ByStart;
-use crate::pieces::piece_behind;
+use crate::pieces::{Keyed, Remains, piece_behind};
 use std::alloc::{AllocError, Allocator};
 use std::ops::{Bound, Range};
 
@@ -18,12 +18,11 @@ struct Left<K> {
     cut: Option<Range<K>>,
 }
 
-// Where the new range ends if one after it is taken into it, or what is left of one that is cut,
-// with a clone of its start.
+// Where the new range ends if one after it is taken into it, or what is left of one that is cut.
 #[derive(Drop)]
 struct Right<K, V> {
     end: Option<K>,
-    piece: Option<(K, (Range<K>, V))>,
+    piece: Option<Keyed<K, V>>,
 }
 
 /// Gives every key of `range` the `value` in a canonical list, as `Store::insert` does.
@@ -56,22 +55,25 @@ pub fn insert<K: Ord + Clone, V: Eq + Clone, A: Allocator + Clone>(
     let Range { start, end } = range;
     let middle = left.start.unwrap_or(start)..right.end.unwrap_or(end);
     let key = middle.start.clone()?;
-    // Clones of the starts of the pairs that start within `middle`, the new range with what is taken
-    // into it. None behind `near` starts before `middle` ends. So where `near` starts no later than
-    // `middle`, none starts within, and the tree is not searched.
-    let starts = match near {
-        Some((last, _)) if last.start.cmp(&middle.start).is_gt() => {
-            pairs.starts_between(Bound::Excluded(&middle.start), &middle.end)?
-        }
-        _ => Vec::new(pairs.alloc.clone()?),
+    let remains = Remains {
+        cut: left.cut,
+        piece: right.piece,
     };
-    pairs.replace(key, middle, value, left.cut, right.piece, starts.as_slice())
+    match near {
+        Some((last, _)) if last.start.cmp(&middle.start).is_gt() => {
+            let starts = pairs.starts_between(Bound::Excluded(&middle.start), &middle.end)?;
+            pairs.replace(key, middle, value, remains, starts.as_slice())
+        }
+        // None behind `near` starts before `middle` ends, the new range with what is taken into it. So where
+        // `near` starts no later than `middle`, no other pair starts within, and the tree is not searched.
+        _ => pairs.replace(key, middle, value, remains, &[]),
+    }
 }
 
 // Returns what becomes of the pair that the new range meets at its start. Of the pairs that start
 // before it only the last can reach it. `near` is the last that starts no later than the new range
 // ends.
-fn left_side<K: Ord + Clone, V: Eq, A: Allocator + Clone>(
+fn left_side<K: Ord + Clone, V: Eq, A: Allocator>(
     pairs: &ByStart<K, V, A>,
     near: Option<(&Range<K>, &V)>,
     range: &Range<K>,
@@ -83,31 +85,23 @@ fn left_side<K: Ord + Clone, V: Eq, A: Allocator + Clone>(
     requires faithful_keys { KeysCloneFaithfully K.is_clone K.cmp }
     ensures { IfOk result (λ left. IsLeft K.cmp V.eq pairs.now range.now value.now left.start left.cut) }
 {
+    let mut left = Left {
+        start: None,
+        cut: None,
+    };
     let Some((first, first_value)) = last_before(pairs, near, range) else {
-        return Ok(Left {
-            start: None,
-            cut: None,
-        });
+        return Ok(left);
     };
     let reach = first.end.cmp(&range.start);
     if reach.is_lt() {
-        return Ok(Left {
-            start: None,
-            cut: None,
-        });
+        return Ok(left);
     }
     if *first_value == *value {
-        return Ok(Left {
-            start: Some(first.start.clone()?),
-            cut: None,
-        });
+        left.start = Some(first.start.clone()?);
+    } else if reach.is_gt() {
+        left.cut = Some(first.start.clone()?..range.start.clone()?);
     }
-    let cut = if reach.is_gt() {
-        Some(first.start.clone()?..range.start.clone()?)
-    } else {
-        None
-    };
-    Ok(Left { start: None, cut })
+    Ok(left)
 }
 
 // The last pair that starts before the range, where `near` is the last that starts no later than
@@ -133,7 +127,7 @@ fn last_before<'a, K: Ord, V: Eq, A: Allocator>(
 // Returns what becomes of the pair that the new range meets at its end. Of the pairs that start no
 // later than the new range ends only the last, `near`, can reach past it. The contract alone reads
 // `pairs`.
-fn right_side<K: Ord + Clone, V: Eq + Clone, A: Allocator + Clone>(
+fn right_side<K: Ord + Clone, V: Eq + Clone, A: Allocator>(
     pairs: &ByStart<K, V, A>,
     near: Option<(&Range<K>, &V)>,
     range: &Range<K>,
@@ -146,28 +140,20 @@ fn right_side<K: Ord + Clone, V: Eq + Clone, A: Allocator + Clone>(
     requires faithful_values { ValuesCloneFaithfully V.is_clone V.eq }
     ensures { IfOk result (λ right. IsRight K.cmp V.eq pairs.now range.now value.now right.end right.piece) }
 {
+    let mut right = Right {
+        end: None,
+        piece: None,
+    };
     let Some((last, last_value)) = near else {
-        return Ok(Right {
-            end: None,
-            piece: None,
-        });
+        return Ok(right);
     };
     if last.end.cmp(&range.end).is_le() {
-        return Ok(Right {
-            end: None,
-            piece: None,
-        });
+        return Ok(right);
     }
     if *last_value == *value {
-        return Ok(Right {
-            end: Some(last.end.clone()?),
-            piece: None,
-        });
+        right.end = Some(last.end.clone()?);
+    } else if last.start.cmp(&range.end).is_lt() {
+        right.piece = Some(piece_behind(range, last, last_value)?);
     }
-    let piece = if last.start.cmp(&range.end).is_lt() {
-        Some(piece_behind(range, last, last_value)?)
-    } else {
-        None
-    };
-    Ok(Right { end: None, piece })
+    Ok(right)
 }

@@ -1,8 +1,8 @@
 //! The pairs of a map or a set in a B-tree.
 //!
 //! `ByStart` keeps half-open ranges by their starts, in std's tree. The engine goes over it: what a
-//! query meets, and the changes, which make every clone first. `Tree` is the store that `Map`
-//! and `Set` stand on.
+//! query meets, and the changes, which make every clone first. `Tree` makes a store of it, for `Map`
+//! and `Set`.
 #![tactic(auto)]
 
 mod by_start;

@@ -31,9 +31,9 @@ use std::ops::{Bound, Range};
 /// | `clear` | *O*(*n*), as each drop | none |
 /// | `copy` | *O*(*n*) | the tree, clones |
 ///
-/// An `insert` makes one clone of a value at most, for a part that it cuts off. It clones the
-/// allocator for the list of keys that go, even where there are none, and so does a `remove` that
-/// meets a stored range. For each stored range a `copy` clones three keys and a value.
+/// An `insert` or a `remove` makes one clone of a value at most, for a part that it cuts off, and clones
+/// the allocator for the list of keys, and an `insert` for the first pair after `empty` or `clear`. For
+/// each stored range a `copy` clones three keys and a value.
 #[derive(Drop)]
 pub struct Tree<K: Ord + Clone, V: Eq + Clone, A: Allocator + Clone> {
     pairs: ByStart<K, V, A>,
@@ -135,7 +135,7 @@ impl<K: Ord + Clone, V: Eq + Clone, A: Allocator + Clone> StoreMut for Tree<K, V
     }
 
     fn remove(&mut self, range: Range<K>) -> Result<(), AllocError> {
-        remove(&mut self.pairs, range)
+        remove(&mut self.pairs, &range)
     }
 
     fn clear(&mut self) {

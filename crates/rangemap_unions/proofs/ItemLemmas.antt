@@ -1,7 +1,7 @@
 -- What the first and the last range of an item say of it.
-use Rattle.std.proofs.Common.{◌≡◌, Ordering, Bool, true, false, List, ◌∷◌, Option, Some, None, refl, sym, ap, subst, ◌∙◌, true≢false, Less, Equal, is_lt}
+use Rattle.std.proofs.Common.{◌≡◌, Ordering, Bool, true, false, List, ◌∷◌, Some, None, refl, sym, ap, subst, ◌∙◌, true≢false, Less, Equal, is_lt}
 use Rattle.std.specs.Cmp as order
-use Rattle.rangemap_core.specs.MadeRanges.{TakesRange}
+use Rattle.rangemap_core.specs.MadeRanges.{IsSame}
 use Rattle.rangemap_core.specs.Ranges.{RangeKind}
 use Rattle.rangemap_core.specs.Sets.{AreNonEmptyRanges}
 use Rattle.rangemap_core.specs.engine.Intervals.{IsBetween, IsInterval, goes_past}
@@ -25,21 +25,21 @@ module _ {K X P : Type 0} {k : RangeKind K X} {has_end : Bool} {l : RangePlaces 
       (λ h. le_not_lt p.total (l.start_place s) (l.end_place r) (p.before r s (i.before_from r s h)))
       (λ h. i.before r s (p.before_from r s (not_lt p.total (l.start_place s) (l.end_place r) h)))
 
-  -- clones of the start of one range and of the end of another make the item from the one to the other
-  pub taken_between : (a b : X) (start end : K) → k.cmp (k.start a) start ≡ Equal → k.cmp (k.end b) end ≡ Equal → l.order (l.start_place a) (l.end_place b) ≡ Less
-      → (made : Option X) → IsBetween k has_end start end made → (rest : List X) → TakesRange k (l.between a b ∷ rest) made rest
-  taken_between a b start end starts ends up None h rest =
-      let keys : k.cmp (k.start a) (k.end b) ≡ k.cmp start end = order.alike_right i.total (k.end b) end (k.start a) ends ∙ i.total.congr (k.start a) start end starts in
-      absurd (true≢false (sym (ap is_lt up) ∙ sym (reaches_places b a) ∙ ap (goes_past has_end) keys ∙ h))
-  taken_between a b start end starts ends up (Some range) h rest = (
-    l.between a b,
-    refl,
-    record {
+  -- clones of the start of one range and of the end of another
+  module _ (a b : X) (start end : K) (starts : k.cmp (k.start a) start ≡ Equal) (ends : k.cmp (k.end b) end ≡ Equal) where
+    -- make the item from the one to the other
+    pub made_between : (range : X) → IsBetween k has_end start end (Some range) → IsSame k (l.between a b) range
+    made_between range h = record {
       storable = h.0;
       starts = ap (λ x. k.cmp x (k.start range)) (p.between_start a b) ∙ ap (k.cmp (k.start a)) h.1 ∙ starts;
       ends = ap (λ x. k.cmp x (k.end range)) (p.between_end a b) ∙ ap (k.cmp (k.end b)) h.2 ∙ ends;
-    },
-  )
+    }
+
+    -- which there is where the first range starts before the last one ends
+    pub some_between : l.order (l.start_place a) (l.end_place b) ≡ Less → IsBetween k has_end start end None → ⊥
+    some_between up h =
+        let keys : k.cmp (k.start a) (k.end b) ≡ k.cmp start end = order.alike_right i.total (k.end b) end (k.start a) ends ∙ i.total.congr (k.start a) start end starts in
+        true≢false (sym (ap is_lt up) ∙ sym (reaches_places b a) ∙ ap (goes_past has_end) keys ∙ h)
 
 -- ends are compared as keys are
 pub ends_compared : {K X P : Type 0} {k : RangeKind K X} {l : RangePlaces P X} {at cut : K → P} (p : HasPlaces k l at cut) {cmp : K → K → Ordering} (keys : (x y : K) → k.cmp x y ≡ cmp x y)

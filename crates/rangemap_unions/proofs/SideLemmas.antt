@@ -1,6 +1,6 @@
 -- What two ranges have in common, when it is made.
-use Rattle.std.proofs.Common.{◌≡◌, Bool, true, false, true≢false, ◌&&◌, cond, List, ◌∷◌, Option, Some, None, MatchOption, Result, Ok, Err, IfOk, OnErr, ap, refl, sym, ◌∙◌}
-use Rattle.rangemap_core.specs.MadeRanges.{TakesRange}
+use Rattle.std.proofs.Common.{◌≡◌, Bool, true, false, true≢false, ◌&&◌, cond, List, ◌∷◌, Some, Result, Ok, Err, OnErr, ap, refl, sym, ◌∙◌}
+use Rattle.rangemap_core.specs.MadeRanges.{IsSame, TakesRange}
 use Rattle.rangemap_core.specs.Ranges.{RangeKind}
 use Rattle.rangemap_unions.specs.Items.{earlier_end, later_start, reaches, with_common}
 use Rattle.rangemap_core.specs.operations.Places.{RangePlaces}
@@ -13,12 +13,9 @@ module _ {X P : Type 0} (l : RangePlaces P X) (a b first last : X) where
       by true is = absurd (true≢false (sym (reached is) ∙ apart))
       by false is = ap (λ t. cond t (l.between (later_start l a b) (earlier_end l a b) ∷ rest) rest) is
 
-module _ {K X P E : Type 0} (k : RangeKind K X) (l : RangePlaces P X) (a b first last : X) (starts : first ≡ later_start l a b) (ends : last ≡ earlier_end l a b) (both : (reaches l a b && reaches l b a) ≡ true) where
-  pub common_made : (rest : List X) (made : Result (Option X) E) → IfOk made (λ item. TakesRange k (l.between first last ∷ rest) item rest)
-      → IfOk made (λ part. MatchOption part (with_common l a b rest ≡ rest) (λ range. TakesRange k (with_common l a b rest) (Some range) rest))
-  common_made rest (Err e) h = h
-  common_made rest (Ok None) h = absurd (let e = h.0 in cc)
-  common_made rest (Ok (Some range)) h = (h.0, all ∙ h.1, h.2)
+module _ {K X P : Type 0} (k : RangeKind K X) (l : RangePlaces P X) (a b first last : X) (starts : first ≡ later_start l a b) (ends : last ≡ earlier_end l a b) (both : (reaches l a b && reaches l b a) ≡ true) where
+  pub common_made : (range : X) → IsSame k (l.between first last) range → (rest : List X) → TakesRange k (with_common l a b rest) (Some range) rest
+  common_made range same rest = (l.between first last, all, same)
     where
       all : with_common l a b rest ≡ l.between first last ∷ rest
       all = ap (λ t. cond t (l.between (later_start l a b) (earlier_end l a b) ∷ rest) rest) both

@@ -20,8 +20,8 @@ use std::marker::Model;
 /// The intersection of two lists of ranges: the parts that both have, in order.
 ///
 /// For closed ranges the contract of `Intersection::new` counts every value of the key type as a key, since
-/// it knows no steps. `laws::sets::closed_operations` tells the same items by the steps' keys, and so
-/// does a set's own `intersection`.
+/// it knows no steps. `laws::sets::closed_operations` of `rangemap` tells the same items by the steps' keys,
+/// and so does a set's own `intersection`.
 #[derive(Drop)]
 pub struct Intersection<C: Cursor<Range: KeyRange>> {
     sides: Sides<C>,
@@ -121,8 +121,8 @@ impl<C: Peek> Iterator for Intersection<C> {
     }
 }
 
-// What two ranges have in common, if anything: from the later start up to the earlier end, where it
-// comes before that.
+// What two ranges have in common, if anything: from the later start up to the earlier end, where the
+// start lies before that end, or, of closed ranges, there.
 fn common_part<R: KeyRange>(
     left: &R,
     right: &R,
@@ -144,7 +144,7 @@ fn common_part<R: KeyRange>(
     };
     let last = if left_ends_first { left } else { right };
     if last.reaches(first.start()) {
-        between(first, last)
+        Ok(Some(between(first, last)?))
     } else {
         Ok(None)
     }

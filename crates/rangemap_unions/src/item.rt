@@ -1,14 +1,13 @@
 //! The making of an item of a union or an intersection.
-ghost use Rattle.std.specs.Prelude.{◌≡◌, ◌∷◌, List, IfOk, IsOk};
+ghost use Rattle.std.specs.Prelude.{◌≡◌, IfOk, IsOk};
 ghost use Rattle.std.specs.declared.cmp.Ordering.TheVariants.{Less};
 ghost use Rattle.rangemap_core.specs.Clones.{KeysCloneFaithfully, KeysCloneInfallibly};
-ghost use Rattle.rangemap_core.specs.MadeRanges.{TakesRange};
+ghost use Rattle.rangemap_core.specs.MadeRanges.{IsSame};
 
 use rangemap_core::key_range::KeyRange;
 use std::alloc::AllocError;
 
-/// Returns the item from the start of the first range up to the end of the last, made of clones: there
-/// is one.
+/// Returns the item from the start of the first range up to the end of the last, made of clones.
 ///
 /// # Requires
 ///
@@ -18,13 +17,17 @@ use std::alloc::AllocError;
 /// # Errors
 ///
 /// A clone was refused, which those of numbers, characters and references never are.
-pub fn between<R: KeyRange>(first: &R, last: &R) -> Result<Option<R>, AllocError>
+pub fn between<R: KeyRange>(first: &R, last: &R) -> Result<R, AllocError>
     requires in_order { R.places.order (R.places.start_place first.now) (R.places.end_place last.now) ≡ Less }
     requires faithful_keys { KeysCloneFaithfully R.Key.is_clone R.Key.cmp }
-    ensures made { (rest : List R) → IfOk result (λ item. TakesRange R.read (R.places.between first.now last.now ∷ rest) item rest) }
+    ensures made { IfOk result (IsSame R.read (R.places.between first.now last.now)) }
     ensures succeeds { KeysCloneInfallibly R.Key.is_infallible → IsOk result }
 {
     let start = first.start().clone()?;
     let end = last.end().clone()?;
-    Ok(R::between(start, end))
+    match R::between(start, end) {
+        Some(item) => Ok(item),
+        // Clones compare as the ends do, which are in order.
+        None => unreachable!(),
+    }
 }

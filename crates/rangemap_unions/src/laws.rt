@@ -6,11 +6,12 @@ ghost use Rattle.rangemap_core.specs.Sets.{AreCommon, AreHulls, IsCanonicalSet};
 ghost use Rattle.rangemap_core.specs.operations.Places.{closed_places};
 ghost use Rattle.rangemap_unions.specs.Items.{intersection_items, union_items};
 
-use rangemap_core::std_ext::StepFns;
+use rangemap_steps::StepFns;
 
 /// Of closed ranges, whichever steps say what a key is: the items of a union of two canonical lists
 /// are the hulls of both, and those of an intersection are the canonical list of the common points.
-/// `Union::new` and `Intersection::new` say which items these are.
+/// `Union::new` and `Intersection::new` say which items these are. Users name it from `laws::sets` of
+/// `rangemap`.
 pub fn closed_operations<T: Ord, StepFnsT: StepFns<T>>()
     ensures hulls { (left right : List (RangeInclusiveOf T))
         → IsCanonicalSet (closed StepFnsT.is_key T.cmp) left

@@ -1,5 +1,5 @@
 //! The ranges of a set, one after another: what goes over pairs gives them, without the values.
-ghost use Rattle.std.specs.Prelude.{◌≡◌, length, map, IfSome, None as NoneWord, Some as SomeWord};
+ghost use Rattle.std.specs.Prelude.{◌≡◌, length, IfSome, None as NoneWord, Some as SomeWord};
 ghost use Rattle.std.specs.Iterator.{UpTo, at_most};
 ghost use Rattle.std.specs.Iterator.SizeHint.{IsWithinCount};
 ghost use Rattle.std.specs.Map.Iter.{TakesFirst, TakesLast};
@@ -12,21 +12,21 @@ use std::iter::{DoubleEndedIterator, ExactSizeIterator, Iterator};
 use std::marker::Model;
 
 /// All ranges of a set that are still to come, in order and from both ends: references to them, or the
-/// ranges themselves. What is left of a set is a canonical list too.
+/// ranges themselves. They are a canonical list, whatever was taken before.
 #[derive(Drop)]
 pub struct Ranges<C: Cursor<Range: KeyRange>> {
     pairs: PairIter<C>,
 }
 
 impl<C: Cursor<Range: KeyRange>> Model for Ranges<C> {
-    ghost use Rattle.std.specs.Prelude.{List, map};
-    ghost use Rattle.rangemap_core.specs.Sets.{IsCanonicalSet};
+    ghost use Rattle.std.specs.Prelude.{List};
+    ghost use Rattle.rangemap_core.specs.Sets.{IsCanonicalSet, ranges};
 
     ghost Value = { List C.Range };
 
-    ghost view = { λ s. map (λ p. p.0) s.pairs };
+    ghost view = { λ s. ranges s.pairs };
 
-    ghost invariant = { λ s. IsCanonicalSet C.Range.read (map (λ p. p.0) s.pairs) };
+    ghost invariant = { λ s. IsCanonicalSet C.Range.read (ranges s.pairs) };
 }
 
 impl<C: Cursor<Range: KeyRange>> Ranges<C> {
@@ -38,7 +38,7 @@ impl<C: Cursor<Range: KeyRange>> Ranges<C> {
     pub fn over(cursor: C, len: usize) -> Self
         requires canonical { IsCanonicalSet C.Range.read (ranges (C.left cursor)) }
         requires len { len ≡ length (C.left cursor) }
-        ensures { result ≡ map (λ p. p.0) (C.left cursor) }
+        ensures { result ≡ ranges (C.left cursor) }
     {
         let pairs = PairIter::over(cursor, len);
         Ranges { pairs }
@@ -46,7 +46,7 @@ impl<C: Cursor<Range: KeyRange>> Ranges<C> {
 
     /// Returns the cursor.
     pub fn into_cursor(self) -> C
-        ensures rest { map (λ p. p.0) (C.left result) ≡ self }
+        ensures rest { ranges (C.left result) ≡ self }
         ensures canonical { IsCanonicalSet C.Range.read self }
     {
         self.pairs.into_cursor()
@@ -96,17 +96,18 @@ pub struct OverlappingRanges<C: Cursor> {
 }
 
 impl<C: Cursor> Model for OverlappingRanges<C> {
-    ghost use Rattle.std.specs.Prelude.{List, map};
+    ghost use Rattle.std.specs.Prelude.{List};
+    ghost use Rattle.rangemap_core.specs.Sets.{ranges};
 
     ghost Value = { List C.Range };
 
-    ghost view = { λ s. map (λ p. p.0) (C.left s.cursor) };
+    ghost view = { λ s. ranges (C.left s.cursor) };
 }
 
 impl<C: Cursor> OverlappingRanges<C> {
     /// Returns the ranges of the pairs of a cursor.
     pub fn over(cursor: C) -> Self
-        ensures { result ≡ map (λ p. p.0) (C.left cursor) }
+        ensures { result ≡ ranges (C.left cursor) }
     {
         OverlappingRanges { cursor }
     }

@@ -21,8 +21,8 @@ use std::marker::Model;
 /// that only touch stay apart.
 ///
 /// For closed ranges the contract of `Union::new` counts every value of the key type as a key, since
-/// it knows no steps. `laws::sets::closed_operations` tells the same items by the steps' keys, and so
-/// does a set's own `union`.
+/// it knows no steps. `laws::sets::closed_operations` of `rangemap` tells the same items by the steps' keys,
+/// and so does a set's own `union`.
 #[derive(Drop)]
 pub struct Union<C: Cursor<Range: KeyRange>> {
     sides: Sides<C>,
@@ -221,7 +221,8 @@ struct Sides<C: Cursor<Range: KeyRange>> {
 }
 
 impl<C: Peek> Sides<C> {
-    // Takes what is begun, or begins with the next range.
+    // Takes what is begun, or begins with the next range. It answers the pair that an item starts with, and
+    // the one that it ends with so far, if that is another.
     fn begin(&mut self) -> Option<((C::Given, C::GivenValue), Option<(C::Given, C::GivenValue)>)>
         ensures none_begun { self.new.first ≡ NoneWord }
         ensures begun { MatchOption result
@@ -253,7 +254,7 @@ impl<C: Peek> Sides<C> {
         };
         join(&first, &mut last, &mut self.left, &mut self.right);
         match between(C::parts(&first).0, last_of::<C>(&first, &last)) {
-            Ok(item) => Ok(item),
+            Ok(item) => Ok(Some(item)),
             Err(error) => {
                 // What was begun is kept, so that it may be asked for again.
                 self.first = Some(first);

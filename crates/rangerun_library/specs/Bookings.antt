@@ -3,8 +3,8 @@ use Rattle.std.specs.Prelude.{◌≡◌, codes, false, List, [], ◌∷◌, ℕ,
 use Rattle.std.specs.List.{AllByRecursion}
 use Rattle.std.specs.Range.{range_inclusive_end, range_inclusive_exhausted, range_inclusive_start}
 use Rattle.calendar.specs.declared.history.Call.TheVariants.{Book, Cancel}
-use Rattle.rangerun_library.specs.declared.booking.Booking.{Booking}
-use Rattle.rangerun_library.specs.declared.booking.Booking.TheVariants.{Change, Free, Iter}
+use Rattle.rangerun_library.specs.declared.calendar_command.CalendarCommand.{CalendarCommand}
+use Rattle.rangerun_library.specs.declared.calendar_command.CalendarCommand.TheVariants.{Change, Free, Iter}
 use Rattle.rangerun_library.specs.declared.fault.Cause.{Cause}
 use Rattle.rangerun_library.specs.declared.fault.Cause.TheVariants.{Command, Number}
 use Rattle.rangerun_library.specs.Words.{IsNumber, IsOneOf, number_of}
@@ -21,7 +21,7 @@ abbrev pub HasNumbers : List (List ℕ) → Type 0
 HasNumbers words = AllByRecursion IsNumber (drop 1 words)
 
 -- the words are those of the command
-abbrev pub IsReadAs : List (List ℕ) → Booking → Type 0
+abbrev pub IsReadAs : List (List ℕ) → CalendarCommand → Type 0
 IsReadAs words Iter = words ≡ codes "iter" ∷ []
 IsReadAs words (Free days) =
     (first last : List ℕ) × (words ≡ codes "free" ∷ first ∷ last ∷ []) × (range_inclusive_start days ≡ number_of first)
@@ -34,8 +34,8 @@ IsReadAs words (Change (Book from to who)) =
 
 -- The words are read as the command that they are, and else the fault of the least number is told. In whichever case is said, the
 -- others can't be: so each is answered exactly where it is said.
-abbrev pub IsReading : List (List ℕ) → Result Booking Cause → Type 0
-IsReading words (Ok booking) = IsReadAs words booking × HasNumbers words
+abbrev pub IsReading : List (List ℕ) → Result CalendarCommand Cause → Type 0
+IsReading words (Ok command) = IsReadAs words command × HasNumbers words
 IsReading words (Err Command) = ¬ HasForm words
 IsReading words (Err Number) = HasForm words × (¬ HasNumbers words)
 IsReading words (Err _) = ⊥

@@ -1,5 +1,5 @@
 -- What a line of the program is read as, by its words.
-use Rattle.std.specs.Prelude.{◌≡◌, ◌↔◌, codes, Bool, true, false, ℕ, List, [], ◌∷◌, take, drop, Some, None, Result, Ok, Err}
+use Rattle.std.specs.Prelude.{◌≡◌, ◌↔◌, codes, Bool, true, false, ℕ, List, [], ◌∷◌, take, drop, Result, Ok, Err}
 use Rattle.std.specs.List.{AllByRecursion}
 use Rattle.std.specs.declared.fmt.Debug.{Ghosts as DebugGhosts}
 use Rattle.rangemap_core.specs.declared.key_range.KeyRange.{Ghosts as KeyRangeGhosts}
@@ -67,10 +67,10 @@ module _ {R : Type 0} {ranges : KeyRangeGhosts R ℕ} {prints : DebugGhosts R} w
   -- the words are those of the command
   abbrev pub IsReadAs : Bool → List (List ℕ) → Command R ranges prints → Type 0
   IsReadAs has_value words Clear = words ≡ codes "clear" ∷ []
-  IsReadAs false words (Insert span None) = (start end : List ℕ) × (words ≡ codes "insert" ∷ start ∷ end ∷ []) × AreEndsOf ranges.has_end start end span.start span.end
-  IsReadAs true words (Insert span (Some value)) =
-      (start end : List ℕ) × (words ≡ codes "insert" ∷ start ∷ end ∷ value.now ∷ []) × AreEndsOf ranges.has_end start end span.start span.end × IsValue value.now
-  IsReadAs has_value words (Insert _ _) = ⊥
+  IsReadAs false words (Insert span word) =
+      (start end : List ℕ) × (words ≡ codes "insert" ∷ start ∷ end ∷ []) × AreEndsOf ranges.has_end start end span.start span.end × (word.now ≡ [])
+  IsReadAs true words (Insert span word) =
+      (start end : List ℕ) × (words ≡ codes "insert" ∷ start ∷ end ∷ word.now ∷ []) × AreEndsOf ranges.has_end start end span.start span.end × IsValue word.now
   IsReadAs has_value words (Remove span) = (start end : List ℕ) × (words ≡ codes "remove" ∷ start ∷ end ∷ []) × AreEndsOf ranges.has_end start end span.start span.end
   IsReadAs has_value words (Ask question) = IsAskedAs ranges words question
 

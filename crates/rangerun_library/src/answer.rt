@@ -3,7 +3,7 @@ ghost use Rattle.std.specs.Prelude.{◌≡◌, OnErr, OnOk};
 ghost use Rattle.rangerun_library.specs.Commands.{IsCarriedOut};
 
 use crate::command::{Command, Question};
-use crate::container::Container;
+use crate::container::NumberContainer;
 use crate::listing::{write_gaps, write_item_or_none, write_json, write_overlapping};
 use std::alloc::{AllocError, Allocator, Global};
 
@@ -13,7 +13,7 @@ use std::alloc::{AllocError, Allocator, Global};
 /// # Errors
 ///
 /// Memory ran out: then the container is as it was, and `text` may have a part of the line.
-pub fn answer<A: Allocator, C: Container<Alloc = A>>(
+pub fn answer<A: Allocator, C: NumberContainer<Alloc = A>>(
     alloc: A,
     json_alloc: Global,
     container: &mut C,
@@ -24,7 +24,7 @@ pub fn answer<A: Allocator, C: Container<Alloc = A>>(
     ensures err { OnErr result (C.pairs container.new ≡ C.pairs container.old) }
 {
     match command {
-        Command::Insert(span, value) => container.insert(span.range(), C::value(alloc, value)?),
+        Command::Insert(span, word) => container.insert(span.range(), C::value(alloc, word)?),
         Command::Remove(span) => container.remove(span.range()),
         Command::Clear => {
             container.clear();
@@ -35,7 +35,7 @@ pub fn answer<A: Allocator, C: Container<Alloc = A>>(
 }
 
 // Appends the line that tells what the container answers.
-fn tell<A: Allocator, C: Container<Alloc = A>>(
+fn tell<A: Allocator, C: NumberContainer<Alloc = A>>(
     alloc: A,
     json_alloc: Global,
     container: &C,

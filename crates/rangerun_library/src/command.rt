@@ -11,8 +11,9 @@ use std::str;
 /// What a line asks for, of a container of ranges `R`.
 #[derive(Debug, Drop)]
 pub enum Command<'a, R: NumberRange> {
-    /// Give the keys of a range a value, or no value where the container is a set.
-    Insert(Span<R>, Option<&'a str>),
+    /// Give the keys of a range the value that a word writes. The word is empty where the container is
+    /// a set, whose inserts have none.
+    Insert(Span<R>, &'a str),
     /// Take the keys of a range out.
     Remove(Span<R>),
     /// Take every key out.
@@ -36,7 +37,7 @@ pub enum Question<R> {
     Len,
     /// Which items a range overlaps.
     Overlapping(R),
-    /// Whether there are any.
+    /// Whether a range overlaps any item.
     Overlaps(R),
     /// Which parts of a range no item has.
     Gaps(R),
@@ -110,7 +111,8 @@ fn parse_ends<'a, R: NumberRange>(
             if has_value {
                 return Err(Cause::Command);
             }
-            Ok(Command::Insert(parse_span(start, end)?, None))
+            // An insert into a set has no word behind its range.
+            Ok(Command::Insert(parse_span(start, end)?, ""))
         }
         "remove" => Ok(Command::Remove(parse_span(start, end)?)),
         "overlapping" => Ok(Command::Ask(Question::Overlapping(parse_query(start, end)?))),
@@ -132,7 +134,7 @@ fn parse_valued<'a, R: NumberRange>(
     match name {
         "insert" => {
             let (span, value) = parse_pair(start, end, value)?;
-            Ok(Command::Insert(span, Some(value)))
+            Ok(Command::Insert(span, value))
         }
         _ => Err(Cause::Command),
     }

@@ -1,35 +1,35 @@
 //! The containers that commands are carried out on.
 
 use crate::range::NumberRange;
-use crate::value::{Stored, text_of, write_key, write_text};
-use rangemap::container::Container as LibraryContainer;
+use crate::value::{Stored, write_key, write_text};
+use rangemap::container::Container;
 use rangemap::map::Map;
 use rangemap::set::Set;
 use rangemap::{RangeInclusiveMap, RangeInclusiveSet, RangeMap, RangeSet, WriteError};
 use rangemap_core::key_range::KeyRange;
 use rangemap_core::kind::Kind;
 use rangemap_core::store::StoreMut;
-use serde_json::Value;
+use serde_json::Value as Json;
 use std::alloc::{AllocError, Allocator, Global};
 use std::fmt::Debug;
 
 /// A container of the library over the program's keys and values.
 ///
 /// Its debug text is what the program prints of all its items.
-pub trait Container: LibraryContainer<Range: NumberRange, Value: Stored> + Debug {
-    /// Makes the value that an insert gives, of its word where it has one.
+pub trait NumberContainer: Container<Range: NumberRange, Value: Stored> + Debug {
+    /// Makes the value that a word writes. A set has one value, and reads no word.
     ///
     /// # Errors
     ///
     /// Memory for the value was refused.
-    fn value(alloc: Self::Alloc, word: Option<&str>) -> Result<Self::Value, AllocError>;
+    fn value(alloc: Self::Alloc, word: &str) -> Result<Self::Value, AllocError>;
 
     /// Makes its JSON form, in memory of `json_alloc`.
     ///
     /// # Errors
     ///
     /// Memory for the form was refused.
-    fn to_value(&self, json_alloc: Global) -> Result<Value, WriteError<AllocError>>;
+    fn to_json(&self, json_alloc: Global) -> Result<Json, WriteError<AllocError>>;
 }
 
 /// The map over half-open ranges.
@@ -47,15 +47,15 @@ pub type ClosedSet<A> = RangeInclusiveSet<u32, u32, A>;
 impl<
     A: Allocator + Copy,
     S: StoreMut<Range: NumberRange, Value = String<A>, Alloc = A> + Drop,
-> Container for Map<S>
+> NumberContainer for Map<S>
 where
     S::Kind: Kind<S::Range, Steps = <S::Range as KeyRange>::Key>,
 {
-    fn value(alloc: A, word: Option<&str>) -> Result<String<A>, AllocError> {
-        text_of(alloc, word)
+    fn value(alloc: A, word: &str) -> Result<String<A>, AllocError> {
+        String::from_str(alloc, word)
     }
 
-    fn to_value(&self, json_alloc: Global) -> Result<Value, WriteError<AllocError>> {
+    fn to_json(&self, json_alloc: Global) -> Result<Json, WriteError<AllocError>> {
         self.to_value(
             json_alloc,
             write_key,
@@ -64,16 +64,16 @@ where
     }
 }
 
-impl<S: StoreMut<Range: NumberRange, Value = ()> + Drop> Container for Set<S>
+impl<S: StoreMut<Range: NumberRange, Value = ()> + Drop> NumberContainer for Set<S>
 where
     S::Alloc: Clone,
     S::Kind: Kind<S::Range, Steps = <S::Range as KeyRange>::Key>,
 {
-    fn value(_alloc: S::Alloc, _word: Option<&str>) -> Result<(), AllocError> {
+    fn value(_alloc: S::Alloc, _word: &str) -> Result<(), AllocError> {
         Ok(())
     }
 
-    fn to_value(&self, json_alloc: Global) -> Result<Value, WriteError<AllocError>> {
+    fn to_json(&self, json_alloc: Global) -> Result<Json, WriteError<AllocError>> {
         self.to_value(json_alloc, write_key)
     }
 }

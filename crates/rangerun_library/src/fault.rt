@@ -4,6 +4,7 @@ ghost use Rattle.rangerun_library.specs.declared.fault.Cause.TheVariants.{Memory
 ghost use Rattle.rangerun_library.specs.Faults.{fault_number, status_of};
 
 use std::alloc::AllocError;
+use std::error::Error;
 use std::fmt;
 
 /// What went wrong. The numbers are those that the program prints.
@@ -69,10 +70,12 @@ impl Fault {
     pub fn status(self) -> u8
         ensures { result ≡ status_of self.number }
     {
-        match self.number {
-            6 => 3,
-            7 => 4,
-            _ => 2,
+        if self.number == Cause::Stream.number() {
+            3
+        } else if self.number == Cause::Memory.number() {
+            4
+        } else {
+            2
         }
     }
 }
@@ -86,3 +89,5 @@ impl fmt::Display for Fault {
         write!(f, "fault {} at line {}", self.number, self.line)
     }
 }
+
+impl Error for Fault {}

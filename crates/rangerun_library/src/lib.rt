@@ -6,7 +6,7 @@
 #![tactic(auto)]
 
 mod answer;
-mod booking;
+mod calendar_command;
 mod command;
 mod container;
 mod fault;

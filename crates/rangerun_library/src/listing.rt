@@ -3,7 +3,7 @@ ghost use Rattle.std.specs.Prelude.{◌<◌, OnOk};
 ghost use Rattle.std.specs.Iterator.{IsFinite};
 ghost use Rattle.std.specs.String.{string_len};
 
-use crate::container::Container;
+use crate::container::NumberContainer;
 use crate::range::NumberRange;
 use crate::value::Shown;
 use rangemap::WriteError;
@@ -27,7 +27,14 @@ impl<'a, R: NumberRange, V: Shown> Item for (&'a R, &'a V) {
     }
 }
 
-/// A gap, which is made when it is asked for.
+/// A range alone.
+impl<'a, R: NumberRange> Item for &'a R {
+    fn write<A: Allocator>(self, text: &mut String<A>) -> Result<(), AllocError> {
+        write!(text, "{self:?}")
+    }
+}
+
+/// A gap of a calendar, which is made when it is asked for.
 impl<R: NumberRange> Item for Result<R, AllocError> {
     fn write<A: Allocator>(self, text: &mut String<A>) -> Result<(), AllocError> {
         let gap = self?;
@@ -80,7 +87,7 @@ pub fn write_items<A: Allocator, I: Item, Items: Iterator<Item = I> + Drop>(
 /// # Errors
 ///
 /// Memory or a clone was refused.
-pub fn write_overlapping<A: Allocator, C: Container<Alloc = A>>(
+pub fn write_overlapping<A: Allocator, C: NumberContainer<Alloc = A>>(
     alloc: A,
     text: &mut String<A>,
     container: &C,
@@ -96,7 +103,7 @@ pub fn write_overlapping<A: Allocator, C: Container<Alloc = A>>(
 /// # Errors
 ///
 /// Memory or a clone was refused.
-pub fn write_gaps<A: Allocator, C: Container<Alloc = A>>(
+pub fn write_gaps<A: Allocator, C: NumberContainer<Alloc = A>>(
     alloc: A,
     text: &mut String<A>,
     container: &C,
@@ -104,7 +111,7 @@ pub fn write_gaps<A: Allocator, C: Container<Alloc = A>>(
 ) -> Result<(), AllocError> {
     let mut gaps = Vec::new(alloc);
     container.append_gaps(range, &mut gaps)?;
-    write_items(text, gaps.into_iter().map(|gap| Ok(gap)))
+    write_items(text, gaps.iter())
 }
 
 /// Writes the line of the JSON form, which is made in memory of `json_alloc`.
@@ -112,18 +119,18 @@ pub fn write_gaps<A: Allocator, C: Container<Alloc = A>>(
 /// # Errors
 ///
 /// Memory was refused. It is not passed over: where this answers `Ok`, something was written.
-pub fn write_json<A: Allocator, C: Container>(
+pub fn write_json<A: Allocator, C: NumberContainer>(
     json_alloc: Global,
     text: &mut String<A>,
     container: &C,
 ) -> Result<(), AllocError>
     ensures { OnOk result (string_len text.old < string_len text.new) }
 {
-    let value = match container.to_value(json_alloc) {
-        Ok(value) => value,
+    let json = match container.to_json(json_alloc) {
+        Ok(json) => json,
         Err(WriteError::Caller(error)) => return Err(error),
         Err(WriteError::OutOfMemory) => return Err(AllocError),
     };
-    text.push_str(value.to_string(json_alloc)?.as_str())?;
+    text.push_str(json.to_string(json_alloc)?.as_str())?;
     text.push('\n')
 }

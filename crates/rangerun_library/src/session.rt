@@ -1,15 +1,15 @@
 //! The program from its arguments to its last answer.
 
-mod subjects;
+mod runnable;
 
 use crate::container::{ClosedMap, ClosedSet, HalfOpenMap, HalfOpenSet};
 use crate::fault::{Cause, Fault};
 use crate::lines::{Source, fetch};
 use crate::target::Target;
 use calendar::Calendar;
+use runnable::Runnable;
 use std::alloc::{Allocator, Global};
 use std::io::{self, BufRead, BufReader, Read, Write};
-use subjects::Subject;
 
 /// Carries out the commands of `input` over the map, the set or the calendar that `args`, the words
 /// after the program's name, ask for, and writes each answer to `output` before it reads the next line.
@@ -43,11 +43,11 @@ pub fn run_in<A: Allocator + Copy, R: Read + Drop, W: Write + Drop>(
         return Err(Cause::Arguments.at(0));
     };
     match kind.as_str() {
-        "map" => <HalfOpenMap<A> as Subject<A>>::run(alloc, json_alloc, input, output),
-        "imap" => <ClosedMap<A> as Subject<A>>::run(alloc, json_alloc, input, output),
-        "set" => <HalfOpenSet<A> as Subject<A>>::run(alloc, json_alloc, input, output),
-        "iset" => <ClosedSet<A> as Subject<A>>::run(alloc, json_alloc, input, output),
-        "cal" => <Calendar<A> as Subject<A>>::run(alloc, json_alloc, input, output),
+        "map" => <HalfOpenMap<A> as Runnable<A>>::run(alloc, json_alloc, input, output),
+        "imap" => <ClosedMap<A> as Runnable<A>>::run(alloc, json_alloc, input, output),
+        "set" => <HalfOpenSet<A> as Runnable<A>>::run(alloc, json_alloc, input, output),
+        "iset" => <ClosedSet<A> as Runnable<A>>::run(alloc, json_alloc, input, output),
+        "cal" => <Calendar<A> as Runnable<A>>::run(alloc, json_alloc, input, output),
         _ => Err(Cause::Arguments.at(0)),
     }
 }

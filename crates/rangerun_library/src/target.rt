@@ -1,9 +1,9 @@
 //! What the program runs its lines over: a container, or the calendar.
 
 use crate::answer::answer;
-use crate::booking::Booking;
+use crate::calendar_command::CalendarCommand;
 use crate::command::Command;
-use crate::container::Container;
+use crate::container::NumberContainer;
 use crate::fault::Cause;
 use crate::listing::write_items;
 use crate::value::Stored;
@@ -33,7 +33,7 @@ pub struct ContainerTarget<A, C> {
     container: C,
 }
 
-impl<A: Allocator + Copy, C: Container<Alloc = A>> Target<A> for ContainerTarget<A, C> {
+impl<A: Allocator + Copy, C: NumberContainer<Alloc = A>> Target<A> for ContainerTarget<A, C> {
     fn new(alloc: A, json_alloc: Global) -> ContainerTarget<A, C> {
         ContainerTarget {
             alloc,
@@ -43,7 +43,7 @@ impl<A: Allocator + Copy, C: Container<Alloc = A>> Target<A> for ContainerTarget
     }
 
     fn carry_out(&mut self, line: &[u8], text: &mut String<A>) -> Result<(), Cause> {
-        let command = Command::parse(line, C::Value::HAS_WORD)?;
+        let command = Command::parse(line, C::Value::HAS_VALUE)?;
         answer(
             self.alloc,
             self.json_alloc,
@@ -61,18 +61,18 @@ impl<A: Allocator> Target<A> for Calendar<A> {
     }
 
     fn carry_out(&mut self, line: &[u8], text: &mut String<A>) -> Result<(), Cause> {
-        match Booking::parse(line)? {
-            Booking::Change(call) => write_refusal(self.make(call), text),
-            Booking::Free(days) => Ok(write_items(text, self.free(&days))?),
-            Booking::Iter => Ok(write_items(text, self.iter())?),
+        match CalendarCommand::parse(line)? {
+            CalendarCommand::Change(call) => write_refusal(text, self.make(call)),
+            CalendarCommand::Free(days) => Ok(write_items(text, self.free(&days))?),
+            CalendarCommand::Iter => Ok(write_items(text, self.iter())?),
         }
     }
 }
 
 // Writes the line of a booking that is refused since a day is taken. Other refusals stop the program.
 fn write_refusal<A: Allocator>(
-    answer: Result<(), BookError>,
     text: &mut String<A>,
+    answer: Result<(), BookError>,
 ) -> Result<(), Cause> {
     match answer {
         Ok(()) => Ok(()),

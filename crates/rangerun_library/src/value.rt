@@ -38,7 +38,7 @@ impl Shown for () {
 /// A value that a container of the program stores.
 pub trait Stored: Eq + Clone + Shown {
     /// Whether an insert has a word for it.
-    const HAS_WORD: bool;
+    const HAS_VALUE: bool;
 
     /// A clone of a value equals it.
     ghost faithful: { ValuesCloneFaithfully Self.is_clone Self.eq };
@@ -47,24 +47,15 @@ pub trait Stored: Eq + Clone + Shown {
 impl<A: Allocator + Clone> Stored for String<A> {
     ghost use Rattle.std.proofs.Common.{rules};
 
-    const HAS_WORD: bool = true;
+    const HAS_VALUE: bool = true;
 
     ghost faithful = { Prim.search rules };
 }
 
 impl Stored for () {
-    const HAS_WORD: bool = false;
+    const HAS_VALUE: bool = false;
 
     ghost faithful = { Prim.search };
-}
-
-/// Makes the text of a word.
-///
-/// # Errors
-///
-/// Memory for the text was refused.
-pub fn text_of<A: Allocator>(alloc: A, word: Option<&str>) -> Result<String<A>, AllocError> {
-    String::from_str(alloc, word.unwrap_or(""))
 }
 
 /// Makes the JSON form of a key. It is a `Result` as that of a text is, and takes no memory.

@@ -1,5 +1,5 @@
-//! What each call of a calendar answers, and what it answers where memory is refused. What bookings
-//! leave is asked of the program, in `cal.rt`.
+//! What each call of a calendar answers and leaves, and the same where memory is refused. What longer
+//! lists of bookings leave is asked of the program, in `cal.rt`.
 
 use calendar::{BookError, Calendar, Call, replay};
 use std::alloc::Allocator;

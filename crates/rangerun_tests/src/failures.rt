@@ -9,7 +9,7 @@ use std::process::Abort;
 use std::test::Fail;
 
 // The words that ask for each kind of container, and for a calendar.
-const KINDS: [&str; 5] = ["map", "imap", "set", "iset", "cal"];
+const TARGETS: [&str; 5] = ["map", "imap", "set", "iset", "cal"];
 
 // Three lines, each of five bytes, which are answered by three bytes each.
 const LINES: &[u8] = b"iter\niter\niter\n";
@@ -33,7 +33,7 @@ fn each_read_may_fail(rt: HostRuntime) -> Result<(), Fail> {
         (5, &[1, 2, 3, 4]),
         (100, &[1, 4]),
     ];
-    for kind in KINDS {
+    for kind in TARGETS {
         for error in [ErrorKind::Other, ErrorKind::OutOfMemory] {
             for (size, lines) in cases {
                 assert_reads_may_fail(&rt, kind, error, size, lines)?;
@@ -67,7 +67,7 @@ fn assert_reads_may_fail<R: AllocGlobal + Abort>(
 fn each_write_may_fail(rt: HostRuntime) -> Result<(), Fail> {
     // For each size that is written at once, the line that is being answered at each of the writes.
     let cases: [(usize, &[u64]); 2] = [(1, &[1, 1, 1, 2, 2, 2, 3, 3, 3]), (100, &[1, 2, 3])];
-    for kind in KINDS {
+    for kind in TARGETS {
         for error in [ErrorKind::Other, ErrorKind::OutOfMemory] {
             for (size, lines) in cases {
                 assert_writes_may_fail(&rt, kind, error, size, lines)?;
@@ -106,7 +106,7 @@ fn assert_writes_may_fail<R: AllocGlobal + Abort>(
 #[test]
 fn each_flush_may_fail(rt: HostRuntime) -> Result<(), Fail> {
     let alloc = rt.alloc();
-    for kind in KINDS {
+    for kind in TARGETS {
         for (left, line) in [(0, 1), (1, 2), (2, 3)] {
             let mut held = Vec::new(alloc);
             let failure = Failure::after(left, ErrorKind::Other);
@@ -124,7 +124,7 @@ fn each_flush_may_fail(rt: HostRuntime) -> Result<(), Fail> {
 #[test]
 fn what_was_interrupted_is_tried_again(rt: HostRuntime) -> Result<(), Fail> {
     let alloc = rt.alloc();
-    for kind in KINDS {
+    for kind in TARGETS {
         // Fifteen bytes are read one by one, and then the end; answers are nine bytes.
         for left in 0..16 {
             let failure = Failure::after(left, ErrorKind::Interrupted);
@@ -146,7 +146,7 @@ fn what_was_interrupted_is_tried_again(rt: HostRuntime) -> Result<(), Fail> {
 #[test]
 fn a_writer_that_takes_nothing_is_a_fault(rt: HostRuntime) -> Result<(), Fail> {
     let alloc = rt.alloc();
-    for kind in KINDS {
+    for kind in TARGETS {
         let mut held = Vec::new(alloc);
         let output = Sink::new(&mut held, 0, Failure::NEVER, Failure::NEVER);
         let ended = run(alloc, &words_for(alloc, kind)?, LINES, output);

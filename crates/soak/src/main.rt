@@ -1,5 +1,5 @@
-//! Random lists of calls on every container, beside a plain model, with requests for memory refused
-//! at random.
+//! Random lists of calls on every container, beside the plain model of `soak_model`, with requests for
+//! memory refused at random.
 //!
 //! `soak SEED CALLS` makes so many calls of a seed on each container, and half as many again on each
 //! that keeps its ranges in chunks, of a handful, so that these get half of all. It compares the
@@ -8,21 +8,15 @@
 //! it prints, with status 1.
 #![tactic(auto)]
 
-mod call;
-mod chance;
-mod difference;
-mod model;
 mod pairs;
-mod points;
 mod session;
 mod soaked;
 
-use chance::Chance;
-use model::Model;
 use session::{Maps, Report, Session, Sets};
+use soak_model::{Chance, Kept, Model, Profile};
 use soaked::{
     ChunkedPairs, ChunkedRanges, ClosedChunkedPairs, ClosedChunkedRanges, ClosedPairs,
-    ClosedRanges, Heap, Kept, Pairs, Profile, Ranges, TreePairs, TreeRanges,
+    ClosedRanges, Heap, Pairs, Ranges, TreePairs, TreeRanges,
 };
 use std::process::ExitCode;
 use std::{env, io};
@@ -41,7 +35,7 @@ fn arguments(rt: &HostRuntime) -> io::Result<Option<(u64, u64)>> {
 // Answers whether nothing differed.
 fn tell(rt: &HostRuntime, heap: &Heap, name: &str, report: Report) -> io::Result<bool> {
     let (calls, refused) = (report.calls, report.refused);
-    match report.difference(heap)? {
+    match report.difference(heap) {
         None => {
             println!(rt; "{name}: {calls} calls, {refused} refused, 0 differ")?;
             Ok(true)

@@ -2,8 +2,8 @@
 ghost use Rattle.std.specs.Prelude.{IfOk};
 ghost use Rattle.std.specs.List.{AllByRecursion};
 
-use crate::points::Run;
 use crate::soaked::{Mark, PointRange, Soaked};
+use soak_model::Run;
 use std::alloc::AllocError;
 
 /// Makes the range of the points of a run.

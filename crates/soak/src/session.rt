@@ -8,9 +8,6 @@ mod answers;
 mod calls;
 mod stores;
 
-use crate::call::Call;
-use crate::difference::{Difference, Stop, check};
-use crate::model::Model;
 use crate::soaked::{Heap, LendsGaps, Mark, PointRange, Soaked};
 use answers::{ends, gaps, get, list, overlapping};
 use calls::{change, collect, combine, copy};
@@ -19,7 +16,7 @@ use rangemap::set::Set;
 use rangemap_core::key_range::KeyRange;
 use rangemap_core::kind::Kind;
 use rangemap_core::store::StoreMut;
-use std::alloc::AllocError;
+use soak_model::{Call, Difference, Model, check};
 pub use stores::{Maps, Sets};
 
 /// How a run ended.
@@ -29,8 +26,8 @@ pub struct Report {
     pub calls: u64,
     /// How many of them were refused.
     pub refused: u64,
-    /// Why the calls stopped, if they did before the last one.
-    pub stop: Option<Stop>,
+    /// What differed, and stopped the calls.
+    pub stop: Option<Difference>,
 }
 
 impl Report {
@@ -42,12 +39,10 @@ impl Report {
     }
 
     /// Returns what differed, if something did. All blocks of the heap are to be given back by now.
-    pub fn difference(self, heap: &Heap) -> Result<Option<Difference>, AllocError> {
+    pub fn difference(self, heap: &Heap) -> Option<Difference> {
         match self.stop {
-            None if heap.held() == 0 => Ok(None),
-            None => Ok(Some(Difference::Blocks)),
-            Some(Stop::Differs(difference)) => Ok(Some(difference)),
-            Some(Stop::OutOfMemory) => Err(AllocError),
+            None if heap.held() > 0 => Some(Difference::Blocks),
+            stop => stop,
         }
     }
 }
@@ -108,7 +103,7 @@ fn soak<S: Soaked>(heap: S::Alloc, mut model: Model<'_>, calls: u64) -> Report {
 }
 
 // Makes a call, and compares what it leaves. Answers whether it was refused.
-fn step<S: Soaked>(subject: &mut S, model: &mut Model<'_>) -> Result<bool, Stop> {
+fn step<S: Soaked>(subject: &mut S, model: &mut Model<'_>) -> Result<bool, Difference> {
     let answer = match model.call() {
         Call::Change(asked) => change(subject, model, &asked),
         Call::Copy => copy(subject, model),

@@ -50,19 +50,18 @@ fn lines(roster: &Roster, alloc: Global) -> Result<Vec<String>, Fail> {
 }
 
 // Compares lines with those that are expected.
-fn check_lines<R: Abort>(rt: &R, lines: &[String], expected: &[&str]) -> Result<(), Fail> {
+fn assert_lines<R: Abort>(rt: &R, lines: &[String], expected: &[&str]) {
     assert_eq!(rt; lines.len(), expected.len());
     for (line, wanted) in lines.iter().zip(expected) {
         assert_eq!(rt; line.as_str(), *wanted);
     }
-    Ok(())
 }
 
 #[test]
 fn the_roster_is_printed(rt: HostRuntime) -> Result<(), Fail> {
     let roster = make_roster(rt.alloc())?;
     let lines = lines(&roster, rt.alloc())?;
-    check_lines(
+    assert_lines(
         &rt,
         &lines,
         &[
@@ -75,5 +74,6 @@ fn the_roster_is_printed(rt: HostRuntime) -> Result<(), Fail> {
             "2019-02-25UTC (P7D): Bob",
             "2019-03-04UTC (P7D): Carol",
         ],
-    )
+    );
+    Ok(())
 }

@@ -3,9 +3,9 @@
 
 use crate::same::assert_same;
 use examples::calling::{
-    add, add_all, add_shifts, add_texts, all_below, are_below, are_equal, assign, chain, classify,
-    either_way, ends, free_until, gap_end, intersection_of, is_at_most, is_below, note, on_at,
-    room_for, uncovered, union_of,
+    add, add_all, add_shifts, add_texts, all_below, are_below, are_equal, assign, chain, class_at,
+    classify, either_way, ends, free_until, gap_end, has_text, intersection_of, is_at_most,
+    is_below, note, on_at, room_for, uncovered, union_of,
 };
 use rangemap::{
     RangeInclusiveMap, RangeMap, RangeSet, range_inclusive_set, range_set, tree_map, tree_set,
@@ -29,8 +29,18 @@ fn snippets_with_shifts_answer(rt: HostRuntime) -> Result<(), Fail> {
 
 #[test]
 fn snippets_with_gaps_answer(rt: HostRuntime) -> Result<(), Fail> {
-    let map = RangeMap::new(rt.alloc());
-    let found = (free_until(&map, 1, 9)?, gap_end(&map, 6, 9));
+    let mut map = RangeMap::new(rt.alloc());
+    map.insert(4..6, 1)?;
+    // Both are to be asked where a key has no value, which what `get` answers shows.
+    let None = map.get(&1) else {
+        return Err(Fail::new("1 has a value"));
+    };
+    let found = (free_until(&map, 1, 9)?, gap_end(&map, 1, 9));
+    assert_same(&rt, found, (4, 4));
+    let None = map.get(&6) else {
+        return Err(Fail::new("6 has a value"));
+    };
+    let found = (free_until(&map, 6, 9)?, gap_end(&map, 6, 9));
     assert_same(&rt, found, (9, 9));
     let held = range_set![in rt.alloc(); 0..5u32, 7..9]?;
     let found = (room_for(&held, &(0..20), 2), room_for(&held, &(0..20), 3));
@@ -54,7 +64,7 @@ fn assert_shifts<R: AllocGlobal + Abort>(rt: &R) -> Result<(), Fail> {
     add_shifts(&mut hours)?;
     let expected = range_set![in rt.alloc(); 0..5u32, 7..9]?;
     assert_same(rt, hours == expected, true);
-    assert_same(rt, are_equal(&hours, &hours), true);
+    assert_same(rt, are_equal(&hours, &hours.clone()?), true);
     let found = (is_below(&hours, 9), is_below(&hours, 8));
     assert_same(rt, found, (true, false));
     Ok(())
@@ -140,7 +150,8 @@ fn assert_names<R: AllocGlobal + Abort>(rt: &R) -> Result<(), Fail> {
     add_texts(&mut names, text("b")?, text("d")?)?;
     add_texts(&mut names, text("x")?, text("x")?)?;
     assert_same(rt, names.len(), 1);
-    assert_same(rt, names.contains(&text("c")?), true);
+    let found = (has_text(&names, &text("c")?), has_text(&names, &text("d")?));
+    assert_same(rt, found, (true, false));
     Ok(())
 }
 
@@ -150,7 +161,11 @@ fn assert_classes<R: AllocGlobal + Abort>(rt: &R) -> Result<(), Fail> {
     classify(&mut classes, OrderedFloat(36.5), OrderedFloat(38.0), 1)?;
     classify(&mut classes, OrderedFloat(40.0), OrderedFloat(40.0), 2)?;
     assert_same(rt, classes.len(), 1);
-    assert_same(rt, classes.get(&OrderedFloat(37.0)).copied(), Some(1));
+    let found = (
+        class_at(&classes, &OrderedFloat(37.0)),
+        class_at(&classes, &OrderedFloat(38.0)),
+    );
+    assert_same(rt, found, (Some(1), None));
     Ok(())
 }
 

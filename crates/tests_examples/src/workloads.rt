@@ -1,7 +1,9 @@
 //! Each workload of the bench once, over two pairs.
 
 use crate::same::assert_same;
-use bench_workloads::containers::{CHUNKED, CLOSED, CLOSED_CHUNKED, HALF_OPEN, TEXTS, TREE};
+use bench_workloads::containers::{
+    CHUNKED, CLOSED, CLOSED_CHUNKED, CLOSED_CHUNKED_SET, HALF_OPEN, TEXTS, TREE,
+};
 use bench_workloads::digest::followed_by;
 use bench_workloads::dispatch::over_map;
 use bench_workloads::input::{Entry, Query};
@@ -129,5 +131,20 @@ fn queries_and_removals_in_chunks_answer(rt: HostRuntime) -> Result<(), Fail> {
     for (container, values) in CHUNKED_MAPS {
         assert_queries(&rt, container, values)?;
     }
+    Ok(())
+}
+
+// There is no map at the number of a set.
+#[test]
+fn the_number_of_a_set_names_no_map(rt: HostRuntime) -> Result<(), Fail> {
+    let answer = over_map(
+        Workload::Contents,
+        rt.alloc(),
+        CLOSED_CHUNKED_SET,
+        &TWO,
+        &[],
+        1,
+    );
+    assert_same(&rt, answer.is_err(), true);
     Ok(())
 }

@@ -1,5 +1,5 @@
-//! The iterators of the containers in chunks at keys of 64 bits, those of maps two and more in one
-//! function, and what the check takes of those of sets.
+//! The iterators of maps in chunks at keys of 64 bits, two and more in one function, and calls that
+//! take what those of sets give.
 
 use rangemap::chunked::{
     Gaps, InclusiveGaps, InclusiveIter, InclusiveOverlapping, InclusiveSetIter, Iter, Overlapping,

@@ -4,7 +4,7 @@
 mod chunked;
 mod rows;
 
-use crate::natives::{Asked, InTree, InVector, Replayed, SetsInTree, SetsInVector};
+use crate::special_calls::{Asked, InTree, InVector, Replayed, SetsInTree, SetsInVector};
 use rangemap::RangeSet;
 use rangemap::map::Map;
 use rangemap::set::Set;
@@ -18,7 +18,7 @@ use rows::{INCLUSIVE_MAPS, INCLUSIVE_SETS, MAPS, SETS};
 use std::alloc::AllocError;
 use std::ops::{Range, RangeInclusive};
 use std::test::Fail;
-use tests_requests::{Allocs, Heaps};
+use tests_refusal_checks::{Allocs, Heaps};
 use tests_support::{Heap, MANY, Refusing, check_that, made_of};
 
 #[test]

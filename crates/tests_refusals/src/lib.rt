@@ -12,4 +12,4 @@ mod allocators;
 #[cfg(test)]
 mod made;
 #[cfg(test)]
-mod natives;
+mod special_calls;

@@ -1,15 +1,16 @@
 //! Replays on containers in vectors, in trees and in chunks, some by steps of another type, arrays,
 //! macros and readings that are refused memory, each request in its turn.
 
-use crate::natives::Natives;
+use crate::special_calls::SpecialCalls;
 use std::test::Fail;
-use tests_requests::check;
+use tests_refusal_checks::check;
 use tests_support::{MANY, Refusing};
 
 // A replay, which changes nothing without room, takes three lists, and each of its containers grows, in
-// chunks by a list and the list of chunks. In a tree the first pair takes a node and a key, a clone of it a node and three keys, a removal what it
-// takes of a map, and an operator two clones, a node and a key. An array takes a list, through which
-// it is read, beside what inserts of its items take, and so does a macro.
+// chunks by a list and the list of chunks. In a tree the first pair takes a node and a key, a clone of
+// it a node and three keys, a removal what it takes of a map, and an operator two clones, a node and a
+// key. An array takes a list, through which it is read, beside what inserts of its items take, and so
+// does a macro.
 //
 // What is read into containers of numbers takes two growths, since the first has no room for thirteen
 // ranges; in a tree it takes a node, which has. In chunks all takes the list of them besides,
@@ -21,11 +22,14 @@ use tests_support::{MANY, Refusing};
 // a key and a value; and both ends of the third range, which is joined with the piece before it.
 // Of half-open pieces both ends are cloned: four keys, and two values, beside the growth. In a tree the
 // first pair takes a node and its key; and the second the four ends of the pieces, two keys, and the value
-// of one piece. A set takes the growth, and both ends of the joined range.
+// of one piece. In chunks a map takes the list of them beside what it takes in a vector: two lists and
+// two values, and four keys, or of closed pieces two; and it asks for the cut of its three pieces. A set
+// takes the growth, and both ends of the joined range; in a tree a node and a key, in chunks the list of
+// them besides, and these ends.
 #[test]
 fn what_makes_containers_may_be_refused(rt: HostRuntime) -> Result<(), Fail> {
     let heap = Refusing::new(rt.alloc(), MANY);
-    check::<Natives>(
+    check::<SpecialCalls>(
         &heap,
         rt.alloc(),
         "new, insert 0..10 a, clone, remove 4..5 | replay maps | 0..4 a, 5..10 a; 0..10 a | 5
@@ -118,7 +122,13 @@ fn what_makes_containers_may_be_refused(rt: HostRuntime) -> Result<(), Fail> {
             | 0..=2 7, 3..=5 8, 6..=20 7 | 7
         any [[[0,10],7],[[3,6],8]] | read costly map | 0..3 7, 3..6 8, 6..10 7 | 7
         any [[[0,10],7],[[3,6],8]] | read costly tree | 0..3 7, 3..6 8, 6..10 7 | 9
+        any [[[0,10],7],[[3,6],8]] | read costly chunked map | 0..3 7, 3..6 8, 6..10 7 | 8 + 1
+        any [[[0,9],7],[[3,5],8]] | read costly chunked inclusive map \
+            | 0..=2 7, 3..=5 8, 6..=9 7 | 6 + 1
         any [[0,5],[5,10]] | read costly set | 0..10 | 3
-        any [[0,4],[5,9]] | read costly inclusive set | 0..=9 | 3",
+        any [[0,4],[5,9]] | read costly inclusive set | 0..=9 | 3
+        any [[0,5],[5,10]] | read costly tree set | 0..10 | 4
+        any [[0,5],[5,10]] | read costly chunked set | 0..10 | 4
+        any [[0,4],[5,9]] | read costly chunked inclusive set | 0..=9 | 4",
     )
 }

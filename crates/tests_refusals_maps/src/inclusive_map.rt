@@ -8,9 +8,10 @@ use tests_support::{Costly, MANY, Refusing, Text};
 // The first growth takes a request, a clone of the stored end of each piece that stays another, and
 // so do both ends of a range that is joined, on whichever side what it joins lies; one that joins
 // nothing is moved. A removal that meets nothing takes nothing, nor does a clone of an empty map or
-// an `extend` by nothing; a clone of another map takes its list, and six keys. Of a gap an end of the outer range is cloned, and
-// one beside a stored range comes of a step. An append takes a clone of either end of each pair that it
-// tells of, or what the gaps take; there is room for four. Collected gaps take a list too.
+// an `extend` by nothing; a clone of another map takes its list, and six keys. Of a gap an end of the
+// outer range is cloned, and one beside a stored range comes of a step. An append takes a clone of either
+// end of each pair that it tells of, or what the gaps take; there is room for four. Collected gaps take a
+// list too.
 //
 // `segments` takes a list of the pairs that the query overlaps and both ends of each, the first growth of
 // its answer and both ends of the query in that, and then for each pair both ends of what the query

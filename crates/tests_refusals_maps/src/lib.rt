@@ -1,7 +1,7 @@
 //! Calls on maps that take memory, each tried with its request *k* refused for *k* = 0, 1, 2, .. until
 //! it is accepted.
 //!
-//! The crate `tests_requests` makes the calls and compares what they leave with a row, by one function
+//! The crate `tests_refusal_checks` makes the calls and compares what they leave with a row, by one function
 //! for every container; docs/TESTS.md leads from each call to its test.
 #![tactic(auto)]
 

@@ -10,7 +10,7 @@ use rangemap_sorted::SortedVec;
 use rangemap_tree::Tree;
 use std::marker::PhantomData;
 use std::test::Fail;
-use tests_requests::{
+use tests_refusal_checks::{
     Answer, Row, Tried, try_appends, try_both, try_call, try_collect_gaps, try_makers, try_run,
     try_segments, with_range,
 };

@@ -11,7 +11,7 @@ use rangemap_sorted::SortedVec;
 use rangemap_tree::Tree;
 use std::ops::{Range, RangeInclusive};
 use std::test::Fail;
-use tests_requests::check;
+use tests_refusal_checks::check;
 use tests_support::{Heap, Word};
 
 /// Tries the rows of a set of half-open ranges.

@@ -8,8 +8,8 @@ use tests_support::{Costly, MANY, Refusing};
 // The first growth takes a request, a clone of the stored end of each piece that stays another, and
 // so do both ends of a range that is joined, on whichever side what it joins lies; one that joins
 // nothing is moved. A removal that meets nothing takes nothing, nor does a clone of an empty set or
-// an `extend` by nothing; a clone of another set takes its list, and four keys. Of a gap an end of the outer range is cloned, and
-// one beside a stored range comes of a step.
+// an `extend` by nothing; a clone of another set takes its list, and four keys. Of a gap an end of the
+// outer range is cloned, and one beside a stored range comes of a step.
 //
 // Of an item of two sets both ends are cloned; a set asks for the list too, and for two items. Of
 // an `extend` the first range takes a list, and each other is joined with what is stored. An append

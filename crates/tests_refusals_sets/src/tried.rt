@@ -11,7 +11,7 @@ use rangemap_sorted::SortedVec;
 use rangemap_tree::Tree;
 use std::marker::PhantomData;
 use std::test::Fail;
-use tests_requests::{
+use tests_refusal_checks::{
     Answer, Row, Tried, is_made, try_appends, try_both, try_call, try_collect_gaps, try_growths,
     try_makers, try_segments,
 };
@@ -159,6 +159,6 @@ where
             row.end_refusal(heap, granted)?;
             is_made(made, row.outcome)
         }
-        _ => Err(Fail::new("a call is unknown")),
+        _ => Err(Fail::new(format_args!("no call is {}", row.call))),
     }
 }

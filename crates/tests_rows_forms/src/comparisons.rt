@@ -7,13 +7,12 @@
 //! That equal ones hash alike is proved. That others mostly do not is shown here: a container that
 //! feeds less than its pairs would still hash alike where it is equal.
 
-use crate::made::Made;
 use folding::Folding;
 use std::alloc::Global;
 use std::cmp::Ordering;
 use std::hash::{Hash, Hasher};
 use std::test::Fail;
-use tests_support::{check_that, lists, rows, two_parts};
+use tests_support::{Made, check_that, lists, rows, two_parts};
 
 mod folding;
 mod laws;

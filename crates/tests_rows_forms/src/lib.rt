@@ -1,5 +1,5 @@
-//! What every container becomes beside its pairs: its order, its hash, its text, its JSON form, and
-//! the macros that make one of a list.
+//! What every container becomes beside its pairs: its order, its hash and its text; and the macros
+//! that make one of a list. Its JSON form is in `tests_rows_json`.
 //!
 //! Rows are text, and lie in tables as those of `tests_row_checks` do.
 #![tactic(auto)]
@@ -7,10 +7,6 @@
 #[cfg(test)]
 mod comparisons;
 #[cfg(test)]
-mod json;
-#[cfg(test)]
 mod macros;
-#[cfg(test)]
-mod made;
 #[cfg(test)]
 mod text;

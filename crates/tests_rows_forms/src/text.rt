@@ -187,6 +187,13 @@ where
 
 #[test]
 fn sets_are_written_in_braces(rt: HostRuntime) -> Result<(), Fail> {
+    check_ranges::<SortedVec<HalfOpen, Range<u32>, (), Global>, 2>(
+        rt.alloc(),
+        [0u32..100, 200..300],
+        "{0..100, 200..300}",
+        "{\n    0..100,\n    200..300,\n}",
+    )?;
+    check_ranges::<InTree<u32, ()>, 0>(rt.alloc(), [], "{}", "{}")?;
     check_ranges::<InTree<u32, ()>, 2>(
         rt.alloc(),
         [0u32..100, 200..300],

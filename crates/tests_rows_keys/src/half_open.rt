@@ -13,54 +13,22 @@ fn text(text: &str, alloc: Global) -> Result<String, AllocError> {
     String::from_str(alloc, text)
 }
 
-// Numbers at texts.
-type Texts = RangeMap<String, u32>;
-
-// Gives the texts between two ends a value.
-#[tactic(auto, using(rangemap::proofs::TextKeys::clones_tie))]
-fn insert_texts(
-    map: &mut Texts,
-    alloc: Global,
-    ends: (&str, &str),
-    value: u32,
-) -> Result<(), Fail> {
-    let end = text(ends.1, alloc)?;
-    map.insert(filled(text(ends.0, alloc)?, end)?, value)?;
-    Ok(())
-}
-
-// The value at a text.
-fn at_text(map: &Texts, alloc: Global, key: &str) -> Result<Option<u32>, AllocError> {
-    Ok(map.get(&text(key, alloc)?).copied())
-}
-
-#[test]
-fn texts_are_keys(rt: HostRuntime) -> Result<(), Fail> {
-    let mut map: Texts = RangeMap::new(rt.alloc());
-    check_texts(rt.alloc(), &mut map)
-}
-
-// Inserts texts into an empty map, and looks them up.
-fn check_texts(alloc: Global, map: &mut Texts) -> Result<(), Fail> {
-    insert_texts(map, alloc, ("a", "m"), 1)?;
-    insert_texts(map, alloc, ("m", "z"), 1)?;
-    check_same(map.len(), 1)?;
-    insert_texts(map, alloc, ("fig", "figs"), 2)?;
-    check_same(map.len(), 3)?;
-    let inner = (at_text(map, alloc, "fi")?, at_text(map, alloc, "fig")?);
-    let outer = (at_text(map, alloc, "figs")?, at_text(map, alloc, "z")?);
-    check_same((inner, outer), ((Some(1), Some(2)), (Some(1), None)))
-}
-
 // Rows of numbers at texts.
 const TEXT_ROWS: &str = "
         insert a..m 1, insert m..z 1 | holds | a..z 1
         insert a..m 1, insert m..z 1, insert fig..figs 2 | holds | a..fig 1, fig..figs 2, figs..z 1
         insert a..m 1, insert m..z 1, insert fig..figs 2 | at fi | a..fig 1
         insert a..m 1, insert m..z 1, insert fig..figs 2 | at fig | fig..figs 2
+        insert a..m 1, insert m..z 1, insert fig..figs 2 | at figs | figs..z 1
         insert a..m 1, insert m..z 1, insert fig..figs 2 | at z |
         insert a..m 1, insert fig..figs 2, insert fog..fogs 2, remove fi..fogs | holds | a..fi 1, fogs..m 1
     ";
+
+#[test]
+#[tactic(auto, using(rangemap::proofs::TextKeys::clones_tie))]
+fn texts_are_keys(rt: HostRuntime) -> Result<(), Fail> {
+    check_rows::<RangeMap<String, u32>>(rt.alloc(), TEXT_ROWS)
+}
 
 #[test]
 #[tactic(auto, using(rangemap::proofs::TextKeys::clones_tie))]

@@ -1,8 +1,12 @@
-//! Rows about keys: their steps, orders other than that of numbers, and the ends of their types.
+//! Rows about keys: their steps, orders other than that of numbers, the ends of their types, and how
+//! many stored ones a lookup asks for.
 //!
 //! `down` and `pairs` bring an order and steps as a user writes them, and are accepted as lawful.
+//! `asks` has the table of what a lookup in a sorted vector asks for.
 #![tactic(auto)]
 
+#[cfg(test)]
+mod asks;
 #[cfg(test)]
 mod characters;
 #[cfg(test)]

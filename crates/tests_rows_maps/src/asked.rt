@@ -101,15 +101,15 @@ where
     requires faithful_keys { KeysCloneFaithfully S.Range.Key.is_clone S.Range.Key.cmp }
     requires faithful_values { ValuesCloneFaithfully S.Value.is_clone S.Value.eq }
 {
-    check_count::<S>(alloc, pairs, 3)?;
+    check_three_counted::<S>(alloc, pairs)?;
     check_loop(alloc, map_of::<S>(alloc, pairs)?, texts)?;
     let map = map_of::<S>(alloc, pairs)?;
     let copy = map.clone()?;
     check_three_both_ways(alloc, map.into_iter(), copy.into_iter(), texts)
 }
 
-// Compares how many pairs a map hands over.
-fn check_count<S>(alloc: Global, pairs: &str, count: usize) -> Result<(), Fail>
+// Compares how many pairs a map of three hands over.
+fn check_three_counted<S>(alloc: Global, pairs: &str) -> Result<(), Fail>
 where
     S: HandsOver<Alloc = Global> + StoreMut + Drop,
     <S::Range as KeyRange>::Key: Word<Global>,
@@ -118,7 +118,7 @@ where
     requires faithful_keys { KeysCloneFaithfully S.Range.Key.is_clone S.Range.Key.cmp }
     requires faithful_values { ValuesCloneFaithfully S.Value.is_clone S.Value.eq }
 {
-    check_same(map_of::<S>(alloc, pairs)?.into_iter().len(), count)
+    check_same(map_of::<S>(alloc, pairs)?.into_iter().len(), 3)
 }
 
 // Compares the three pairs over which a loop goes.

@@ -29,11 +29,6 @@ fn check_three_of_vector<
     ask_vector::<Q, R, char>(alloc, &Asked::HandedOver(inserted, pairs))
 }
 
-// Compares how many items are to come.
-fn check_len<I: ExactSizeIterator + Drop>(items: I, len: usize) -> Result<(), Fail> {
-    check_same(items.len(), len)
-}
-
 // Compares the slice of the pairs that a map in a sorted vector lends.
 fn check_slice(alloc: Global, map: &RangeMap<u32, char>, text: &str) -> Result<(), Fail> {
     let pairs = map.iter();
@@ -43,7 +38,7 @@ fn check_slice(alloc: Global, map: &RangeMap<u32, char>, text: &str) -> Result<(
 #[test]
 fn a_loop_goes_over_a_map(rt: HostRuntime) -> Result<(), Fail> {
     let map = RangeMap::from(rt.alloc(), [(4..6u32, 'b'), (0..2, 'a')])?;
-    check_len(map.iter(), 2)?;
+    check_same(map.iter().len(), 2)?;
     check_slice(rt.alloc(), &map, "[(0..2, 'a'), (4..6, 'b')]")?;
     let mut found = Vec::new(rt.alloc());
     for (range, value) in &map {
@@ -57,7 +52,7 @@ fn a_loop_goes_over_a_map(rt: HostRuntime) -> Result<(), Fail> {
 #[test]
 fn a_loop_goes_over_a_map_in_a_tree(rt: HostRuntime) -> Result<(), Fail> {
     let map = map_of::<Tree<u32, char, Global>>(rt.alloc(), "8..9 c, 4..6 b, 0..2 a")?;
-    check_len(map.iter(), 3)?;
+    check_same(map.iter().len(), 3)?;
     let mut found = Vec::new(rt.alloc());
     for (range, value) in &map {
         add_clone(&mut found, range, value)?;
@@ -75,7 +70,7 @@ fn a_loop_goes_over_a_map_in_chunks(rt: HostRuntime) -> Result<(), Fail> {
         rt.alloc(),
         "8..9 c, 4..6 b, 0..2 a",
     )?;
-    check_len(map.iter(), 3)?;
+    check_same(map.iter().len(), 3)?;
     let mut found = Vec::new(rt.alloc());
     for (range, value) in &map {
         add_clone(&mut found, range, value)?;

@@ -51,25 +51,9 @@ where
     requires { KeysCloneFaithfully S.Range.Key.is_clone S.Range.Key.cmp }
 {
     match asked {
-        Lent::All(asked) => check_all(alloc, map, asked, answer),
+        Lent::All(All::Three) => check_three(alloc, map.iter(), answer, true),
+        Lent::All(All::One) => check_both_ends(alloc, map.iter(), map.iter(), answer),
         Lent::In(range, asked) => check_in_range(alloc, map, range, asked, answer),
-    }
-}
-
-// Compares what a map lends of all its pairs.
-fn check_all<'a, S: Lends<'a, Range: Debug, Value: Debug>>(
-    alloc: Global,
-    map: &'a Map<S>,
-    asked: &All,
-    answer: &str,
-) -> Result<(), Fail>
-where
-    S::Range: 'a,
-    S::Value: 'a,
-{
-    match asked {
-        All::Three => check_three(alloc, map.iter(), answer, true),
-        All::One => check_both_ends(alloc, map.iter(), map.iter(), answer),
     }
 }
 

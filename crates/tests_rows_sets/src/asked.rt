@@ -120,21 +120,21 @@ where
     S::Kind: Kind<S::Range, Steps = <S::Range as KeyRange>::Key>,
     requires { KeysCloneFaithfully S.Range.Key.is_clone S.Range.Key.cmp }
 {
-    check_count::<S>(alloc, ranges, 3)?;
+    check_three_counted::<S>(alloc, ranges)?;
     let set = set_of::<S>(alloc, ranges)?;
     let copy = set.clone()?;
     check_three_both_ways(alloc, set.into_iter(), copy.into_iter(), texts)
 }
 
-// Compares how many ranges a set hands over.
-fn check_count<S>(alloc: Global, ranges: &str, count: usize) -> Result<(), Fail>
+// Compares how many ranges a set of three hands over.
+fn check_three_counted<S>(alloc: Global, ranges: &str) -> Result<(), Fail>
 where
     S: HandsOver<Value = (), Alloc = Global> + StoreMut + Drop,
     <S::Range as KeyRange>::Key: Word<Global>,
     S::Kind: Kind<S::Range, Steps = <S::Range as KeyRange>::Key>,
     requires { KeysCloneFaithfully S.Range.Key.is_clone S.Range.Key.cmp }
 {
-    check_same(set_of::<S>(alloc, ranges)?.into_iter().len(), count)
+    check_same(set_of::<S>(alloc, ranges)?.into_iter().len(), 3)
 }
 
 // Compares what the operators make of two sets.

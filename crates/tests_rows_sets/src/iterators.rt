@@ -56,18 +56,10 @@ fn a_loop_goes_over_a_set_in_chunks(rt: HostRuntime) -> Result<(), Fail> {
 
 #[test]
 fn overlapping_ranges_come_from_both_ends(rt: HostRuntime) -> Result<(), Fail> {
-    lent_by_vector::<HalfOpen, Range<u32>>(
-        rt.alloc(),
-        ("0..2, 3..4, 5..6, 8..9", ""),
-        Lent::In(1..8, In::Three),
-        "0..2; 3..4; 5..6",
-    )?;
-    lent_by_tree(
-        rt.alloc(),
-        ("0..2, 3..4, 5..6, 8..9", ""),
-        Lent::In(1..8, In::Three),
-        "0..2; 3..4; 5..6",
-    )?;
+    let (lists, met) = (("0..2, 3..4, 5..6, 8..9", ""), "0..2; 3..4; 5..6");
+    lent_by_vector::<HalfOpen, Range<u32>>(rt.alloc(), lists, Lent::In(1..8, In::Three), met)?;
+    lent_by_tree(rt.alloc(), lists, Lent::In(1..8, In::Three), met)?;
+    lent_by_chunks::<HalfOpen, Range<u32>>(rt.alloc(), lists, Lent::In(1..8, In::Three), met)?;
     lent_by_vector::<Closed<u32>, RangeInclusive<u32>>(
         rt.alloc(),
         ("0..=1, 3..=3, 5..=5, 8..=9", ""),
@@ -111,11 +103,19 @@ fn iterators_of_sets_stay_ended(rt: HostRuntime) -> Result<(), Fail> {
     let lists = ("0..5", "");
     lent_by_vector::<HalfOpen, Range<u32>>(rt.alloc(), lists, Lent::All(All::One), "0..5")?;
     lent_by_vector::<HalfOpen, Range<u32>>(rt.alloc(), lists, Lent::In(3..6, In::One), "0..5")?;
-    ask_vector::<HalfOpen, Range<u32>>(rt.alloc(), &Asked::OneHandedOver("0..5"))
+    ask_vector::<HalfOpen, Range<u32>>(rt.alloc(), &Asked::OneHandedOver("0..5"))?;
+    lent_by_tree(rt.alloc(), lists, Lent::All(All::One), "0..5")?;
+    lent_by_tree(rt.alloc(), lists, Lent::In(3..6, In::One), "0..5")?;
+    ask_tree(rt.alloc(), &Asked::OneHandedOver("0..5"))
 }
 
 #[test]
 fn gaps_lie_between_the_ranges(rt: HostRuntime) -> Result<(), Fail> {
+    let lists = ("0..100, 200..300, 400..500", "");
+    let text = "((0, None), (Ok(Some(100..200)), Some(Ok(300..400))), (Ok(None), None))";
+    lent_by_vector::<HalfOpen, Range<u32>>(rt.alloc(), lists, Lent::In(0..500, In::TwoGaps), text)?;
+    lent_by_tree(rt.alloc(), lists, Lent::In(0..500, In::TwoGaps), text)?;
+    lent_by_chunks::<HalfOpen, Range<u32>>(rt.alloc(), lists, Lent::In(0..500, In::TwoGaps), text)?;
     let text = "((0, None), (Ok(Some(101..=199)), Some(Ok(301..=399))), (Ok(None), None))";
     lent_by_vector::<Closed<u32>, RangeInclusive<u32>>(
         rt.alloc(),
@@ -219,6 +219,8 @@ fn iterators_of_sets_in_chunks_stay_ended(rt: HostRuntime) -> Result<(), Fail> {
         let one = Lent::In(outer_range, In::OneGap);
         lent_by_chunks::<HalfOpen, Range<u32>>(rt.alloc(), lists, one, gap)?;
     }
+    lent_by_chunks::<HalfOpen, Range<u32>>(rt.alloc(), ("0..5", ""), Lent::All(All::One), "0..5")?;
+    ask_chunks::<HalfOpen, Range<u32>>(rt.alloc(), &Asked::OneHandedOver("0..5"))?;
     lent_by_chunks::<HalfOpen, Range<u32>>(
         rt.alloc(),
         ("0..5", "3..10"),

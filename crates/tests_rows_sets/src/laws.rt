@@ -14,12 +14,12 @@ use std::alloc::Global;
 use std::fmt::Debug;
 use std::ops::{Range, RangeInclusive};
 use std::test::Fail;
-use tests_support::{Word, check_made, check_text, set_of, three_lists};
+use tests_support::{Word, check_made, check_text, check_that, set_of, three_lists};
 
 /// Three sets, and the texts of what laws of theirs make. Semicolons stand between three texts.
 #[derive(Drop)]
 pub struct Laws<'t> {
-    /// The second set goes on where the first ends, and the third has keys of both.
+    /// The third set has keys in common with either of the others.
     pub sets: &'t str,
     /// The two sets of each law that gives two, for `|`.
     pub unions: &'t str,
@@ -29,7 +29,7 @@ pub struct Laws<'t> {
     pub first: &'t str,
 }
 
-// Three sets: the second goes on where the first ends, and the third has keys of both.
+// Three sets, of which the third has keys in common with either of the others.
 #[derive(Drop)]
 struct Three<'a, S> {
     first: &'a S,
@@ -75,6 +75,8 @@ where
     S::Kind: Kind<S::Range, Steps = <S::Range as KeyRange>::Key>,
     requires { KeysCloneFaithfully S.Range.Key.is_clone S.Range.Key.cmp }
 {
+    let is_other = operator.other() != operator && operator.other().other() == operator;
+    check_that(is_other, "the other operator is not the other")?;
     let (first, second) = sets;
     check_made(alloc, commutes(operator, first, second), text)?;
     let applied = operator.apply(first, second)?;
@@ -133,7 +135,7 @@ where
     requires { KeysCloneFaithfully S.Range.Key.is_clone S.Range.Key.cmp }
 {
     check_sides(alloc, Operator::Union, sets, sets, laws.unions)?;
-    // The first two have no key in common, so in `&` the third stands between them.
+    // The first two may have no key in common, so in `&` the third stands between them.
     let crossed = Three {
         first: sets.first,
         second: sets.third,

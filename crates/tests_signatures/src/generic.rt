@@ -53,8 +53,7 @@ pub use rangemap::laws::set_round_trips::{
     Functions as FunctionsOfSets, from_iter_of_into_iter_is_equal as from_iter_of_a_set_is_equal,
 };
 pub use rangemap::laws::sets::{
-    BothSides, Operator, absorbs, associates, closed_operations, commutes, distributes,
-    is_idempotent,
+    Operator, absorbs, associates, closed_operations, commutes, distributes, is_idempotent,
 };
 pub use rangemap::laws::texts::{
     ascii_text, set_texts_are_joined, signed_text, texts_are_joined, unsigned_set_text,

@@ -35,6 +35,7 @@ pub fn ask<'a, T: Ord + Clone, S: StepFns<T>, A: Allocator>(
     set.known();
     let _: bool = set.overlaps(range);
     let _: Iter<'a, T> = set.iter();
+    let _: Iter<'a, T> = set.into_iter();
     let _: Overlapping<'a, T> = set.overlapping(range);
     let _: Gaps<'a, T, S> = set.gaps(range);
     let _: Union<'a, T> = set.union(other);

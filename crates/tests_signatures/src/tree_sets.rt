@@ -30,6 +30,7 @@ pub fn ask<'a, T: Ord + Clone, A: Allocator + Clone>(
     set.known();
     let _: bool = set.overlaps(range);
     let _: Iter<'a, T> = set.iter();
+    let _: Iter<'a, T> = set.into_iter();
     let _: Overlapping<'a, T> = set.overlapping(range);
     let _: Gaps<'a, T> = set.gaps(range);
     let _: Union<'a, T> = set.union(other);

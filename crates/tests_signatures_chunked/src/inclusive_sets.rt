@@ -36,6 +36,7 @@ pub fn ask<'a, T: Ord + Clone, S: StepFns<T>>(
     set.known();
     let _: bool = set.overlaps(range);
     let _: InclusiveSetIter<'a, T> = set.iter();
+    let _: InclusiveSetIter<'a, T> = set.into_iter();
     let _: InclusiveSetOverlapping<'a, T> = set.overlapping(range);
     let _: InclusiveSetGaps<'a, T, S> = set.gaps(range);
     let _: InclusiveUnion<'a, T> = set.union(other);

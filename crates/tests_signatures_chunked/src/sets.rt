@@ -32,6 +32,7 @@ pub fn ask<'a, T: Ord + Clone>(
     set.known();
     let _: bool = set.overlaps(range);
     let _: SetIter<'a, T> = set.iter();
+    let _: SetIter<'a, T> = set.into_iter();
     let _: SetOverlapping<'a, T> = set.overlapping(range);
     let _: SetGaps<'a, T> = set.gaps(range);
     let _: Union<'a, T> = set.union(other);

@@ -9,7 +9,7 @@ use rangemap_core::key_range::KeyRange;
 use rangemap_core::store::StoreMut;
 use std::alloc::Global;
 use std::test::Fail;
-use tests_words::{Word, pair_of, range_of, read_change};
+use tests_row_text::{Word, pair_of, range_of, read_change};
 
 /// Makes the calls of a list, in order. A clone is let go.
 pub fn make<M: InRows>(map: &mut M, alloc: M::Alloc, calls: &str) -> Result<(), Fail>

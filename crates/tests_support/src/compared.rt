@@ -4,7 +4,7 @@ use crate::in_rows::InRows;
 use std::alloc::AllocError;
 use std::marker::PhantomData;
 use std::test::Fail;
-use tests_words::{
+use tests_row_text::{
     ReadsGaps, ReadsPairs, Word, check_that, first_word, is_range, last_item, take_item,
 };
 

@@ -5,7 +5,7 @@ use rangemap::map::Map;
 use rangemap::set::Set;
 use rangemap::{RangeInclusiveMap, RangeInclusiveSet, RangeMap, RangeSet, tree_map, tree_set};
 use rangemap_chunked::Chunks;
-use tests_words::{Costly, Heap, Text};
+use tests_row_text::{Costly, Heap, Text};
 
 /// A map whose chunks have up to `N` pairs.
 pub type ChunkedMap<Q, R, V, A, const N: usize> = Map<Chunks<Q, R, V, A, N>>;

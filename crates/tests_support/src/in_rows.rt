@@ -2,7 +2,7 @@
 ghost use Rattle.rangemap.specs.Clones.{KeysCloneFaithfully};
 
 use crate::containers::{ChunkedMap, ChunkedSet};
-use crate::told::{
+use crate::tell::{
     tell_all_pairs, tell_all_ranges, tell_gaps_of_map, tell_gaps_of_set, tell_overlapping_pairs,
     tell_overlapping_ranges,
 };
@@ -14,7 +14,7 @@ use rangemap_core::kind::Kind;
 use rangemap_sorted::SortedVec;
 use std::alloc::{AllocError, Allocator};
 use std::ops::Range;
-use tests_words::{FromEnds, ReadsGaps, ReadsPairs, Word};
+use tests_row_text::{FromEnds, ReadsGaps, ReadsPairs, Word};
 
 /// A container of which a text names the ranges and the values, and which tells what it holds, by its
 /// own iterators.

@@ -12,11 +12,11 @@ use rangemap_core::key_range::KeyRange;
 use rangemap_core::kind::Kind;
 use std::alloc::Allocator;
 use std::test::Fail;
-use tests_words::{Word, first_word, pair_of, place, ranges_of, read_change};
+use tests_row_text::{Word, first_word, pair_of, place, ranges_of, read_change};
 
 /// Makes the items that a text names, which the container takes one after another. An empty text
 /// names none.
-#[tactic(auto, using(tests_words::proofs::OneMore::all_and_one))]
+#[tactic(auto, using(tests_row_text::proofs::OneMore::all_and_one))]
 pub fn items_of<M: InRows + OwnCalls>(
     alloc: M::Alloc,
     items: &str,
@@ -34,7 +34,7 @@ pub fn items_of<M: InRows + OwnCalls>(
 }
 
 /// Makes the calls of a list on sets.
-#[tactic(auto, using(tests_words::proofs::OneMore::all_and_one))]
+#[tactic(auto, using(tests_row_text::proofs::OneMore::all_and_one))]
 pub fn set_calls_of<Q: Kind<R>, R: KeyRange<Key: Word<A>>, A: Allocator + Copy>(
     alloc: A,
     calls: &str,

@@ -1,4 +1,5 @@
-//! The workloads over two sets. The queries are the ranges of the second one.
+//! The workloads over one set or two. The queries are the ranges of the second, but for `members`,
+//! which looks for their starts.
 
 use super::{contents, digest_of, filled, put, standing};
 use crate::digest::{Mix, followed_by};

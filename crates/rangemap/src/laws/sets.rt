@@ -1,7 +1,8 @@
 //! The laws of `|` and `&`, of every set that has them.
 //!
 //! Each function is told which operator its law is to be of. It makes the operators that the law
-//! speaks of, and answers the sets that they make, which are equal.
+//! speaks of, and answers the sets that they make, which are equal: of two sides the left one and the
+//! right one.
 //!
 //! A contract speaks of the keys that a set has, not of how it was made: of `is_idempotent` and
 //! `absorbs` a clone of the first set would meet it, and of the others a clone of the other side.
@@ -21,9 +22,6 @@ use rangemap_core::store::StoreMut;
 pub use rangemap_unions::laws::closed_operations;
 use std::alloc::AllocError;
 
-/// Both sides of a law, left and right.
-pub type BothSides<M> = Result<(M, M), AllocError>;
-
 /// `a | b` equals `b | a`, and `a & b` equals `b & a`.
 ///
 /// # Errors
@@ -33,7 +31,7 @@ pub fn commutes<S: StoreMut<Value = ()> + Drop>(
     operator: Operator,
     first: &Set<S>,
     second: &Set<S>,
-) -> BothSides<Set<S>>
+) -> Result<(Set<S>, Set<S>), AllocError>
 where
     S::Alloc: Clone,
     S::Kind: Kind<S::Range, Steps = <S::Range as KeyRange>::Key>,
@@ -57,7 +55,7 @@ pub fn associates<S: StoreMut<Value = ()> + Drop>(
     first: &Set<S>,
     second: &Set<S>,
     third: &Set<S>,
-) -> BothSides<Set<S>>
+) -> Result<(Set<S>, Set<S>), AllocError>
 where
     S::Alloc: Clone,
     S::Kind: Kind<S::Range, Steps = <S::Range as KeyRange>::Key>,
@@ -128,7 +126,7 @@ pub fn distributes<S: StoreMut<Value = ()> + Drop>(
     first: &Set<S>,
     second: &Set<S>,
     third: &Set<S>,
-) -> BothSides<Set<S>>
+) -> Result<(Set<S>, Set<S>), AllocError>
 where
     S::Alloc: Clone,
     S::Kind: Kind<S::Range, Steps = <S::Range as KeyRange>::Key>,

@@ -13,8 +13,8 @@ ghost use Rattle.rangemap.specs.Texts.{plain_map, plain_set, quoted};
 use crate::inclusive_map::RangeInclusiveMap;
 use crate::map::RangeMap;
 use crate::set::RangeSet;
-use rangemap_core::std_ext::StepFns;
 pub use rangemap_laws::laws::texts::{set_texts_are_joined, texts_are_joined};
+use rangemap_steps::StepFns;
 use std::alloc::{AllocError, Global};
 
 /// Returns the debug text of a map of numbers to numbers, both without sign.

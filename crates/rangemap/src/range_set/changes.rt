@@ -20,8 +20,8 @@ impl<S: StoreMut<Value = ()>> Set<S> {
     ///
     /// # Errors
     ///
-    /// The growth of the set, or a clone of a key, was refused: then the set is as it was, and the
-    /// range is dropped.
+    /// The growth of the set, or a clone of a key or of the allocator, was refused, or the change might
+    /// leave more ranges than the store can count: then the set is as it was, and the range is dropped.
     ///
     /// # Examples
     ///
@@ -70,7 +70,7 @@ impl<S: StoreMut<Value = ()>> Set<S> {
         self.stored.remove(range)
     }
 
-    /// Takes every key out. It takes no memory; a vector keeps its own for later inserts.
+    /// Takes every key out. It takes no memory.
     pub fn clear(&mut self)
         ensures { self.new ≡ [] }
     {

@@ -21,15 +21,13 @@ where
 {
     /// Returns an equal set, made of clones, in memory of a clone of this one's allocator.
     ///
-    /// For each stored range it clones two keys, in a tree three.
-    ///
     /// # Requires
     ///
     /// A clone of a key compares equal to its original.
     ///
     /// # Errors
     ///
-    /// The memory of the list, or a clone of the allocator or of a key, was refused.
+    /// The memory of the copy, or a clone of the allocator or of a key, was refused.
     pub fn clone(&self) -> Result<Self, AllocError>
         requires faithful_keys { KeysCloneFaithfully S.Range.Key.is_clone S.Range.Key.cmp }
         ensures same { IfOk result (λ copy. same_ranges S.Kind.kind self.now copy ≡ true) }

@@ -5,8 +5,7 @@ use rangemap_core::key_range::KeyRange;
 use rangemap_core::kind::Kind;
 use rangemap_core::store::Store;
 use rangemap_formats::text::{RangeAlone, write};
-use std::fmt;
-use std::fmt::{Debug, Formatter};
+use std::fmt::{self, Debug, Formatter};
 
 impl<S: Store<Range: Debug, Value = ()>> Debug for Set<S>
 where

@@ -14,50 +14,56 @@ impl<M: Container> CallOn<M> for Change<M::Range, M::Value> {
 
     ghost step = { ChangeStep M.Kind.kind };
 
-    fn make(self, alloc: M::Alloc, maps: &mut Vec<M, M::Alloc>) -> bool {
+    fn make(self, alloc: M::Alloc, containers: &mut Vec<M, M::Alloc>) -> bool {
         match self {
-            Change::New => push_made(maps, Ok(M::new_with_step_fns(alloc))),
-            Change::Insert { at, range, value } => match maps.get_mut(at) {
-                Some(map) => map.insert(range, value).is_ok(),
+            Change::New => push_made(containers, Ok(M::new_with_step_fns(alloc))),
+            Change::Insert { at, range, value } => match containers.get_mut(at) {
+                Some(container) => container.insert(range, value).is_ok(),
                 None => false,
             },
             Change::Remove { at, range } => {
+                // That a removal which meets nothing is accepted is said here of keys that have no value, and
+                // of `remove` of stored ranges that do not overlap. The one follows from the other where
+                // the ends of the range are keys.
                 known_ends::<M::Kind, M::Range>(&range);
-                match maps.get_mut(at) {
-                    Some(map) => map.remove(range).is_ok(),
+                match containers.get_mut(at) {
+                    Some(container) => container.remove(range).is_ok(),
                     None => false,
                 }
             }
-            Change::Clear { at } => match maps.get_mut(at) {
-                Some(map) => {
-                    map.clear();
+            Change::Clear { at } => match containers.get_mut(at) {
+                Some(container) => {
+                    container.clear();
                     true
                 }
                 None => false,
             },
             Change::Clone { at } => {
-                let Some(map) = maps.get(at) else {
+                let Some(container) = containers.get(at) else {
                     return false;
                 };
-                let made = map.clone();
-                push_made(maps, made)
+                let made = container.clone();
+                push_made(containers, made)
             }
         }
     }
 }
 
 /// Pushes what was made, for which there is room. Returns whether it was made.
-pub fn push_made<M: Container>(maps: &mut Vec<M, M::Alloc>, made: Result<M, AllocError>) -> bool
-    requires room { vec_len maps.old < vec_capacity maps.old }
+pub fn push_made<M: Container>(
+    containers: &mut Vec<M, M::Alloc>,
+    made: Result<M, AllocError>,
+) -> bool
+    requires room { vec_len containers.old < vec_capacity containers.old }
     ensures answer { result ≡ is_ok made }
-    ensures ok { IfOk made (λ map. maps.new.items ≡ maps.old.items ++ map ∷ []) }
-    ensures err { OnErr made (maps.new.items ≡ maps.old.items) }
-    ensures len { vec_len maps.new ≤ vec_len maps.old + 1 }
-    ensures capacity { vec_capacity maps.old ≤ vec_capacity maps.new }
+    ensures ok { IfOk made (λ container. containers.new.items ≡ containers.old.items ++ container ∷ []) }
+    ensures err { OnErr made (containers.new.items ≡ containers.old.items) }
+    ensures len { vec_len containers.new ≤ vec_len containers.old + 1 }
+    ensures capacity { vec_capacity containers.old ≤ vec_capacity containers.new }
 {
-    let Ok(map) = made else {
+    let Ok(container) = made else {
         return false;
     };
-    maps.push_reserved(map);
+    containers.push_reserved(container);
     true
 }

@@ -12,7 +12,7 @@ impl<E: Display> Display for ReadError<E> {
     fn fmt<W: fmt::Write>(&self, f: &mut fmt::Formatter<W>) -> fmt::Result {
         match self {
             ReadError::NotAList => write!(f, "the value is not a list"),
-            ReadError::BadEntry { at } => write!(f, "entry {at} is laid out otherwise"),
+            ReadError::BadEntry { at } => write!(f, "entry {at} has the wrong layout"),
             ReadError::BadKey {
                 at,
                 part: Part::Start,

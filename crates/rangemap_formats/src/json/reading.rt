@@ -42,6 +42,11 @@ pub(crate) trait ReadsParts<S: Store, E> {
 /// Returns the store that a value of the JSON form stands for: the pairs that the reader reads of its
 /// entries, inserted in order.
 ///
+/// # Requires
+///
+/// The reader's functions may be called with any value, and a clone of a key or value compares equal to
+/// its original.
+///
 /// # Errors
 ///
 /// Entries are read in order. In an entry the order is shape, start, end, value, emptiness, and
@@ -72,7 +77,7 @@ pub fn read<S: StoreMut + Drop, E, R: ReadsParts<S, E>>(
     Ok(all)
 }
 
-// The pair of the entry at the place.
+// Reads the pair of the entry at the place. Its range is not empty.
 fn read_entry<S: Store, E, R: ReadsParts<S, E>>(
     at: usize,
     entry: &Value,
@@ -110,7 +115,7 @@ fn read_entry<S: Store, E, R: ReadsParts<S, E>>(
     Ok((range, value))
 }
 
-// Whether the form lets the pair stand behind the last that is stored.
+// Refuses the pair where the form doesn't let it stand behind the last that is stored.
 fn check_form<S: Store, E>(
     all: &S,
     form: Form,

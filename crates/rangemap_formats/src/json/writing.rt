@@ -36,6 +36,10 @@ pub(crate) trait WritesParts<S: Store, E>: Drop {
 /// Returns the JSON form of a store, the list of the entries of its pairs. The parts are written in the
 /// order start, end, value, pair by pair.
 ///
+/// # Requires
+///
+/// The writer's functions may be called with any key and any value.
+///
 /// # Errors
 ///
 /// `Caller` has what was answered where a part was refused, the first one refused. `OutOfMemory` says

@@ -24,8 +24,9 @@ impl<S: StoreMut> Map<S> {
     ///
     /// # Errors
     ///
-    /// The growth of the map, or a clone of a key or value, was refused: then the map is as it was,
-    /// and the range and the value are dropped.
+    /// The growth of the map, or a clone of a key, of a value or of the allocator, was refused, or the
+    /// change might leave more ranges than the store can count: then the map is as it was, and the range
+    /// and the value are dropped.
     ///
     /// # Examples
     ///
@@ -82,7 +83,7 @@ impl<S: StoreMut> Map<S> {
         self.stored.remove(range)
     }
 
-    /// Takes every key out. It takes no memory; a vector keeps its own for later inserts.
+    /// Takes every key out. It takes no memory.
     pub fn clear(&mut self)
         ensures { self.new ≡ [] }
     {

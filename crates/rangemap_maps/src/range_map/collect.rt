@@ -20,15 +20,13 @@ where
 {
     /// Returns an equal map, made of clones, in memory of a clone of this one's allocator.
     ///
-    /// For each stored range it clones two keys and a value, in a tree three keys.
-    ///
     /// # Requires
     ///
     /// A clone of a key or value compares equal to its original, which holds for std's types.
     ///
     /// # Errors
     ///
-    /// The memory of the list, or a clone of the allocator, of a key or of a value, was refused.
+    /// The memory of the copy, or a clone of the allocator, of a key or of a value, was refused.
     pub fn clone(&self) -> Result<Self, AllocError>
         requires faithful_keys { KeysCloneFaithfully S.Range.Key.is_clone S.Range.Key.cmp }
         requires faithful_values { ValuesCloneFaithfully S.Value.is_clone S.Value.eq }

@@ -97,8 +97,9 @@ where
         range: &S::Range,
         out: &mut Vec<(S::Range, S::Value), B>,
     ) -> Result<(), AllocError> {
-        self.known();
-        self.read_overlapping::<Appending<S::Kind, B>>(range, out)
+        self.stored.known();
+        self.stored
+            .read_overlapping::<Appending<S::Kind, B>>(range, out)
     }
 
     fn append_gaps<B: Allocator>(

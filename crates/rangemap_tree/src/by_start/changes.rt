@@ -7,6 +7,7 @@ ghost use Rattle.std.specs.declared.cmp.Ordering.TheVariants.{Equal, Less};
 ghost use Rattle.rangemap_tree.specs.Starts.{AreStarts, before, from, past, piece_list, recut, with_piece, without, without_all, IsCutThere, IsKeyed, IsNewAt, IsRecut};
 
 use super::ByStart;
+use crate::pieces::{Keyed, Remains};
 use std::alloc::{AllocError, Allocator};
 use std::collections::BTreeMap;
 use std::ops::Range;
@@ -79,7 +80,7 @@ impl<K: Ord + Drop, V: Drop, A: Allocator + Clone> ByStart<K, V, A> {
     }
 
     // Puts the piece in, if there is one.
-    fn put_piece(&mut self, piece: Option<(K, (Range<K>, V))>) -> Result<(), AllocError>
+    fn put_piece(&mut self, piece: Option<Keyed<K, V>>) -> Result<(), AllocError>
         requires { IsKeyed K.cmp piece }
         ensures ok { OnOk result (self.new ≡ with_piece K.cmp piece self.old) }
         ensures err { OnErr result (self.new ≡ self.old) }
@@ -91,9 +92,9 @@ impl<K: Ord + Drop, V: Drop, A: Allocator + Clone> ByStart<K, V, A> {
         self.put(key, range, value).map_err(|_| AllocError)
     }
 
-    /// Puts a pair in the place of those that start within its range, with what is left of the pair
-    /// before it, if that is cut, and what is left of the last of them, if that is. `key` is a
-    /// clone of where it starts, and `starts` are those of the pairs that go.
+    /// Puts a pair in the place of those that start within its range, with what `remains` of stored ones
+    /// in front of it and behind it. `key` is a clone of where it starts, and `starts` are those of the
+    /// others that go: one that starts where the range does gives its place up.
     ///
     /// # Errors
     ///
@@ -103,18 +104,18 @@ impl<K: Ord + Drop, V: Drop, A: Allocator + Clone> ByStart<K, V, A> {
         key: K,
         range: Range<K>,
         value: V,
-        cut: Option<Range<K>>,
-        piece: Option<(K, (Range<K>, V))>,
+        remains: Remains<K, V>,
         starts: &[K],
     ) -> Result<(), AllocError>
         requires key { K.cmp key range.start ≡ Equal }
         requires non_empty { K.cmp range.start range.end ≡ Less }
-        requires cut { IsCutThere K.cmp range.start cut self.old }
-        requires piece { IsNewAt K.cmp range.end piece self.old }
+        requires cut { IsCutThere K.cmp range.start remains.cut self.old }
+        requires piece { IsNewAt K.cmp range.end remains.piece self.old }
         requires starts { AreStarts K.cmp (filter (λ p. range_contains K.cmp (Excluded range.start) (Excluded range.end) p.0.start) self.old) starts.now }
-        ensures ok { OnOk result (self.new ≡ recut cut (before K.cmp range.start self.old) ++ (range, value) ∷ (piece_list piece ++ from K.cmp range.end self.old)) }
+        ensures ok { OnOk result (self.new ≡ recut remains.cut (before K.cmp range.start self.old) ++ (range, value) ∷ (piece_list remains.piece ++ from K.cmp range.end self.old)) }
         ensures err { OnErr result (self.new ≡ self.old) }
     {
+        let Remains { cut, piece } = remains;
         let has_piece = piece.is_some();
         self.put_piece(piece)?;
         if let Err(range) = self.put(key, range, value) {
@@ -129,29 +130,28 @@ impl<K: Ord + Drop, V: Drop, A: Allocator + Clone> ByStart<K, V, A> {
         Ok(())
     }
 
-    /// Takes out the pairs that start within the range, at `starts`, and puts what is left of the
-    /// pair before them in its place, if that is cut, and what is left of the last of them, if that
-    /// is. The contract alone reads `range`.
+    /// Takes out the pairs that start within a range, at `starts`, cuts the one before it and puts in what
+    /// is left behind it, as `remains` says. The contract alone reads `range`.
     ///
     /// # Errors
     ///
     /// As for `replace`. Where there is no piece to put in, it is not refused.
     pub fn erase(
         &mut self,
-        range: Range<K>,
-        cut: Option<Range<K>>,
-        piece: Option<(K, (Range<K>, V))>,
+        range: &Range<K>,
+        remains: Remains<K, V>,
         starts: &[K],
     ) -> Result<(), AllocError>
-        requires non_empty { K.cmp range.start range.end ≡ Less }
-        requires in_order { before K.cmp range.start self.old ++ from K.cmp range.start self.old ≡ self.old }
-        requires cut { IsCutThere K.cmp range.start cut self.old }
-        requires piece { IsNewAt K.cmp range.end piece self.old }
-        requires starts { AreStarts K.cmp (filter (λ p. range_contains K.cmp (Included range.start) (Excluded range.end) p.0.start) self.old) starts.now }
-        ensures ok { OnOk result (self.new ≡ recut cut (before K.cmp range.start self.old) ++ (piece_list piece ++ from K.cmp range.end self.old)) }
+        requires non_empty { K.cmp range.now.start range.now.end ≡ Less }
+        requires in_order { before K.cmp range.now.start self.old ++ from K.cmp range.now.start self.old ≡ self.old }
+        requires cut { IsCutThere K.cmp range.now.start remains.cut self.old }
+        requires piece { IsNewAt K.cmp range.now.end remains.piece self.old }
+        requires starts { AreStarts K.cmp (filter (λ p. range_contains K.cmp (Included range.now.start) (Excluded range.now.end) p.0.start) self.old) starts.now }
+        ensures ok { OnOk result (self.new ≡ recut remains.cut (before K.cmp range.now.start self.old) ++ (piece_list remains.piece ++ from K.cmp range.now.end self.old)) }
         ensures err { OnErr result (self.new ≡ self.old) }
-        ensures none_refused { piece ≡ NoneWord → IsOk result }
+        ensures none_refused { remains.piece ≡ NoneWord → IsOk result }
     {
+        let Remains { cut, piece } = remains;
         self.put_piece(piece)?;
         self.take_all(starts);
         self.recut(cut);

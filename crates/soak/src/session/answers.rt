@@ -1,14 +1,12 @@
 //! Calls that ask. Of those that take memory `gaps` alone is refused it here; appends are granted theirs.
 
-use crate::difference::Stop;
-use crate::model::{Ends, Lookup, Model};
-use crate::points::Piece;
 use crate::soaked::{Mark, PointRange, Soaked, Told};
 use rangemap_core::key_range::KeyRange;
+use soak_model::{Difference, Ends, Lookup, Model, Piece};
 use std::alloc::{AllocError, Global};
 
 /// `get`, `get_key_value` and `contains_key`, at the start of the range of one point
-pub fn get<S: Soaked>(subject: &S, model: &Model<'_>, point: u8) -> Result<bool, Stop> {
+pub fn get<S: Soaked>(subject: &S, model: &Model<'_>, point: u8) -> Result<bool, Difference> {
     let range = S::Range::from_points(subject.heap(), point, point)?;
     let key = range.start();
     let lookup = Lookup {
@@ -20,7 +18,7 @@ pub fn get<S: Soaked>(subject: &S, model: &Model<'_>, point: u8) -> Result<bool,
 }
 
 /// `first_range_value`, `last_range_value` and `is_empty`
-pub fn ends<S: Soaked>(subject: &S, model: &Model<'_>) -> Result<bool, Stop> {
+pub fn ends<S: Soaked>(subject: &S, model: &Model<'_>) -> Result<bool, Difference> {
     let ends = Ends {
         first: piece_of(subject.first_range_value()),
         last: piece_of(subject.last_range_value()),
@@ -35,7 +33,7 @@ pub fn overlapping<S: Soaked>(
     model: &Model<'_>,
     first: u8,
     last: u8,
-) -> Result<bool, Stop> {
+) -> Result<bool, Difference> {
     let query = S::Range::from_points(subject.heap(), first, last)?;
     let mut pairs = Vec::new(model.alloc);
     subject.append_overlapping(&query, &mut pairs)?;
@@ -49,7 +47,7 @@ pub fn gaps<S: Soaked>(
     model: &mut Model<'_>,
     first: u8,
     last: u8,
-) -> Result<bool, Stop> {
+) -> Result<bool, Difference> {
     let outer = S::Range::from_points(subject.heap(), first, last)?;
     let free = model.free(first, last)?;
     subject.ask_for_gaps(&outer, &free, &mut model.chance)

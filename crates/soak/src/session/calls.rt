@@ -1,12 +1,9 @@
 //! Calls that change the container, and calls that make another.
 
 use super::answers::{get, list};
-use crate::call::Change;
-use crate::difference::Stop;
-use crate::model::Model;
 use crate::pairs::{items, pair, range};
-use crate::points::{Points, Run};
 use crate::soaked::Soaked;
+use soak_model::{Change, Difference, Model, Points, Run};
 use std::alloc::AllocError;
 use tests_support::{extend_by, made_from};
 
@@ -15,7 +12,7 @@ pub fn change<S: Soaked>(
     subject: &mut S,
     model: &mut Model<'_>,
     change: &Change,
-) -> Result<bool, Stop> {
+) -> Result<bool, Difference> {
     let heap = subject.heap();
     let held = model.chance.heap.held();
     let is_accepted = match change {
@@ -43,7 +40,7 @@ pub fn change<S: Soaked>(
 }
 
 /// `clone`, the copy of which takes the container's place.
-pub fn copy<S: Soaked>(subject: &mut S, model: &mut Model<'_>) -> Result<bool, Stop> {
+pub fn copy<S: Soaked>(subject: &mut S, model: &mut Model<'_>) -> Result<bool, Difference> {
     let held = model.chance.heap.held();
     model.chance.refuse_one();
     let made = subject.clone();
@@ -60,7 +57,7 @@ pub fn collect<S: Soaked>(
     subject: &S,
     model: &mut Model<'_>,
     runs: &[Run; 3],
-) -> Result<bool, Stop> {
+) -> Result<bool, Difference> {
     let held = model.chance.heap.held();
     let items = items::<S>(subject.heap(), runs)?;
     model.chance.refuse_one();
@@ -74,7 +71,7 @@ pub fn combine<S: Soaked>(
     model: &mut Model<'_>,
     runs: &[Run; 3],
     is_union: bool,
-) -> Result<bool, Stop> {
+) -> Result<bool, Difference> {
     let items = items::<S>(subject.heap(), runs)?;
     let other = made_from::<S>(subject.heap(), items)?;
     let held = model.chance.heap.held();
@@ -98,7 +95,7 @@ fn check_made<S: Soaked>(
     by_changes: bool,
     points: &Points,
     held: u64,
-) -> Result<bool, Stop> {
+) -> Result<bool, Difference> {
     let is_refused = model.answer(made.is_ok(), by_changes, held)?;
     if let Ok(made) = made {
         let list = list(model.alloc, made)?;

@@ -1,12 +1,12 @@
 //! Runs on containers over each store, which is named here once for all keys and values.
 
 use super::{Report, Session, soak_map, soak_set};
-use crate::model::Model;
 use crate::soaked::{Heap, Mark, PointKey, PointRange};
 use rangemap_chunked::Chunks;
 use rangemap_core::kind::Kind;
 use rangemap_sorted::SortedVec;
 use rangemap_tree::Tree;
+use soak_model::Model;
 use std::marker::PhantomData;
 
 /// Maps over a store.

@@ -1,7 +1,7 @@
 //! Ranges of keys with steps, whose clones take memory.
 
 use super::{Heap, PointRange, Told};
-use crate::points::Piece;
+use soak_model::Piece;
 use std::alloc::AllocError;
 use std::ops::RangeInclusive;
 use tests_support::Costly;

@@ -1,9 +1,7 @@
 //! Gaps that are asked for one after another, each of which takes memory.
 
 use super::Told;
-use crate::chance::Chance;
-use crate::difference::{Difference, Stop, check};
-use crate::points::Piece;
+use soak_model::{Chance, Difference, Piece, check};
 use std::alloc::AllocError;
 use tests_support::Tries;
 
@@ -33,7 +31,7 @@ pub fn ask_for_gaps<R: Told, G: Tries<Range = R, Item = Result<R, AllocError>>>(
     mut gaps: G,
     pieces: &[Piece],
     chance: &mut Chance<'_>,
-) -> Result<bool, Stop>
+) -> Result<bool, Difference>
     requires { (it : G) → G.can_next it }
 {
     let by_next = !chance.is_heads();

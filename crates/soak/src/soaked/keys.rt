@@ -4,7 +4,7 @@ ghost use Rattle.std.specs.declared.cmp.Ordering.TheVariants.{Less};
 ghost use Rattle.rangemap.specs.Clones.{KeysCloneFaithfully};
 
 use super::{PointRange, Told};
-use crate::points::Piece;
+use soak_model::Piece;
 use std::alloc::AllocError;
 use std::ops::Range;
 

@@ -4,9 +4,6 @@ use super::boxed::Boxed;
 use super::gaps::ask_for_gaps;
 use super::keys::ToldKey;
 use super::{Heap, LendsGaps, Mark, PointRange, Soaked, Told};
-use crate::chance::Chance;
-use crate::difference::Stop;
-use crate::points::Piece;
 use rangemap::map::Map;
 use rangemap_chunked::Chunks;
 use rangemap_core::closed::Closed;
@@ -16,6 +13,7 @@ use rangemap_core::kind::Kind;
 use rangemap_core::store::{Lends, StoreMut};
 use rangemap_sorted::SortedVec;
 use rangemap_tree::Tree;
+use soak_model::{Chance, Difference, Piece};
 use std::alloc::AllocError;
 use std::ops::{Range, RangeInclusive};
 use tests_support::Costly;
@@ -64,7 +62,7 @@ where
         outer: &S::Range,
         pieces: &[Piece],
         chance: &mut Chance<'_>,
-    ) -> Result<bool, Stop> {
+    ) -> Result<bool, Difference> {
         self.ask_for_lent_gaps(outer, pieces, chance)
     }
 }
@@ -75,7 +73,7 @@ fn ask<'b, S: Lends<'b, Range: Told>>(
     outer: &'b S::Range,
     pieces: &[Piece],
     chance: &mut Chance<'_>,
-) -> Result<bool, Stop>
+) -> Result<bool, Difference>
 where
     S::Range: 'b,
     S::Value: 'b,
@@ -90,7 +88,7 @@ impl<'a, Q: Kind<R, Steps = R::Key>, R: Told, V: Eq + Clone> LendsGaps<R>
         outer: &R,
         pieces: &[Piece],
         chance: &mut Chance<'_>,
-    ) -> Result<bool, Stop> {
+    ) -> Result<bool, Difference> {
         ask(self, outer, pieces, chance)
     }
 }
@@ -101,7 +99,7 @@ impl<'a, K: ToldKey, V: Eq + Clone> LendsGaps<Range<K>> for Map<Tree<K, V, &'a H
         outer: &Range<K>,
         pieces: &[Piece],
         chance: &mut Chance<'_>,
-    ) -> Result<bool, Stop> {
+    ) -> Result<bool, Difference> {
         ask(self, outer, pieces, chance)
     }
 }
@@ -113,7 +111,7 @@ impl<'a, Q: Kind<R, Steps = R::Key>, R: Told, V: Eq + Clone, const N: usize> Len
         outer: &R,
         pieces: &[Piece],
         chance: &mut Chance<'_>,
-    ) -> Result<bool, Stop> {
+    ) -> Result<bool, Difference> {
         ask(self, outer, pieces, chance)
     }
 }

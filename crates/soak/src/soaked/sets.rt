@@ -5,9 +5,6 @@ use super::boxed::Boxed;
 use super::gaps::ask_for_gaps;
 use super::keys::ToldKey;
 use super::{Heap, LendsGaps, PointRange, Soaked, Told};
-use crate::chance::Chance;
-use crate::difference::Stop;
-use crate::points::Piece;
 use rangemap::set::Set;
 use rangemap_chunked::Chunks;
 use rangemap_core::closed::Closed;
@@ -17,6 +14,7 @@ use rangemap_core::kind::Kind;
 use rangemap_core::store::{Lends, StoreMut};
 use rangemap_sorted::SortedVec;
 use rangemap_tree::Tree;
+use soak_model::{Chance, Difference, Piece};
 use std::alloc::AllocError;
 use std::ops::{Range, RangeInclusive};
 use tests_support::Costly;
@@ -64,7 +62,7 @@ where
         outer: &S::Range,
         pieces: &[Piece],
         chance: &mut Chance<'_>,
-    ) -> Result<bool, Stop> {
+    ) -> Result<bool, Difference> {
         self.ask_for_lent_gaps(outer, pieces, chance)
     }
 }
@@ -89,7 +87,7 @@ fn ask<'b, S: Lends<'b, Range: Told, Value = ()>>(
     outer: &'b S::Range,
     pieces: &[Piece],
     chance: &mut Chance<'_>,
-) -> Result<bool, Stop>
+) -> Result<bool, Difference>
 where
     S::Range: 'b,
     S::Value: 'b,
@@ -103,7 +101,7 @@ impl<'a, Q: Kind<R, Steps = R::Key>, R: Told> LendsGaps<R> for Set<SortedVec<Q, 
         outer: &R,
         pieces: &[Piece],
         chance: &mut Chance<'_>,
-    ) -> Result<bool, Stop> {
+    ) -> Result<bool, Difference> {
         ask(self, outer, pieces, chance)
     }
 }
@@ -114,7 +112,7 @@ impl<'a, K: ToldKey> LendsGaps<Range<K>> for Set<Tree<K, (), &'a Heap>> {
         outer: &Range<K>,
         pieces: &[Piece],
         chance: &mut Chance<'_>,
-    ) -> Result<bool, Stop> {
+    ) -> Result<bool, Difference> {
         ask(self, outer, pieces, chance)
     }
 }
@@ -126,7 +124,7 @@ impl<'a, Q: Kind<R, Steps = R::Key>, R: Told, const N: usize> LendsGaps<R>
         outer: &R,
         pieces: &[Piece],
         chance: &mut Chance<'_>,
-    ) -> Result<bool, Stop> {
+    ) -> Result<bool, Difference> {
         ask(self, outer, pieces, chance)
     }
 }

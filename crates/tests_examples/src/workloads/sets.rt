@@ -1,8 +1,10 @@
-//! Each workload over two sets once: {0..10, 20..30} and {5..25}.
+//! Each workload over sets once: over {0..10, 20..30}, and {5..25} where there are two.
 
 use super::{ACROSS, FIRST, SECOND, TWO};
 use crate::same::assert_same;
-use bench_workloads::containers::{CHUNKED_SET, CLOSED_CHUNKED_SET, CLOSED_SET, SET};
+use bench_workloads::containers::{
+    CHUNKED_SET, CLOSED_CHUNKED, CLOSED_CHUNKED_SET, CLOSED_SET, SET,
+};
 use bench_workloads::digest::followed_by;
 use bench_workloads::dispatch::over_set;
 use bench_workloads::input::Query;
@@ -71,4 +73,19 @@ fn workloads_on_two_sets_answer(rt: HostRuntime) -> Result<(), Fail> {
 fn workloads_on_two_sets_in_chunks_answer(rt: HostRuntime) -> Result<(), Fail> {
     assert_two_sets(&rt, CHUNKED_SET)?;
     assert_two_sets(&rt, CLOSED_CHUNKED_SET)
+}
+
+// There is no set at the number of a map.
+#[test]
+fn the_number_of_a_map_names_no_set(rt: HostRuntime) -> Result<(), Fail> {
+    let answer = over_set(
+        SetWorkload::Contents,
+        rt.alloc(),
+        CLOSED_CHUNKED,
+        &TWO,
+        &[],
+        1,
+    );
+    assert_same(&rt, answer.is_err(), true);
+    Ok(())
 }

@@ -2,12 +2,12 @@
 
 use super::check_rows;
 use super::rows::{INCLUSIVE_MAPS, INCLUSIVE_SETS, MAPS, SETS};
-use crate::natives::{InChunks, SetsInChunks};
+use crate::special_calls::{InChunks, SetsInChunks};
 use rangemap_core::closed::Closed;
 use rangemap_core::half_open::HalfOpen;
 use std::ops::{Range, RangeInclusive};
 use std::test::Fail;
-use tests_requests::Heaps;
+use tests_refusal_checks::Heaps;
 use tests_support::{MANY, Refusing};
 
 // In chunks of up to four pairs none is cut where a row says that no block is added.

@@ -70,8 +70,8 @@ where
     check_text(alloc, &map.last_range_value(), "Some((990..995, 'c'))")
 }
 
-/// Compares which of equal values stay: the last one of those that are joined, in maps that an array
-/// makes, a list makes and a list extends.
+/// Compares which of equal values stay: the last one of those that are joined, in maps that `from`,
+/// `from_iter` and `extend` make of arrays.
 pub fn check_notes<S>(alloc: Global) -> Result<(), Fail>
 where
     S: StoreMut<Kind = HalfOpen, Range = Range<u32>, Value = Noted, Alloc = Global> + Drop,

@@ -19,7 +19,7 @@ pairs-init g c =
     let e = g.met.M.Value.Eq.laws in
     let eq = g.M.Value.PartialEq.eq in
     let q = c.args.query.now in
-    let xs = g.M.Container.pairs c.args.stored.now in
+    let xs = g.M.Container.pairs c.args.container.now in
     let all = c.insert_shared.new.map in
     let whole = segments_of k (value_at k xs) q in
     let begun : Alike k (option_eq eq) (clipped k q (overlapped k xs q) (value_at k all)) whole =
@@ -36,7 +36,7 @@ pub pairs-preserved : goal.pairs-preserved
 pairs-preserved g c =
     let k = g.M.Kind.Kind.kind in
     let q = c.args.query.now in
-    let whole = segments_of k (value_at k (g.M.Container.pairs c.args.stored.now)) q in
+    let whole = segments_of k (value_at k (g.M.Container.pairs c.args.container.now)) q in
     let a : g.row.M-Range.Denot × g.row.M-Value.Denot = (c.in-Some.range, c.in-Some.value) in
     let behind : List (g.row.M-Range.Denot × g.row.M-Value.Denot) = into_iter_items c.take_first.new.self in
     let taken : into_iter_items c.pairs.rest ≡ a ∷ behind = rw c.in-Some.is at c.take_first.ensures in
@@ -50,5 +50,5 @@ returns g c =
     let none : into_iter_items c.pairs.rest ≡ [] = (rw c.in_default.is at c.take_first.ensures).0 in
     record {
       canonical = c.known-2.ensures;
-      represents = subst (λ (rest : List (g.row.M-Range.Denot × g.row.M-Value.Denot)). Alike k (option_eq g.M.Value.PartialEq.eq) (clipped k q rest (value_at k c.pairs.all)) (segments_of k (value_at k (g.M.Container.pairs c.args.stored.now)) q)) none c.pairs.invariant;
+      represents = subst (λ (rest : List (g.row.M-Range.Denot × g.row.M-Value.Denot)). Alike k (option_eq g.M.Value.PartialEq.eq) (clipped k q rest (value_at k c.pairs.all)) (segments_of k (value_at k (g.M.Container.pairs c.args.container.now)) q)) none c.pairs.invariant;
     }

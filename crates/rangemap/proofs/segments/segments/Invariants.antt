@@ -10,7 +10,7 @@ use Rattle.rangemap.proofs.segments.segments.Given as goal
 abbrev pub invariant-pairs : goal.invariant-pairs
 invariant-pairs g l =
     let k = g.M.Kind.Kind.kind in
-    Alike k (option_eq g.M.Value.PartialEq.eq) (clipped k l.query (into_iter_items l.rest) (value_at k l.all)) (segments_of k (value_at k (g.M.Container.pairs l.stored)) l.query)
+    Alike k (option_eq g.M.Value.PartialEq.eq) (clipped k l.query (into_iter_items l.rest) (value_at k l.all)) (segments_of k (value_at k (g.M.Container.pairs l.container)) l.query)
 
 abbrev pub decreases-pairs : goal.decreases-pairs
 decreases-pairs g l = length (into_iter_items l.rest)

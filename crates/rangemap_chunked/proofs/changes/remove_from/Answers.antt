@@ -15,7 +15,7 @@ returns-then-may_overflow-clause-meets_nothing g c = λ none.
 pub returns-in_err-counts-clause-meets_nothing : goal.returns-in_err-counts-clause-meets_nothing
 returns-in_err-counts-clause-meets_nothing g c = λ none.
     let xs = c.args.chunks.now.items in
-    let at = c.start_of-at.result in
+    let at = c.first_met_chunk-at.result in
     let l : at < length xs = search rules in
     let alone = c.may_overflow.ensures.alone (subst (λ (ps : List (List (g.row.R.Denot × g.row.V.Denot))). overlapped g.Q.Kind.kind (whole ps) c.args.range ≡ []) (sym c.deref-3.ensures.value) none) in
     let here = none_in_chunk (λ (pair : g.row.R.Denot × g.row.V.Denot). g.Q.Kind.kind.meets c.args.range pair.0) xs at (get_or xs at []) l (get_or_default xs at [] (get_or xs at []) l) none in
@@ -24,7 +24,7 @@ returns-in_err-counts-clause-meets_nothing g c = λ none.
 pub returns-clause-meets_nothing : goal.returns-clause-meets_nothing
 returns-clause-meets_nothing g c = λ none.
     let xs = c.args.chunks.now.items in
-    let at = c.start_of-at.result in
+    let at = c.first_met_chunk-at.result in
     let l : at < length xs = search rules in
     let alone = c.may_overflow.ensures.alone (subst (λ (ps : List (List (g.row.R.Denot × g.row.V.Denot))). overlapped g.Q.Kind.kind (whole ps) c.args.range ≡ []) (sym c.deref-3.ensures.value) none) in
     let here = none_in_chunk (λ (pair : g.row.R.Denot × g.row.V.Denot). g.Q.Kind.kind.meets c.args.range pair.0) xs at (get_or xs at []) l (get_or_default xs at [] (get_or xs at []) l) none in
@@ -32,8 +32,8 @@ returns-clause-meets_nothing g c = λ none.
 
 pub change_over-requires-clause-begun : goal.change_over-requires-clause-begun
 change_over-requires-clause-begun g c = λ more.
-    subst (λ (ps : List (List (g.row.R.Denot × g.row.V.Denot))). AllWithin (λ (chunk : List (g.row.R.Denot × g.row.V.Denot)). chunk_by (S g.met.Q.Kind.placed g.V.PartialEq.eq) (g.Q.Kind.end_place c.args.range) chunk ≡ true) ps 0 c.end_from-end.result) c.deref-2.ensures.value
-    (λ k d l m. below_by (S g.met.Q.Kind.placed g.V.PartialEq.eq) (places g.met.Q.Kind.placed g.V.PartialEq.eq) (g.Q.Kind.end_place c.args.range) (get_or c.deref-2.result.now k d) (c.end_from-end.ensures.begun more k d l m))
+    subst (λ (ps : List (List (g.row.R.Denot × g.row.V.Denot))). AllWithin (λ (chunk : List (g.row.R.Denot × g.row.V.Denot)). chunk_by (S g.met.Q.Kind.placed g.V.PartialEq.eq) (g.Q.Kind.end_place c.args.range) chunk ≡ true) ps 0 c.met_chunks_end-end.result) c.deref-2.ensures.value
+    (λ k d l m. below_by (S g.met.Q.Kind.placed g.V.PartialEq.eq) (places g.met.Q.Kind.placed g.V.PartialEq.eq) (g.Q.Kind.end_place c.args.range) (get_or c.deref-2.result.now k d) (c.met_chunks_end-end.ensures.begun more k d l m))
 
 pub settle-requires-clause-before : goal.settle-requires-clause-before
 settle-requires-clause-before g c = c.in_ok-counts.ensures.filled.before
@@ -47,7 +47,7 @@ returns-clause-fits g c =
     elim (c.may_overflow.ensures.allowed c.if-may_overflow.false) [
       | inl less ↦ omega (arith, less, after, c.in_ok-counts.ensures.counted.sum, c.in_ok-counts.ensures.counted.growth, c.in_ok-counts.ensures.counted.some, c.requires.chunked.1)
       | inr t ↦
-          let here = subst (λ (ps : List (List (g.row.R.Denot × g.row.V.Denot))). overlapped g.Q.Kind.kind (get_or ps c.start_of-at.result []) c.args.range ≡ []) c.deref-3.ensures.value t.1 in
+          let here = subst (λ (ps : List (List (g.row.R.Denot × g.row.V.Denot))). overlapped g.Q.Kind.kind (get_or ps c.first_met_chunk-at.result []) c.args.range ≡ []) c.deref-3.ensures.value t.1 in
           let same = ap (λ (ps : List (List (g.row.R.Denot × g.row.V.Denot))). length (whole ps)) (c.in_ok-counts.ensures.meets_nothing refl t.0 here).1 in
           omega (arith, after, same, c.requires.chunked.1, c.ranges.len.fits)
     ]

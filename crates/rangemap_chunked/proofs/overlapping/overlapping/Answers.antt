@@ -1,4 +1,4 @@
-use Rattle.std.proofs.Common.{arith, ◌≡◌, ◌∙◌, ◌+◌, ◌-◌, ◌<◌, List, ◌++◌, [], Some, ap, append-nil, drop, false, get_or, is_gt, length, subst, suc, sym, take, true}
+use Rattle.std.proofs.Common.{arith, rules, ◌≡◌, ◌∙◌, ◌+◌, ◌-◌, ◌<◌, List, ◌++◌, [], Some, ap, append-nil, drop, false, get_or, is_gt, length, subst, suc, sym, take, true}
 use Rattle.std.specs.List.{take_while}
 use Rattle.std.specs.List.Sorted.{IsPartitionedBy}
 use Rattle.rangemap_core.specs.Ranges.{IsCanonical, overlapped}
@@ -17,8 +17,8 @@ overlapping_tail-first-requires g c =
     let k = g.Q.Kind.kind in
     let eq = g.V.PartialEq.eq in
     let chunks = c.args.chunks.now in
-    let here : c.start_of-at.result < length chunks = c.start_of-at.ensures.in_bounds (omega (arith, c.if-chunks-eq0.false)) in
-    subst (IsCanonical k eq) (sym (c.as_slice.ensures ∙ c.index-chunks-at.is)) (canonical_chunk k eq chunks c.requires.canonical c.start_of-at.result c.index-chunks-at.result here)
+    let here : c.first_met_chunk-at.result < length chunks = search rules in
+    subst (IsCanonical k eq) (sym (c.as_slice.ensures ∙ c.index-chunks-at.is)) (canonical_chunk k eq chunks c.requires.canonical c.first_met_chunk-at.result c.index-chunks-at.result here)
 
 pub take_begun-requires-2 : goal.take_begun-requires-2
 take_begun-requires-2 g c =
@@ -27,8 +27,8 @@ take_begun-requires-2 g c =
     let chunks = c.args.chunks.now in
     let query = c.args.query.now in
     let pairs = c.as_slice-2.result.now in
-    let there : c.end_from-end.result - 1 < length chunks = omega (arith, c.end_from-end.ensures.bound, c.end_from-end.ensures.behind) in
-    let canonical : IsCanonical k eq pairs = subst (IsCanonical k eq) (sym (c.as_slice-2.ensures ∙ c.index-chunks-last.is)) (canonical_chunk k eq chunks c.requires.canonical (c.end_from-end.result - 1) c.index-chunks-last.result there) in
+    let there : c.met_chunks_end-end.result - 1 < length chunks = omega (arith, c.met_chunks_end-end.ensures.bound, c.met_chunks_end-end.ensures.behind) in
+    let canonical : IsCanonical k eq pairs = subst (IsCanonical k eq) (sym (c.as_slice-2.ensures ∙ c.index-chunks-last.is)) (canonical_chunk k eq chunks c.requires.canonical (c.met_chunks_end-end.result - 1) c.index-chunks-last.result there) in
     subst (λ test. IsPartitionedBy test pairs) (begun_alike g.met.Q.Kind.reads g.R.KeyRange.has_end {V = g.row.V.Denot} query)
     (begun_first g.met.Q.Kind.placed eq g.met.Q.Kind.interval query pairs canonical)
 
@@ -37,13 +37,13 @@ returns-then-end-at g c =
     let k = g.Q.Kind.kind in
     let chunks = c.args.chunks.now in
     let query = c.args.query.now in
-    let at = c.start_of-at.result in
-    let end = c.end_from-end.result in
-    let here : at < length chunks = c.start_of-at.ensures.in_bounds (omega (arith, c.if-chunks-eq0.false)) in
+    let at = c.first_met_chunk-at.result in
+    let end = c.met_chunks_end-end.result in
+    let here : at < length chunks = search rules in
     let first = pairs_at chunks at here c.index-chunks-at.result c.as_slice.result.now c.as_slice.ensures c.index-chunks-at.is in
     c.between.ensures ∙ append-nil c.take_begun.result.now ∙ c.take_begun.ensures ∙ c.overlapping_tail-first.ensures.overlapped
     ∙ ap (λ (pairs : List (g.row.R.Denot × g.row.V.Denot)). overlapped k pairs query) first
-    ∙ sym (met_alone g.met.Q.Kind.placed g.met.V.Eq.laws query c.known_ends.ensures chunks c.requires at end here c.end_from-end.ensures.bound c.start_of-at.ensures.clear c.end_from-end.ensures.clear (omega (arith, c.if-end-at.true)))
+    ∙ sym (met_alone g.met.Q.Kind.placed g.met.V.Eq.laws query c.known_ends.ensures chunks c.requires at end here c.met_chunks_end-end.ensures.bound c.first_met_chunk-at.ensures.clear c.met_chunks_end-end.ensures.clear (omega (arith, c.if-end-at.true)))
 
 pub returns : goal.returns
 returns g c =
@@ -54,15 +54,15 @@ returns g c =
     let chunks = c.args.chunks.now in
     let query = c.args.query.now in
     let asked = c.known_ends.ensures in
-    let at = c.start_of-at.result in
-    let end = c.end_from-end.result in
-    let bound = c.end_from-end.ensures.bound in
-    let clear = c.start_of-at.ensures.clear in
-    let behind = c.end_from-end.ensures.clear in
-    let past = c.start_of-at.ensures.past in
+    let at = c.first_met_chunk-at.result in
+    let end = c.met_chunks_end-end.result in
+    let bound = c.met_chunks_end-end.ensures.bound in
+    let clear = c.first_met_chunk-at.ensures.clear in
+    let behind = c.met_chunks_end-end.ensures.clear in
+    let past = c.first_met_chunk-at.ensures.past in
     let more : at + 1 < end = omega (arith, c.if-end-at.false) in
-    let begun = c.end_from-end.ensures.begun more in
-    let here : at < length chunks = c.start_of-at.ensures.in_bounds (omega (arith, c.if-chunks-eq0.false)) in
+    let begun = c.met_chunks_end-end.ensures.begun more in
+    let here : at < length chunks = search rules in
     let there : end - 1 < length chunks = omega (arith, bound, more) in
     let is : end ≡ suc (end - 1) = omega (arith, more) in
     let tail = c.as_slice.result.now in

@@ -78,22 +78,22 @@ before_last lent xs at last n is counted = counted ∙ ap (λ ps. length (whole 
 fewer : (g : _) (c : goal.After-count g) → c.count.result + c.last_touched-place.result + 1 ≤ length (whole c.args.chunks.now.items)
 fewer g c =
     let xs = c.args.chunks.now.items in
-    let at = c.args.at in
-    let last = c.args.end - 1 in
-    let order = last_after at c.args.end c.if-end-at.false in
-    let l = last_within at c.args.end (length xs) c.if-end-at.false c.requires.end in
+    let at = c.args.places.start in
+    let last = c.args.places.end - 1 in
+    let order = last_after at c.args.places.end c.if-end-at.false in
+    let l = last_within at c.args.places.end (length xs) c.if-end-at.false c.requires.end in
     let place = c.last_touched-place.result in
     let found = touched (S g.met.Q.Kind.placed g.V.PartialEq.eq) c.args.range xs last c.index.result.now _ place l c.index.ensures c.last_touched-place.ensures in
     count_less xs at last order l place found.in_bounds c.count.result (before_last _ xs at last _ c.deref.ensures.value c.count.ensures)
 
 -- the chunks after the change
-over : (g : _) (c : goal.After-cut g) → IsOver c.args.chunks.now.items c.cut.new.list.items c.args.at (c.args.end - 1) c.change_with.new.self (drop (c.last_touched-place.result + 1) (get_or c.args.chunks.now.items (c.args.end - 1) []))
+over : (g : _) (c : goal.After-cut g) → IsOver c.args.chunks.now.items c.cut.new.list.items c.args.places.start (c.args.places.end - 1) c.change_with.new.self (drop (c.last_touched-place.result + 1) (get_or c.args.chunks.now.items (c.args.places.end - 1) []))
 over g c =
     let xs = c.args.chunks.now.items in
-    let at = c.args.at in
-    let last = c.args.end - 1 in
-    let order = last_after at c.args.end c.if-end-at.false in
-    let l = last_within at c.args.end (length xs) c.if-end-at.false c.requires.end in
+    let at = c.args.places.start in
+    let last = c.args.places.end - 1 in
+    let order = last_after at c.args.places.end c.if-end-at.false in
+    let l = last_within at c.args.places.end (length xs) c.if-end-at.false c.requires.end in
     let front = c.split_at_mut-front.result.0.now in
     let back = c.split_at_mut-front.result.1.now in
     let front_is = c.split_at_mut-front.ensures.front ∙ ap (take last) c.deref_mut.ensures.value in
@@ -109,19 +109,19 @@ over g c =
     ∙ ap (λ (ys : List (g.row.R.Denot × g.row.V.Denot)). set (set xs at new) last ys) left_is in
     let many = c.len-2.ensures ∙ ap length left_is in
     elim c.if-len-eq0.branch [
-      | then-len-eq0 w ↦ over_through xs at last order l new rest items c.cut.new.list.items items_is (sym many ∙ w.if-len-eq0.true) (c.cut.ensures ∙ ap (λ n. take (at + 1) items ++ drop n items) (w.kept_from-is ∙ past_last at c.args.end c.if-end-at.false))
+      | then-len-eq0 w ↦ over_through xs at last order l new rest items c.cut.new.list.items items_is (sym many ∙ w.if-len-eq0.true) (c.cut.ensures ∙ ap (λ n. take (at + 1) items ++ drop n items) (w.kept_from-is ∙ past_last at c.args.places.end c.if-end-at.false))
       | else-len-eq0 w ↦ over_up_to xs at last order l new rest items c.cut.new.list.items items_is (subst (λ n. 0 < n) many (positive c.len-2.result w.if-len-eq0.false)) (c.cut.ensures ∙ ap (λ n. take (at + 1) items ++ drop n items) w.kept_from-is)
     ]
 
 -- what the change of the first chunk makes, of its pairs and the one of the last that it reaches
 made : (g : _) (c : goal.After-cut g)
-    → IsChanged g.Q.Kind.kind g.V.PartialEq.eq (value_at g.Q.Kind.kind (get_or c.args.chunks.now.items c.args.at [] ++ take 1 (drop c.last_touched-place.result (get_or c.args.chunks.now.items (c.args.end - 1) [])))) c.args.range c.args.value c.change_with.new.self
+    → IsChanged g.Q.Kind.kind g.V.PartialEq.eq (value_at g.Q.Kind.kind (get_or c.args.chunks.now.items c.args.places.start [] ++ take 1 (drop c.last_touched-place.result (get_or c.args.chunks.now.items (c.args.places.end - 1) [])))) c.args.range c.args.value c.change_with.new.self
 made g c =
     let xs = c.args.chunks.now.items in
-    let at = c.args.at in
-    let last = c.args.end - 1 in
-    let order = last_after at c.args.end c.if-end-at.false in
-    let l = last_within at c.args.end (length xs) c.if-end-at.false c.requires.end in
+    let at = c.args.places.start in
+    let last = c.args.places.end - 1 in
+    let order = last_after at c.args.places.end c.if-end-at.false in
+    let l = last_within at c.args.places.end (length xs) c.if-end-at.false c.requires.end in
     let front = c.split_at_mut-front.result.0.now in
     let back = c.split_at_mut-front.result.1.now in
     let front_is = c.split_at_mut-front.ensures.front ∙ ap (take last) c.deref_mut.ensures.value in
@@ -132,13 +132,13 @@ made g c =
 
 -- the chunks where memory was refused
 kept : (g : _) (c : goal.After-from_residual-in_err-change_with g)
-    → take c.args.chunks.now.len (set c.split_at_mut-front.result.0.now c.args.at c.change_with.new.self ++ set c.split_at_mut-front.result.1.now 0 c.change_with.new.other ++ drop (length (set c.split_at_mut-front.result.0.now c.args.at c.change_with.new.self ++ set c.split_at_mut-front.result.1.now 0 c.change_with.new.other)) c.args.chunks.now.items) ≡ c.args.chunks.now.items
+    → take c.args.chunks.now.len (set c.split_at_mut-front.result.0.now c.args.places.start c.change_with.new.self ++ set c.split_at_mut-front.result.1.now 0 c.change_with.new.other ++ drop (length (set c.split_at_mut-front.result.0.now c.args.places.start c.change_with.new.self ++ set c.split_at_mut-front.result.1.now 0 c.change_with.new.other)) c.args.chunks.now.items) ≡ c.args.chunks.now.items
 kept g c =
     let xs = c.args.chunks.now.items in
-    let at = c.args.at in
-    let last = c.args.end - 1 in
-    let order = last_after at c.args.end c.if-end-at.false in
-    let l = last_within at c.args.end (length xs) c.if-end-at.false c.requires.end in
+    let at = c.args.places.start in
+    let last = c.args.places.end - 1 in
+    let order = last_after at c.args.places.end c.if-end-at.false in
+    let l = last_within at c.args.places.end (length xs) c.if-end-at.false c.requires.end in
     let front = c.split_at_mut-front.result.0.now in
     let back = c.split_at_mut-front.result.1.now in
     let front_is = c.split_at_mut-front.ensures.front ∙ ap (take last) c.deref_mut.ensures.value in
@@ -149,34 +149,34 @@ kept g c =
 
 pub offset_bounds-front-at : goal.offset_bounds-front-at
 offset_bounds-front-at g c =
-    let last = c.args.end - 1 in
-    let order : c.args.at < last = omega (arith, c.if-end-at.false) in
+    let last = c.args.places.end - 1 in
+    let order : c.args.places.start < last = omega (arith, c.if-end-at.false) in
     let l : last < length c.args.chunks.now.items = omega (arith, c.if-end-at.false, c.requires.end) in
     let same : length c.deref_mut.result.now ≡ length c.args.chunks.now.items = ap length c.deref_mut.ensures.value in
-    let bound : c.args.at < length c.split_at_mut-front.result.0.now = omega (arith, c.split_at_mut-front.ensures.front_len, same, order, l) in
+    let bound : c.args.places.start < length c.split_at_mut-front.result.0.now = omega (arith, c.split_at_mut-front.ensures.front_len, same, order, l) in
     search (rules, bound)
 
 pub last_touched-place-requires-clause-filled : goal.last_touched-place-requires-clause-filled
 last_touched-place-requires-clause-filled g c =
     let xs = c.args.chunks.now.items in
-    let l = last_within c.args.at c.args.end (length xs) c.if-end-at.false c.requires.end in
-    subst (λ (ys : List (g.row.R.Denot × g.row.V.Denot)). 0 < length ys) (sym c.index.ensures) (Every-at (λ (ys : List (g.row.R.Denot × g.row.V.Denot)). 0 < length ys) xs c.requires.chunked.filled (c.args.end - 1) c.index.result.now l)
+    let l = last_within c.args.places.start c.args.places.end (length xs) c.if-end-at.false c.requires.end in
+    subst (λ (ys : List (g.row.R.Denot × g.row.V.Denot)). 0 < length ys) (sym c.index.ensures) (Every-at (λ (ys : List (g.row.R.Denot × g.row.V.Denot)). 0 < length ys) xs c.requires.chunked.filled (c.args.places.end - 1) c.index.result.now l)
 
 pub last_touched-place-requires-clause-canonical : goal.last_touched-place-requires-clause-canonical
 last_touched-place-requires-clause-canonical g c =
     let xs = c.args.chunks.now.items in
     let k = g.Q.Kind.kind in
     let eq = g.V.PartialEq.eq in
-    let l = last_within c.args.at c.args.end (length xs) c.if-end-at.false c.requires.end in
-    subst (IsCanonical k eq) (sym c.index.ensures) (canonical_chunk k eq xs c.requires.chunked.canonical (c.args.end - 1) c.index.result.now l)
+    let l = last_within c.args.places.start c.args.places.end (length xs) c.if-end-at.false c.requires.end in
+    subst (IsCanonical k eq) (sym c.index.ensures) (canonical_chunk k eq xs c.requires.chunked.canonical (c.args.places.end - 1) c.index.result.now l)
 
 pub count-requires : goal.count-requires
 count-requires g c =
     let xs = c.args.chunks.now.items in
-    let at = c.args.at in
-    let last = c.args.end - 1 in
-    let order = last_after at c.args.end c.if-end-at.false in
-    let l = last_within at c.args.end (length xs) c.if-end-at.false c.requires.end in
+    let at = c.args.places.start in
+    let last = c.args.places.end - 1 in
+    let order = last_after at c.args.places.end c.if-end-at.false in
+    let l = last_within at c.args.places.end (length xs) c.if-end-at.false c.requires.end in
     let place = c.last_touched-place.result in
     let found = touched (S g.met.Q.Kind.placed g.V.PartialEq.eq) c.args.range xs last c.index.result.now _ place l c.index.ensures c.last_touched-place.ensures in
     fits _ _ place _ _ (before_last _ xs at last _ c.deref.ensures.value refl) (count_less xs at last order l place found.in_bounds _ refl) c.requires.fits
@@ -194,10 +194,10 @@ overflow_add-before-2 g c =
 pub change_with-requires-clause-in_bounds : goal.change_with-requires-clause-in_bounds
 change_with-requires-clause-in_bounds g c =
     let xs = c.args.chunks.now.items in
-    let at = c.args.at in
-    let last = c.args.end - 1 in
-    let order = last_after at c.args.end c.if-end-at.false in
-    let l = last_within at c.args.end (length xs) c.if-end-at.false c.requires.end in
+    let at = c.args.places.start in
+    let last = c.args.places.end - 1 in
+    let order = last_after at c.args.places.end c.if-end-at.false in
+    let l = last_within at c.args.places.end (length xs) c.if-end-at.false c.requires.end in
     let place = c.last_touched-place.result in
     let found = touched (S g.met.Q.Kind.placed g.V.PartialEq.eq) c.args.range xs last c.index.result.now _ place l c.index.ensures c.last_touched-place.ensures in
     let front = c.split_at_mut-front.result.0.now in
@@ -209,10 +209,10 @@ change_with-requires-clause-in_bounds g c =
 pub change_with-requires-clause-canonical : goal.change_with-requires-clause-canonical
 change_with-requires-clause-canonical g c =
     let xs = c.args.chunks.now.items in
-    let at = c.args.at in
-    let last = c.args.end - 1 in
-    let order = last_after at c.args.end c.if-end-at.false in
-    let l = last_within at c.args.end (length xs) c.if-end-at.false c.requires.end in
+    let at = c.args.places.start in
+    let last = c.args.places.end - 1 in
+    let order = last_after at c.args.places.end c.if-end-at.false in
+    let l = last_within at c.args.places.end (length xs) c.if-end-at.false c.requires.end in
     let place = c.last_touched-place.result in
     let found = touched (S g.met.Q.Kind.placed g.V.PartialEq.eq) c.args.range xs last c.index.result.now _ place l c.index.ensures c.last_touched-place.ensures in
     let stored : IsStorable g.Q.Kind.kind c.args.range = record { start_is_key = c.known_ends.ensures.start_is_key; end_is_key = c.known_ends.ensures.end_is_key; non_empty = c.requires.non_empty } in
@@ -231,16 +231,16 @@ returns-clause-in_bounds g c = (over g c).longer
 pub returns-clause-ok : goal.returns-clause-ok
 returns-clause-ok g c =
     let xs = c.args.chunks.now.items in
-    let at = c.args.at in
-    let last = c.args.end - 1 in
-    let order = last_after at c.args.end c.if-end-at.false in
-    let l = last_within at c.args.end (length xs) c.if-end-at.false c.requires.end in
+    let at = c.args.places.start in
+    let last = c.args.places.end - 1 in
+    let order = last_after at c.args.places.end c.if-end-at.false in
+    let l = last_within at c.args.places.end (length xs) c.if-end-at.false c.requires.end in
     let place = c.last_touched-place.result in
     let found = touched (S g.met.Q.Kind.placed g.V.PartialEq.eq) c.args.range xs last c.index.result.now _ place l c.index.ensures c.last_touched-place.ensures in
     let stored : IsStorable g.Q.Kind.kind c.args.range = record { start_is_key = c.known_ends.ensures.start_is_key; end_is_key = c.known_ends.ensures.end_is_key; non_empty = c.requires.non_empty } in
     let k = g.Q.Kind.kind in
     let eq = g.V.PartialEq.eq in
-    let next = behind_last at c.args.end c.if-end-at.false in
+    let next = behind_last at c.args.places.end c.if-end-at.false in
     subst (λ (ys : List (g.row.R.Denot × g.row.V.Denot)). IsChanged k eq (value_at k (whole xs)) c.args.range c.args.value ys) (sym (over g c).whole_is)
     (over_changed g.met.Q.Kind.placed g.met.V.Eq.laws xs c.requires.chunked c.args.range stored at last order l place found c.requires.past c.requires.before c.change_with.new.self c.args.value (made g c)
     (subst (λ n. IsPastBehind (S g.met.Q.Kind.placed eq) xs c.args.range n) next c.requires.behind)
@@ -249,10 +249,10 @@ returns-clause-ok g c =
 pub returns-clause-filled : goal.returns-clause-filled
 returns-clause-filled g c =
     let xs = c.args.chunks.now.items in
-    let at = c.args.at in
-    let last = c.args.end - 1 in
-    let order = last_after at c.args.end c.if-end-at.false in
-    let l = last_within at c.args.end (length xs) c.if-end-at.false c.requires.end in
+    let at = c.args.places.start in
+    let last = c.args.places.end - 1 in
+    let order = last_after at c.args.places.end c.if-end-at.false in
+    let l = last_within at c.args.places.end (length xs) c.if-end-at.false c.requires.end in
     let stored : IsStorable g.Q.Kind.kind c.args.range = record { start_is_key = c.known_ends.ensures.start_is_key; end_is_key = c.known_ends.ensures.end_is_key; non_empty = c.requires.non_empty } in
     let new = c.change_with.new.self in
     let rest = drop (c.last_touched-place.result + 1) (get_or xs last []) in
@@ -268,10 +268,10 @@ returns-clause-filled g c =
 pub returns-clause-counted : goal.returns-clause-counted
 returns-clause-counted g c =
     let xs = c.args.chunks.now.items in
-    let at = c.args.at in
-    let last = c.args.end - 1 in
-    let order = last_after at c.args.end c.if-end-at.false in
-    let l = last_within at c.args.end (length xs) c.if-end-at.false c.requires.end in
+    let at = c.args.places.start in
+    let last = c.args.places.end - 1 in
+    let order = last_after at c.args.places.end c.if-end-at.false in
+    let l = last_within at c.args.places.end (length xs) c.if-end-at.false c.requires.end in
     let place = c.last_touched-place.result in
     let found = touched (S g.met.Q.Kind.placed g.V.PartialEq.eq) c.args.range xs last c.index.result.now _ place l c.index.ensures c.last_touched-place.ensures in
     let front = c.split_at_mut-front.result.0.now in
@@ -293,84 +293,84 @@ pub returns-in_err-change_with-clause-err : goal.returns-in_err-change_with-clau
 returns-in_err-change_with-clause-err g c = on_err_where c.from_residual-in_err-change_with.result (kept g c)
 
 pub returns-in_err-change_with-clause-in_bounds : goal.returns-in_err-change_with-clause-in_bounds
-returns-in_err-change_with-clause-in_bounds g c = subst (λ n. c.args.at < n) (sym (ap length (kept g c))) c.requires.start
+returns-in_err-change_with-clause-in_bounds g c = subst (λ n. c.args.places.start < n) (sym (ap length (kept g c))) c.requires.start
 
 pub returns-in_err-change_with-clause-filled : goal.returns-in_err-change_with-clause-filled
-returns-in_err-change_with-clause-filled g c = subst (λ (ps : List (List (g.row.R.Denot × g.row.V.Denot))). AreFilledBut c.args.value c.args.at ps) (sym (kept g c)) (still_filled c.args.value c.args.at c.args.chunks.now.items c.requires.chunked.filled)
+returns-in_err-change_with-clause-filled g c = subst (λ (ps : List (List (g.row.R.Denot × g.row.V.Denot))). AreFilledBut c.args.value c.args.places.start ps) (sym (kept g c)) (still_filled c.args.value c.args.places.start c.args.chunks.now.items c.requires.chunked.filled)
 
 -- the chunk alone, where memory was refused
-unchanged : (g : _) (c : goal.After-from_residual g) → set c.args.chunks.now.items c.args.at c.change.new.self ≡ c.args.chunks.now.items
-unchanged g c = ap (λ (xs : List (g.row.R.Denot × g.row.V.Denot)). set c.args.chunks.now.items c.args.at xs) (c.in_err-change.ensures.err ∙ c.index_mut-chunk.ensures.value) ∙ set_same c.args.chunks.now.items c.args.at c.index_mut-chunk.result.now c.requires.start
+unchanged : (g : _) (c : goal.After-from_residual g) → set c.args.chunks.now.items c.args.places.start c.change.new.self ≡ c.args.chunks.now.items
+unchanged g c = ap (λ (xs : List (g.row.R.Denot × g.row.V.Denot)). set c.args.chunks.now.items c.args.places.start xs) (c.in_err-change.ensures.err ∙ c.index_mut-chunk.ensures.value) ∙ set_same c.args.chunks.now.items c.args.places.start c.index_mut-chunk.result.now c.requires.start
 
 pub returns-in_err-change-clause-err : goal.returns-in_err-change-clause-err
 returns-in_err-change-clause-err g c = on_err_where c.from_residual.result (unchanged g c)
 
 pub returns-in_err-change-clause-in_bounds : goal.returns-in_err-change-clause-in_bounds
-returns-in_err-change-clause-in_bounds g c = subst (λ n. c.args.at < n) (sym (ap length (unchanged g c))) c.requires.start
+returns-in_err-change-clause-in_bounds g c = subst (λ n. c.args.places.start < n) (sym (ap length (unchanged g c))) c.requires.start
 
 pub returns-in_err-change-clause-filled : goal.returns-in_err-change-clause-filled
-returns-in_err-change-clause-filled g c = subst (λ (ps : List (List (g.row.R.Denot × g.row.V.Denot))). AreFilledBut c.args.value c.args.at ps) (sym (unchanged g c)) (still_filled c.args.value c.args.at c.args.chunks.now.items c.requires.chunked.filled)
+returns-in_err-change-clause-filled g c = subst (λ (ps : List (List (g.row.R.Denot × g.row.V.Denot))). AreFilledBut c.args.value c.args.places.start ps) (sym (unchanged g c)) (still_filled c.args.value c.args.places.start c.args.chunks.now.items c.requires.chunked.filled)
 
 pub returns-then-end-at-clause-in_bounds : goal.returns-then-end-at-clause-in_bounds
-returns-then-end-at-clause-in_bounds g c = subst (λ n. c.args.at < n) (sym (set_length c.args.chunks.now.items c.args.at c.change.new.self)) c.requires.start
+returns-then-end-at-clause-in_bounds g c = subst (λ n. c.args.places.start < n) (sym (set_length c.args.chunks.now.items c.args.places.start c.change.new.self)) c.requires.start
 
 pub last_touched-place-requires-clause-begun : goal.last_touched-place-requires-clause-begun
 last_touched-place-requires-clause-begun g c =
     subst (λ (ys : List (g.row.R.Denot × g.row.V.Denot)). chunk_by (S g.met.Q.Kind.placed g.V.PartialEq.eq) (g.Q.Kind.end_place c.args.range) ys ≡ true) (sym c.index.ensures)
-    (c.requires.begun c.if-end-at.false (c.args.end - 1) c.index.result.now (from_none (c.args.end - 1)) (last_before_end c.args.at c.args.end c.if-end-at.false))
+    (c.requires.begun c.if-end-at.false (c.args.places.end - 1) c.index.result.now (from_none (c.args.places.end - 1)) (last_before_end c.args.places.start c.args.places.end c.if-end-at.false))
 
 pub cut-requires-clause-start_le_end : goal.cut-requires-clause-start_le_end
 cut-requires-clause-start_le_end g c = elim c.if-len-eq0.branch [
-  | then-len-eq0 w ↦ subst (λ n. c.args.at + 1 ≤ n) (sym w.kept_from-is) (up_to_end c.args.at c.args.end c.if-end-at.false)
-  | else-len-eq0 w ↦ subst (λ n. c.args.at + 1 ≤ n) (sym w.kept_from-is) (up_to_last c.args.at c.args.end c.if-end-at.false)
+  | then-len-eq0 w ↦ subst (λ n. c.args.places.start + 1 ≤ n) (sym w.kept_from-is) (up_to_end c.args.places.start c.args.places.end c.if-end-at.false)
+  | else-len-eq0 w ↦ subst (λ n. c.args.places.start + 1 ≤ n) (sym w.kept_from-is) (up_to_last c.args.places.start c.args.places.end c.if-end-at.false)
 ]
 
 pub cut-requires-clause-in_bounds : goal.cut-requires-clause-in_bounds
 cut-requires-clause-in_bounds g c =
     let all_is = sym (sym (ap length c.deref_mut.ensures.value) ∙ c.deref_mut.ensures.len) in
-    let fits = subst (λ n. c.args.end ≤ n) (sym all_is) c.requires.end in
+    let fits = subst (λ n. c.args.places.end ≤ n) (sym all_is) c.requires.end in
     elim c.if-len-eq0.branch [
       | then-len-eq0 w ↦ subst (λ n. n ≤ c.args.chunks.now.len) (sym w.kept_from-is) fits
-      | else-len-eq0 w ↦ subst (λ n. n ≤ c.args.chunks.now.len) (sym w.kept_from-is) (last_fits c.args.end c.args.chunks.now.len fits)
+      | else-len-eq0 w ↦ subst (λ n. n ≤ c.args.chunks.now.len) (sym w.kept_from-is) (last_fits c.args.places.end c.args.chunks.now.len fits)
     ]
 
 pub returns-then-end-at-clause-ok : goal.returns-then-end-at-clause-ok
 returns-then-end-at-clause-ok g c =
-    let behind = Every-further (λ (b : g.row.R.Denot × g.row.V.Denot). is_gt (place_cmp g.Q.Kind.kind.cmp (g.Q.Kind.end_place c.args.range) (Some (g.Q.Kind.kind.start b.0))) ≡ false) c.args.chunks.now.items c.args.end (c.args.at + 1) (omega (arith, c.if-end-at.true)) c.requires.behind in
-    let clear = if_some_weaker c.args.value (Every-further (λ (b : g.row.R.Denot × g.row.V.Denot). place_cmp g.Q.Kind.kind.cmp (g.Q.Kind.end_place c.args.range) (Some (g.Q.Kind.kind.start b.0)) ≡ Less) c.args.chunks.now.items c.args.end (c.args.at + 1) (omega (arith, c.if-end-at.true))) c.requires.clear in
+    let behind = Every-further (λ (b : g.row.R.Denot × g.row.V.Denot). is_gt (place_cmp g.Q.Kind.kind.cmp (g.Q.Kind.end_place c.args.range) (Some (g.Q.Kind.kind.start b.0))) ≡ false) c.args.chunks.now.items c.args.places.end (c.args.places.start + 1) (omega (arith, c.if-end-at.true)) c.requires.behind in
+    let clear = if_some_weaker c.args.value (Every-further (λ (b : g.row.R.Denot × g.row.V.Denot). place_cmp g.Q.Kind.kind.cmp (g.Q.Kind.end_place c.args.range) (Some (g.Q.Kind.kind.start b.0)) ≡ Less) c.args.chunks.now.items c.args.places.end (c.args.places.start + 1) (omega (arith, c.if-end-at.true))) c.requires.clear in
     let stored : IsStorable g.Q.Kind.kind c.args.range = record { start_is_key = c.known_ends.ensures.start_is_key; end_is_key = c.known_ends.ensures.end_is_key; non_empty = c.requires.non_empty } in
-    chunk_changed g.met.Q.Kind.placed g.met.V.Eq.laws c.args.chunks.now.items c.requires.chunked c.args.at c.requires.start c.index_mut-chunk.result.now c.change.new.self c.index_mut-chunk.ensures.value c.args.range stored c.requires.before c.args.value c.in_ok-change.ensures.ok behind clear
+    chunk_changed g.met.Q.Kind.placed g.met.V.Eq.laws c.args.chunks.now.items c.requires.chunked c.args.places.start c.requires.start c.index_mut-chunk.result.now c.change.new.self c.index_mut-chunk.ensures.value c.args.range stored c.requires.before c.args.value c.in_ok-change.ensures.ok behind clear
 
 pub returns-in_err-change-clause-meets_nothing : goal.returns-in_err-change-clause-meets_nothing
 returns-in_err-change-clause-meets_nothing g c = λ out alone none.
-    let here = ap (λ (xs : List (g.row.R.Denot × g.row.V.Denot)). overlapped g.Q.Kind.kind xs c.args.range) (c.index_mut-chunk.ensures.value ∙ get_or_default c.args.chunks.now.items c.args.at c.index_mut-chunk.result.now [] c.requires.start) ∙ none in
+    let here = ap (λ (xs : List (g.row.R.Denot × g.row.V.Denot)). overlapped g.Q.Kind.kind xs c.args.range) (c.index_mut-chunk.ensures.value ∙ get_or_default c.args.chunks.now.items c.args.places.start c.index_mut-chunk.result.now [] c.requires.start) ∙ none in
     absurd (true≢false (sym (c.in_err-change.ensures.meets_nothing out here).0))
 
 pub returns-then-end-at-clause-meets_nothing : goal.returns-then-end-at-clause-meets_nothing
 returns-then-end-at-clause-meets_nothing g c = λ out alone none.
-    let here = ap (λ (xs : List (g.row.R.Denot × g.row.V.Denot)). overlapped g.Q.Kind.kind xs c.args.range) (c.index_mut-chunk.ensures.value ∙ get_or_default c.args.chunks.now.items c.args.at c.index_mut-chunk.result.now [] c.requires.start) ∙ none in
+    let here = ap (λ (xs : List (g.row.R.Denot × g.row.V.Denot)). overlapped g.Q.Kind.kind xs c.args.range) (c.index_mut-chunk.ensures.value ∙ get_or_default c.args.chunks.now.items c.args.places.start c.index_mut-chunk.result.now [] c.requires.start) ∙ none in
     let same = c.in_ok-change.ensures.meets_nothing out here in
-    (same.0, ap (λ (xs : List (g.row.R.Denot × g.row.V.Denot)). set c.args.chunks.now.items c.args.at xs) (same.1 ∙ c.index_mut-chunk.ensures.value) ∙ set_same c.args.chunks.now.items c.args.at c.index_mut-chunk.result.now c.requires.start)
+    (same.0, ap (λ (xs : List (g.row.R.Denot × g.row.V.Denot)). set c.args.chunks.now.items c.args.places.start xs) (same.1 ∙ c.index_mut-chunk.ensures.value) ∙ set_same c.args.chunks.now.items c.args.places.start c.index_mut-chunk.result.now c.requires.start)
 
 pub change-requires-clause-canonical : goal.change-requires-clause-canonical
 change-requires-clause-canonical g c =
     let k = g.Q.Kind.kind in
     let eq = g.V.PartialEq.eq in
-    subst (IsCanonical k eq) (sym c.index_mut-chunk.ensures.value) (canonical_chunk k eq c.args.chunks.now.items c.requires.chunked.canonical c.args.at c.index_mut-chunk.result.now c.requires.start)
+    subst (IsCanonical k eq) (sym c.index_mut-chunk.ensures.value) (canonical_chunk k eq c.args.chunks.now.items c.requires.chunked.canonical c.args.places.start c.index_mut-chunk.result.now c.requires.start)
 
 pub returns-then-end-at-clause-filled : goal.returns-then-end-at-clause-filled
 returns-then-end-at-clause-filled g c =
     let stored : IsStorable g.Q.Kind.kind c.args.range = record { start_is_key = c.known_ends.ensures.start_is_key; end_is_key = c.known_ends.ensures.end_is_key; non_empty = c.requires.non_empty } in
     record {
-      all = if_some_weaker c.args.value (Every-set _ c.args.chunks.now.items c.args.at c.change.new.self c.requires.chunked.filled) (changed_fills g.met.Q.Kind.placed g.met.V.Eq.laws (value_at g.Q.Kind.kind c.index_mut-chunk.result.now) c.args.range c.args.value c.change.new.self stored c.in_ok-change.ensures.ok);
-      before = rw (take_set c.args.chunks.now.items c.args.at c.change.new.self) (Every-take_n _ c.args.at c.args.chunks.now.items c.requires.chunked.filled);
-      behind = rw (add-one c.args.at, drop_set c.args.chunks.now.items c.args.at c.change.new.self, ← add-one c.args.at) (Every-drop_n _ (c.args.at + 1) c.args.chunks.now.items c.requires.chunked.filled);
+      all = if_some_weaker c.args.value (Every-set _ c.args.chunks.now.items c.args.places.start c.change.new.self c.requires.chunked.filled) (changed_fills g.met.Q.Kind.placed g.met.V.Eq.laws (value_at g.Q.Kind.kind c.index_mut-chunk.result.now) c.args.range c.args.value c.change.new.self stored c.in_ok-change.ensures.ok);
+      before = rw (take_set c.args.chunks.now.items c.args.places.start c.change.new.self) (Every-take_n _ c.args.places.start c.args.chunks.now.items c.requires.chunked.filled);
+      behind = rw (add-one c.args.places.start, drop_set c.args.chunks.now.items c.args.places.start c.change.new.self, ← add-one c.args.places.start) (Every-drop_n _ (c.args.places.start + 1) c.args.chunks.now.items c.requires.chunked.filled);
     }
 
 pub returns-then-end-at-clause-counted : goal.returns-then-end-at-clause-counted
 returns-then-end-at-clause-counted g c =
-    let more = changed_length c.args.chunks.now.items c.args.at c.index_mut-chunk.result.now c.change.new.self c.requires.start c.index_mut-chunk.ensures.value in
-    let less = chunk_length c.args.chunks.now.items c.args.at c.index_mut-chunk.result.now c.requires.start c.index_mut-chunk.ensures.value in
+    let more = changed_length c.args.chunks.now.items c.args.places.start c.index_mut-chunk.result.now c.change.new.self c.requires.start c.index_mut-chunk.ensures.value in
+    let less = chunk_length c.args.chunks.now.items c.args.places.start c.index_mut-chunk.result.now c.requires.start c.index_mut-chunk.ensures.value in
     record {
       sum = omega (arith, more, c.len-before.ensures, c.len.ensures);
       some = omega (arith, less, c.len-before.ensures);
@@ -379,7 +379,7 @@ returns-then-end-at-clause-counted g c =
     }
 
 pub returns-clause-meets_nothing : goal.returns-clause-meets_nothing
-returns-clause-meets_nothing g c = λ out alone none. absurd (not_alone c.args.at c.args.end c.if-end-at.false alone)
+returns-clause-meets_nothing g c = λ out alone none. absurd (not_alone c.args.places.start c.args.places.end c.if-end-at.false alone)
 
 pub returns-in_err-change_with-clause-meets_nothing : goal.returns-in_err-change_with-clause-meets_nothing
-returns-in_err-change_with-clause-meets_nothing g c = λ out alone none. absurd (not_alone c.args.at c.args.end c.if-end-at.false alone)
+returns-in_err-change_with-clause-meets_nothing g c = λ out alone none. absurd (not_alone c.args.places.start c.args.places.end c.if-end-at.false alone)

@@ -11,7 +11,7 @@ pub loop-call-preserved : goal.loop-call-preserved
 loop-call-preserved g c =
     let before = c.loop-call.invariant in
     record {
-      made = rw (map-append (λ turn. turn.0) c.loop-call.yielded, c.push_reserved.ensures.items) (Run-last (Makes g.M.Kind.Kind.kind g.M.Value.PartialEq.eq g.M.Container.pairs g.C.CallOn.step) c.args.maps.now.items c.loop-call.maps.items c.make.new.maps.items _ c.loop-call.answers.items c.in-Some.call c.make.result before.made c.make.ensures.made);
+      made = rw (map-append (λ turn. turn.0) c.loop-call.yielded, c.push_reserved.ensures.items) (Run-last (Makes g.M.Kind.Kind.kind g.M.Value.PartialEq.eq g.M.Container.pairs g.C.CallOn.step) c.args.containers.now.items c.loop-call.containers.items c.make.new.containers.items _ c.loop-call.answers.items c.in-Some.call c.make.result before.made c.make.ensures.made);
       room = grind (arith, common_steps);
       answered = grind (arith, common_steps);
       room_for_answers = grind (arith, common_steps);
@@ -29,6 +29,6 @@ returns g c =
     let gives = c.into_iter-call-iterator.ensures.into_iter_gives in
     let same : into_iter_len (zip_first c.into_iter-call-iterator.result) ≡ into_iter_len (zip_second c.into_iter-call-iterator.result) = rw gives (ap into_iter_len zipped.first ∙ c.into_iter.ensures.len ∙ sym c.requires.allocators ∙ sym zipped.second.1) in
     let taken = all_of_first _ _ _ _ c.into_iter-call-iterator.result c.loop-call.yielded c.loop-call.call-iterator c.next.new.self same c.loop-call.yielded_by c.in-None.ensures.steps in
-    subst (λ calls. Run (Makes g.M.Kind.Kind.kind g.M.Value.PartialEq.eq g.M.Container.pairs g.C.CallOn.step) c.args.maps.now.items calls c.loop-call.answers.items c.loop-call.maps.items)
+    subst (λ calls. Run (Makes g.M.Kind.Kind.kind g.M.Value.PartialEq.eq g.M.Container.pairs g.C.CallOn.step) c.args.containers.now.items calls c.loop-call.answers.items c.loop-call.containers.items)
     (taken ∙ ap (λ it. into_iter_items (zip_first it)) gives ∙ ap into_iter_items zipped.first ∙ c.into_iter.ensures.rest)
     c.loop-call.invariant.made

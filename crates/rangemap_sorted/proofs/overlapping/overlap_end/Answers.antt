@@ -38,29 +38,12 @@ returns-then-is_before g c =
       later = λ i d l m. found.1.1 i d (omega (arith, l)) m;
     }
 
-pub returns-then-not-is_before : goal.returns-then-not-is_before
-returns-then-not-is_before g c =
-    let p = g.met.Q.Kind.placed in
-    let eq = g.V.PartialEq.eq in
-    let xs = c.args.pairs.now in
-    let at = c.on.at in
-    let here : at < length xs = omega arith in
-    let a = get_or xs at c.index-pairs-at.result in
-    let no : c.is_before-in-on.result ≡ false = cc (c.if-not-is_before.ensures, c.if-not-is_before.true) in
-    record {
-      start_le_end = c.on.invariant.from;
-      in_bounds = c.on.invariant.bound;
-      begun = c.on.invariant.begun;
-      later = fails_from (starts_within (S p eq) c.args.query.now) xs (starts_parted (S p eq) (places p eq) g.met.V.Eq.laws xs (to_spaced p eq _ c.requires.canonical) c.args.query.now)
-          at a here (λ d. get_or_default xs at d c.index-pairs-at.result here) (sym c.is_before-in-on.ensures ∙ no) at (omega arith);
-    }
-
 pub on-preserved : goal.on-preserved
 on-preserved g c =
     let xs = c.args.pairs.now in
     let at = c.on.at in
     let here : at < length xs = omega arith in
-    let yes : c.is_before-in-on.result ≡ true = cc (c.if-not-is_before.ensures, c.if-not-is_before.false) in
+    let yes : c.is_before-in-on.result ≡ true = c.if-is_before-2.true in
     record {
       from = omega (arith, c.on.invariant.from);
       bound = omega arith;
@@ -72,8 +55,24 @@ on-preserved g c =
       ];
     }
 
-pub returns : goal.returns
-returns g c = record {
+pub returns-else-is_before-2 : goal.returns-else-is_before-2
+returns-else-is_before-2 g c =
+    let p = g.met.Q.Kind.placed in
+    let eq = g.V.PartialEq.eq in
+    let xs = c.args.pairs.now in
+    let at = c.on.at in
+    let here : at < length xs = omega arith in
+    let a = get_or xs at c.index-pairs-at.result in
+    record {
+      start_le_end = c.on.invariant.from;
+      in_bounds = c.on.invariant.bound;
+      begun = c.on.invariant.begun;
+      later = fails_from (starts_within (S p eq) c.args.query.now) xs (starts_parted (S p eq) (places p eq) g.met.V.Eq.laws xs (to_spaced p eq _ c.requires.canonical) c.args.query.now)
+          at a here (λ d. get_or_default xs at d c.index-pairs-at.result here) (sym c.is_before-in-on.ensures ∙ c.if-is_before-2.false) at (omega arith);
+    }
+
+pub returns-after-on : goal.returns-after-on
+returns-after-on g c = record {
   start_le_end = c.on.invariant.from;
   in_bounds = c.on.invariant.bound;
   begun = c.on.invariant.begun;

@@ -6,8 +6,8 @@ use Rattle.rangemap_unions.proofs.ItemLemmas.{reaches_places}
 use Rattle.rangemap_unions.proofs.SideLemmas.{common_made, common_none, on_err_anyway}
 use Rattle.rangemap_unions.proofs.intersection.common_part.Goals as goal
 
-pub returns-then-reaches-clause-made : goal.returns-then-reaches-clause-made
-returns-then-reaches-clause-made g c =
+pub returns-in_ok-between-clause-made : goal.returns-in_ok-between-clause-made
+returns-in_ok-between-clause-made g c =
     let l = g.R.KeyRange.places in
     let left = c.args.left.now in
     let right = c.args.right.now in
@@ -17,10 +17,10 @@ returns-then-reaches-clause-made g c =
     let ends : last ≡ earlier_end l left right = search rules in
     let places = reaches_places g.met.R.KeyRange.interval g.met.R.KeyRange.has_places last first in
     let reached : reaches l last first ≡ true = search rules in
-    λ rest. common_made g.R.KeyRange.read l left right first last starts ends (both_reached g.met.R.KeyRange.has_places left right first last starts ends reached) rest c.between.result (c.between.ensures.made rest)
+    common_made g.R.KeyRange.read l left right first last starts ends (both_reached g.met.R.KeyRange.has_places left right first last starts ends reached) c.in_ok-between.field-0 c.in_ok-between.ensures.made
 
-pub returns-then-reaches-clause-refused : goal.returns-then-reaches-clause-refused
-returns-then-reaches-clause-refused g c =
+pub returns-in_err-between-clause-refused : goal.returns-in_err-between-clause-refused
+returns-in_err-between-clause-refused g c =
     let l = g.R.KeyRange.places in
     let left = c.args.left.now in
     let right = c.args.right.now in
@@ -30,7 +30,7 @@ returns-then-reaches-clause-refused g c =
     let ends : last ≡ earlier_end l left right = search rules in
     let places = reaches_places g.met.R.KeyRange.interval g.met.R.KeyRange.has_places last first in
     let reached : reaches l last first ≡ true = search rules in
-    on_err_anyway c.between.result (both_reached g.met.R.KeyRange.has_places left right first last starts ends reached)
+    on_err_anyway c.from_residual.result (both_reached g.met.R.KeyRange.has_places left right first last starts ends reached)
 
 pub returns-else-reaches-clause-made : goal.returns-else-reaches-clause-made
 returns-else-reaches-clause-made g c =

@@ -17,7 +17,7 @@ returns-clause-made g c =
     let second = c.in-Some-get.ensures.lookup in
     added_or_not (λ set. IsCanonOfPoints k (joined operator (covers k left) (covers k right)) set)
     (Makes k (unit_eq k) (with_unit k) (SetStep {A = g.row.S-Alloc.Denot} k) sets (joining operator c.args.left c.args.right))
-    sets c.push_made.new.maps.items c.apply-made.result c.push_made.result
+    sets c.push_made.new.containers.items c.apply-made.result c.push_made.result
     (λ set. joined_here k sets g.row.S-Alloc.Denot c.args.left c.args.right left right set
     (rw c.deref.ensures.value at first.3.0) (rw c.deref.ensures.value at first.1) (rw c.deref-2.ensures.value at second.3.0) (rw c.deref-2.ensures.value at second.1) operator)
     (not_joined k sets g.row.S-Alloc.Denot c.args.left c.args.right operator)

@@ -15,6 +15,10 @@ not_empty chunks rest chunk is filled none =
     let one : length chunk ≡ 0 = ap length none in
     omega (arith, some.0, one)
 
+of_chunk : {A X : Type 0} (shows : A → X) (chunks rest : List (List X)) (front chunk back left : List X) (result : Option A) → chunks ≡ chunk ∷ rest → AreFilled chunks → front ≡ [] → TakesFirst shows chunk result left → TakesFirst shows (front ++ (whole chunks ++ back)) result (left ++ (whole rest ++ back))
+of_chunk shows chunks rest front chunk back left None is filled none taken = absurd (not_empty chunks rest chunk is filled taken.0)
+of_chunk shows chunks rest front chunk back left (Some x) is filled none taken = first_whole chunks rest front chunk left back (shows x) is none taken
+
 -- the first of what is left at the back, where nothing else is
 alone : {A X : Type 0} (shows : A → X) (front begun middle back left : List X) (result : Option A) → front ≡ [] → begun ≡ [] → middle ≡ [] → TakesFirst shows back result left → TakesFirst shows (front ++ (middle ++ back)) result (begun ++ (middle ++ left))
 alone shows front begun middle back left None no_front no_begun no_middle taken = ((λ i. no_front i ++ (no_middle i ++ taken.0 i)), (λ i. no_begun i ++ (no_middle i ++ taken.1 i)))
@@ -29,11 +33,11 @@ returns-in-Some g c =
 
 pub returns-in-Some-split_first : goal.returns-in-Some-split_first
 returns-in-Some-split_first g c =
-    sym c.self.view_is ∙ first_whole c.self.inside.chunks.now c.in-Some-split_first.rest.now (iter_rest c.self.inside.front) c.in-Some-split_first.chunk.now (iter_rest c.take_first-in-Some-split_first.new.self) (iter_rest c.self.inside.back) (deref_pair c.in_ok-pair.pair) c.in-Some-split_first.ensures.cases.0 c.in_default.ensures.0 (sym (c.iter-self-inside.ensures.rest ∙ c.as_slice.ensures) ∙ c.in_ok-pair.ensures)
-
-pub returns-in_err-pair : goal.returns-in_err-pair
-returns-in_err-pair g c =
-    absurd (not_empty c.self.inside.chunks.now c.in-Some-split_first.rest.now c.in-Some-split_first.chunk.now c.in-Some-split_first.ensures.cases.0 c.self.invariant (sym (c.iter-self-inside.ensures.rest ∙ c.as_slice.ensures) ∙ c.in_err-pair.ensures.0))
+    let taken = c.take_first-in-Some-split_first in
+    let begun = c.iter-self-inside.ensures.rest ∙ c.as_slice.ensures in
+    subst (λ (all : List (g.row.R.Denot × g.row.V.Denot)). TakesFirst deref_pair all taken.result (iter_rest taken.new.self ++ (whole c.in-Some-split_first.rest.now ++ iter_rest c.self.inside.back))) c.self.view_is
+    (of_chunk deref_pair c.self.inside.chunks.now c.in-Some-split_first.rest.now (iter_rest c.self.inside.front) c.in-Some-split_first.chunk.now (iter_rest c.self.inside.back) (iter_rest taken.new.self) taken.result
+    c.in-Some-split_first.ensures.cases.0 c.self.invariant c.in_default.ensures.0 (subst (λ (xs : List (g.row.R.Denot × g.row.V.Denot)). TakesFirst deref_pair xs taken.result (iter_rest taken.new.self)) begun taken.ensures))
 
 pub returns : goal.returns
 returns g c =

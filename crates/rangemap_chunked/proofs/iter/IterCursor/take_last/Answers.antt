@@ -18,6 +18,10 @@ not_empty chunks rest chunk is filled none =
     let one : length chunk ≡ 0 = ap length none in
     omega (arith, some.0, one)
 
+of_chunk : {A X : Type 0} (shows : A → X) (chunks rest : List (List X)) (front chunk back left : List X) (result : Option A) → chunks ≡ rest ++ chunk ∷ [] → AreFilled chunks → back ≡ [] → TakesLast shows chunk result left → TakesLast shows (front ++ (whole chunks ++ back)) result (front ++ (whole rest ++ left))
+of_chunk shows chunks rest front chunk back left None is filled none taken = absurd (not_empty chunks rest chunk is filled taken.0)
+of_chunk shows chunks rest front chunk back left (Some x) is filled none taken = last_whole chunks rest chunk is front back left (shows x) none taken
+
 front_alone : {X : Type 0} (front middle back : List X) → middle ≡ [] → back ≡ [] → front ++ (middle ++ back) ≡ front
 front_alone front middle back no_middle no_back = (λ i. front ++ (no_middle i ++ no_back i)) ∙ append-nil front
 
@@ -36,11 +40,11 @@ returns-in-Some g c =
 
 pub returns-in-Some-split_last : goal.returns-in-Some-split_last
 returns-in-Some-split_last g c =
-    sym c.self.view_is ∙ last_whole c.self.inside.chunks.now c.in-Some-split_last.rest.now c.in-Some-split_last.chunk.now c.in-Some-split_last.ensures.cases.0 (iter_rest c.self.inside.front) (iter_rest c.self.inside.back) (iter_rest c.take_last-in-Some-split_last.new.self) (deref_pair c.in_ok-pair.pair) c.in_default.ensures.0 (sym (c.iter-self-inside.ensures.rest ∙ c.as_slice.ensures) ∙ c.in_ok-pair.ensures)
-
-pub returns-in_err-pair : goal.returns-in_err-pair
-returns-in_err-pair g c =
-    absurd (not_empty c.self.inside.chunks.now c.in-Some-split_last.rest.now c.in-Some-split_last.chunk.now c.in-Some-split_last.ensures.cases.0 c.self.invariant (sym (c.iter-self-inside.ensures.rest ∙ c.as_slice.ensures) ∙ c.in_err-pair.ensures.0))
+    let taken = c.take_last-in-Some-split_last in
+    let begun = c.iter-self-inside.ensures.rest ∙ c.as_slice.ensures in
+    subst (λ (all : List (g.row.R.Denot × g.row.V.Denot)). TakesLast deref_pair all taken.result (iter_rest c.self.inside.front ++ (whole c.in-Some-split_last.rest.now ++ iter_rest taken.new.self))) c.self.view_is
+    (of_chunk deref_pair c.self.inside.chunks.now c.in-Some-split_last.rest.now (iter_rest c.self.inside.front) c.in-Some-split_last.chunk.now (iter_rest c.self.inside.back) (iter_rest taken.new.self) taken.result
+    c.in-Some-split_last.ensures.cases.0 c.self.invariant c.in_default.ensures.0 (subst (λ (xs : List (g.row.R.Denot × g.row.V.Denot)). TakesLast deref_pair xs taken.result (iter_rest taken.new.self)) begun taken.ensures))
 
 pub returns : goal.returns
 returns g c =

@@ -17,21 +17,21 @@ compared g c =
 pub returns-then-is_ne : goal.returns-then-is_ne
 returns-then-is_ne g c =
     let cmp = pair_cmp g.Q.Kind.kind g.V.Ord.cmp in
-    let our = shown g.C.Cursor.given g.C.Cursor.given_value c.in-Some.our in
-    let their = shown g.C.Cursor.given g.C.Cursor.given_value c.in-Some-take_first.their in
-    let ours : g.C.Cursor.left c.pairs.ours ≡ our ∷ g.C.Cursor.left c.take_first.new.self = rw c.in-Some.is at c.take_first.ensures in
-    let theirs : g.C.Cursor.left c.pairs.theirs ≡ their ∷ g.C.Cursor.left c.take_first-in-Some.new.self = rw c.in-Some-take_first.is at c.take_first-in-Some.ensures in
-    let found : c.then_with-found.result ≡ cmp our their = compared g (goal.at.returns-then-is_ne g c).After-then_with-found ∙ (λ i. cmp (c.parts.ensures.range i, c.parts.ensures.value i) (c.parts-in-Some.ensures.range i, c.parts-in-Some.ensures.value i)) in
+    let left_pair = shown g.C.Cursor.given g.C.Cursor.given_value c.in-Some.left_pair in
+    let right_pair = shown g.C.Cursor.given g.C.Cursor.given_value c.in-Some-take_first.right_pair in
+    let lefts : g.C.Cursor.left c.pairs.left ≡ left_pair ∷ g.C.Cursor.left c.take_first.new.self = rw c.in-Some.is at c.take_first.ensures in
+    let rights : g.C.Cursor.left c.pairs.right ≡ right_pair ∷ g.C.Cursor.left c.take_first-in-Some.new.self = rw c.in-Some-take_first.is at c.take_first-in-Some.ensures in
+    let found : c.then_with-found.result ≡ cmp left_pair right_pair = compared g (goal.at.returns-then-is_ne g c).After-then_with-found ∙ (λ i. cmp (c.parts.ensures.range i, c.parts.ensures.value i) (c.parts-in-Some.ensures.range i, c.parts-in-Some.ensures.value i)) in
     let decided : is_ne c.then_with-found.result ≡ true = sym c.is_ne.ensures ∙ c.if-is_ne.true in
-    firsts_decide cmp (g.C.Cursor.left c.pairs.ours) (g.C.Cursor.left c.pairs.theirs) _ _ our their ours theirs c.then_with-found.result found decided ∙ c.pairs.invariant
+    firsts_decide cmp (g.C.Cursor.left c.pairs.left) (g.C.Cursor.left c.pairs.right) _ _ left_pair right_pair lefts rights c.then_with-found.result found decided ∙ c.pairs.invariant
 
 pub pairs-preserved : goal.pairs-preserved
 pairs-preserved g c =
     let cmp = pair_cmp g.Q.Kind.kind g.V.Ord.cmp in
-    let our = shown g.C.Cursor.given g.C.Cursor.given_value c.in-Some.our in
-    let their = shown g.C.Cursor.given g.C.Cursor.given_value c.in-Some-take_first.their in
-    let ours : g.C.Cursor.left c.pairs.ours ≡ our ∷ g.C.Cursor.left c.take_first.new.self = rw c.in-Some.is at c.take_first.ensures in
-    let theirs : g.C.Cursor.left c.pairs.theirs ≡ their ∷ g.C.Cursor.left c.take_first-in-Some.new.self = rw c.in-Some-take_first.is at c.take_first-in-Some.ensures in
-    let found : c.then_with-found.result ≡ cmp our their = compared g (goal.at.pairs-preserved g c).After-then_with-found ∙ (λ i. cmp (c.parts.ensures.range i, c.parts.ensures.value i) (c.parts-in-Some.ensures.range i, c.parts-in-Some.ensures.value i)) in
+    let left_pair = shown g.C.Cursor.given g.C.Cursor.given_value c.in-Some.left_pair in
+    let right_pair = shown g.C.Cursor.given g.C.Cursor.given_value c.in-Some-take_first.right_pair in
+    let lefts : g.C.Cursor.left c.pairs.left ≡ left_pair ∷ g.C.Cursor.left c.take_first.new.self = rw c.in-Some.is at c.take_first.ensures in
+    let rights : g.C.Cursor.left c.pairs.right ≡ right_pair ∷ g.C.Cursor.left c.take_first-in-Some.new.self = rw c.in-Some-take_first.is at c.take_first-in-Some.ensures in
+    let found : c.then_with-found.result ≡ cmp left_pair right_pair = compared g (goal.at.pairs-preserved g c).After-then_with-found ∙ (λ i. cmp (c.parts.ensures.range i, c.parts.ensures.value i) (c.parts-in-Some.ensures.range i, c.parts-in-Some.ensures.value i)) in
     let defers : is_ne c.then_with-found.result ≡ false = sym c.is_ne.ensures ∙ c.if-is_ne.false in
-    firsts_defer cmp (g.C.Cursor.left c.pairs.ours) (g.C.Cursor.left c.pairs.theirs) _ _ our their ours theirs c.then_with-found.result found defers ∙ c.pairs.invariant
+    firsts_defer cmp (g.C.Cursor.left c.pairs.left) (g.C.Cursor.left c.pairs.right) _ _ left_pair right_pair lefts rights c.then_with-found.result found defers ∙ c.pairs.invariant

@@ -4,7 +4,7 @@ use Rattle.rangemap_formats.proofs.compare.ComparedReaderOfBoth.read.Given as go
 
 -- what is left of both lies as all pairs do
 abbrev pub invariant-pairs : goal.invariant-pairs
-invariant-pairs g l = pairs_cmp g.Q.Kind.kind g.V.Ord.cmp (g.C.Cursor.left l.ours) (g.C.Cursor.left l.theirs) ≡ pairs_cmp g.Q.Kind.kind g.V.Ord.cmp (g.C.Cursor.left l.initial.ours) (g.C.Cursor.left l.initial.theirs)
+invariant-pairs g l = pairs_cmp g.Q.Kind.kind g.V.Ord.cmp (g.C.Cursor.left l.left) (g.C.Cursor.left l.right) ≡ pairs_cmp g.Q.Kind.kind g.V.Ord.cmp (g.C.Cursor.left l.fn.left) (g.C.Cursor.left l.fn.right)
 
 abbrev pub decreases-pairs : goal.decreases-pairs
-decreases-pairs g l = length (g.C.Cursor.left l.ours)
+decreases-pairs g l = length (g.C.Cursor.left l.left)

@@ -15,10 +15,10 @@ returns-in-Err-clause-err g c = elim c.if-has_piece.branch [
   | then-has_piece w ↦
       w.self-is ∙ w.take.ensures
       ∙ (λ i. without g.K.Ord.cmp (c.in-Err.ensures.given_back i).end ((c.in-Err.ensures.err ∙ c.in_ok-put_piece.ensures.ok) i))
-      ∙ undone_piece g.met.K.Ord.total c.args.range.end c.args.piece c.args.self.now c.requires.piece (sym c.is_some-has_piece.ensures ∙ w.if-has_piece.true)
+      ∙ undone_piece g.met.K.Ord.total c.args.range.end c.args.remains.piece c.args.self.now c.requires.piece (sym c.is_some-has_piece.ensures ∙ w.if-has_piece.true)
   | else-has_piece w ↦
       w.self-is ∙ c.in-Err.ensures.err ∙ c.in_ok-put_piece.ensures.ok
-      ∙ no_piece g.met.K.Ord.total c.args.piece c.args.self.now (sym c.is_some-has_piece.ensures ∙ w.if-has_piece.false)
+      ∙ no_piece g.met.K.Ord.total c.args.remains.piece c.args.self.now (sym c.is_some-has_piece.ensures ∙ w.if-has_piece.false)
 ]
 
 pub returns-clause-ok : goal.returns-clause-ok
@@ -30,11 +30,11 @@ returns-clause-ok g c =
     let old = c.args.self.now in
     let starts = c.args.starts.now in
     let m : Range g.row.K.Denot × g.row.V.Denot = (c.args.range, c.args.value) in
-    let with_it : List (Range g.row.K.Denot × g.row.V.Denot) = with_piece cmp c.args.piece old in
+    let with_it : List (Range g.row.K.Denot × g.row.V.Denot) = with_piece cmp c.args.remains.piece old in
     let within : g.row.K.Denot → Bool = λ x. range_contains cmp (Excluded s) (Excluded t) x in
-    let mid : c.take_all.new.self ≡ before cmp s old ++ m ∷ (piece_list c.args.piece ++ from cmp t old) =
+    let mid : c.take_all.new.self ≡ before cmp s old ++ m ∷ (piece_list c.args.remains.piece ++ from cmp t old) =
     c.take_all.ensures
     ∙ ap (without_all cmp starts) (c.in_default.ensures.ok ∙ (λ i. before cmp c.args.key (c.in_ok-put_piece.ensures.ok i) ++ m ∷ past cmp c.args.key (c.in_ok-put_piece.ensures.ok i)) ∙ (λ i. before_tied o c.args.key s c.requires.key with_it i ++ m ∷ past_tied o c.args.key s c.requires.key with_it i))
-    ∙ taken_within o within (tied_in_range o (Excluded s) (Excluded t)) old (before cmp s with_it ++ m ∷ past cmp s with_it) starts c.requires.starts (within_both o t c.args.piece old c.requires.piece s m (tied_itself o s))
-    ∙ replaced o s t c.requires.non_empty c.args.piece old c.requires.piece m (tied_itself o s) in
-    recut_is o s c.args.cut old c.take_all.new.self c.recut.new.self (m ∷ (piece_list c.args.piece ++ from cmp t old)) c.requires.cut mid c.recut.ensures
+    ∙ taken_within o within (tied_in_range o (Excluded s) (Excluded t)) old (before cmp s with_it ++ m ∷ past cmp s with_it) starts c.requires.starts (within_both o t c.args.remains.piece old c.requires.piece s m (tied_itself o s))
+    ∙ replaced o s t c.requires.non_empty c.args.remains.piece old c.requires.piece m (tied_itself o s) in
+    recut_is o s c.args.remains.cut old c.take_all.new.self c.recut.new.self (m ∷ (piece_list c.args.remains.piece ++ from cmp t old)) c.requires.cut mid c.recut.ensures

@@ -1,5 +1,5 @@
-use Rattle.std.proofs.Common.{◌≡◌, List, ◌∷◌, Option, ap, sym, subst, ◌∙◌, unwrap_or}
-use Rattle.rangemap_core.specs.MadeRanges.{TakesRange}
+use Rattle.std.proofs.Common.{◌≡◌, List, ◌∷◌, Option, Some, ap, refl, sym, subst, ◌∙◌, unwrap_or}
+use Rattle.rangemap_core.specs.MadeRanges.{IsSame, TakesRange}
 use Rattle.rangemap_core.specs.Ranges.{RangeKind}
 use Rattle.rangemap_core.specs.Sets.{ranges}
 use Rattle.rangemap_core.specs.Shown.{shown_range}
@@ -27,6 +27,7 @@ returns-in-Ok-clause-ok g c =
     let right = g.C.Cursor.left c.join.new.right in
     let rest = items_of l (merged l (ranges left) (ranges right)) in
     let item = l.between (target c.in-Some.first) (target (unwrap_or c.join.new.last c.in-Some.first)) in
-    taken g.C.Range.KeyRange.read _ (item ∷ rest) rest _ c.in-Ok.item (c.in-Some.ensures.begun ∙ c.join.ensures.same ∙ c.join.ensures.ended)
+    let made : IsSame g.C.Range.KeyRange.read item c.in-Ok.item = rw (c.parts.ensures.range, c.last_of.ensures) at c.in-Ok.ensures.made in
+    taken g.C.Range.KeyRange.read _ (item ∷ rest) rest _ (Some c.in-Ok.item) (c.in-Some.ensures.begun ∙ c.join.ensures.same ∙ c.join.ensures.ended)
     (ap (λ first. items_left l g.C.Cursor.given first c.begin.new.self.last left right) c.in-Some.ensures.none_begun)
-    (rw (c.parts.ensures.range, c.last_of.ensures) at (c.in-Ok.ensures.made rest))
+    (item, refl, made)

@@ -17,7 +17,7 @@ use Rattle.rangemap.proofs.range_set.calls.SetCallRangeAllocCallOnSet.make.Goals
 pub returns-in-New-clause-made : goal.returns-in-New-clause-made
 returns-in-New-clause-made g c =
     let k = g.S.Kind.Kind.kind in
-    let added : c.push_made.new.maps.items ≡ c.args.sets.now.items ++ c.new.result ∷ [] = c.push_made.ensures.ok in
+    let added : c.push_made.new.containers.items ≡ c.args.sets.now.items ++ c.new.result ∷ [] = c.push_made.ensures.ok in
     rw c.in-New.is (rw c.push_made.ensures.answer (rw added (new_made k (unit_equiv k) (with_unit k) c.args.sets.now.items c.new.result (ap (with_unit k) c.new.ensures))))
 
 pub from_iter-requires-clause-non_empty : goal.from_iter-requires-clause-non_empty
@@ -32,7 +32,7 @@ returns-in-FromIter-clause-made g c =
     rw c.in-FromIter.is (
     added_or_not (λ set. IsCanonOfPoints k (covers k given.items) set)
     (Makes k (unit_eq k) (with_unit k) (SetStep k) sets (FromIter given))
-    sets c.push_made-in-FromIter.new.maps.items c.from_iter.result c.push_made-in-FromIter.result
+    sets c.push_made-in-FromIter.new.containers.items c.from_iter.result c.push_made-in-FromIter.result
     (from_iter_made k sets given)
     (λ fs h. (fs, refl, h))
     (IfOk-weaker c.from_iter.result _ _ (λ set made. subst (λ rs. IsCanonOfPoints k (covers k rs) set) (All-taken made.0 made.1 made.3 ∙ made.2.0) made.4) c.from_iter.ensures)

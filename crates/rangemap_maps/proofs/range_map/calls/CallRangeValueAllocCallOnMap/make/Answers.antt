@@ -13,7 +13,7 @@ use Rattle.rangemap_maps.proofs.range_map.calls.CallRangeValueAllocCallOnMap.mak
 
 pub returns-in-Change-New-clause-made : goal.returns-in-Change-New-clause-made
 returns-in-Change-New-clause-made g c =
-    let added : c.push_made.new.maps.items ≡ c.args.maps.now.items ++ c.new.result ∷ [] = c.push_made.ensures.ok in
+    let added : c.push_made.new.containers.items ≡ c.args.maps.now.items ++ c.new.result ∷ [] = c.push_made.ensures.ok in
     rw c.in-Change-New.is (rw c.in-Change-New.field-0-is (rw c.push_made.ensures.answer (rw added (new_made g.S.Kind.Kind.kind g.met.S.Value.Eq.laws (λ map. map) c.args.maps.now.items c.new.result c.new.ensures))))
 
 pub from_iter-requires-clause-non_empty : goal.from_iter-requires-clause-non_empty
@@ -28,7 +28,7 @@ returns-in-FromIter-clause-made g c =
     rw c.in-FromIter.is (
     added_or_not (λ map. IsCanonOf k g.S.Value.PartialEq.eq (override_all k nothing pairs.items) map)
     (Makes k g.S.Value.PartialEq.eq (λ map. map) (Step k) maps (FromIter pairs))
-    maps c.push_made-in-FromIter.new.maps.items c.from_iter.result c.push_made-in-FromIter.result
+    maps c.push_made-in-FromIter.new.containers.items c.from_iter.result c.push_made-in-FromIter.result
     (from_iter_made k g.met.S.Value.Eq.laws maps pairs)
     (λ fs h. (fs, refl, h))
     (IfOk-weaker c.from_iter.result _ _ (λ map made. subst (λ ps. IsCanonOf k g.S.Value.PartialEq.eq (override_all k nothing ps) map) (All-taken made.0 made.1 made.3 ∙ made.2.0) made.4) c.from_iter.ensures)
