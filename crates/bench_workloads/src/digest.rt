@@ -1,56 +1,9 @@
 //! Numbers that tell what a map answers from other answers.
-ghost use Rattle.std.specs.Prelude.{◌<◌};
 
+use crate::keys::Keys;
 use crate::value::Stored;
 use std::alloc::AllocError;
-use std::ops::{Range, RangeInclusive};
-use tests_support::{FromEnds, ReadsGaps, ReadsPairs};
-
-/// A range of keys, told by its first key and the one behind its last.
-pub trait Keys: FromEnds<Key = u64> {
-    /// The range from its first key up to the one behind its last.
-    fn up_to(first: u64, behind: u64) -> Self
-        ensures non_empty { first < behind → Self.has_key result }
-        ensures not_exhausted { Self.is_fresh result };
-
-    fn first(&self) -> u64;
-
-    fn behind(&self) -> u64;
-}
-
-impl Keys for Range<u64> {
-    #[inline(always)]
-    fn up_to(first: u64, behind: u64) -> Range<u64> {
-        first..behind
-    }
-
-    #[inline(always)]
-    fn first(&self) -> u64 {
-        self.start
-    }
-
-    #[inline(always)]
-    fn behind(&self) -> u64 {
-        self.end
-    }
-}
-
-impl Keys for RangeInclusive<u64> {
-    #[inline(always)]
-    fn up_to(first: u64, behind: u64) -> RangeInclusive<u64> {
-        first..=behind.wrapping_sub(1)
-    }
-
-    #[inline(always)]
-    fn first(&self) -> u64 {
-        *self.start()
-    }
-
-    #[inline(always)]
-    fn behind(&self) -> u64 {
-        self.end().wrapping_add(1)
-    }
-}
+use tests_support::{ReadsGaps, ReadsPairs};
 
 // A number that tells the range and the value from others.
 #[inline(always)]

@@ -9,6 +9,7 @@ pub mod containers;
 pub mod digest;
 pub mod dispatch;
 pub mod input;
+pub mod keys;
 pub mod set_store;
 pub mod store;
 pub mod value;

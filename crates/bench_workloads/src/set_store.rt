@@ -1,6 +1,6 @@
 //! What the workloads ask of sets beside what they ask of every map.
 
-use crate::digest::Keys;
+use crate::keys::Keys;
 use crate::store::Store;
 use rangemap::set::Set;
 use rangemap_chunked::Chunks;

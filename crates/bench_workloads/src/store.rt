@@ -1,6 +1,6 @@
 //! The maps and sets that the workloads run over.
 
-use crate::digest::Keys;
+use crate::keys::Keys;
 use crate::value::Stored;
 use rangemap::{RangeInclusiveMap, RangeInclusiveSet, RangeMap, RangeSet, chunked, tree_map};
 use std::alloc::Global;

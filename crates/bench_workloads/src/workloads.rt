@@ -2,8 +2,9 @@
 //!
 //! None is inlined, so that what is timed is compiled by itself and not as a part of `run`.
 
-use crate::digest::{Digest, Keys, Mix, followed_by};
+use crate::digest::{Digest, Mix, followed_by};
 use crate::input::{Entry, Query};
+use crate::keys::Keys;
 use crate::store::Store;
 use crate::value::Stored;
 use std::alloc::{AllocError, Global};
@@ -122,6 +123,7 @@ pub fn lookups<S: Store>(
     Ok(digest)
 }
 
+// Returns the sum of the numbers of the values at the starts of the queries.
 fn values_sum<S: Store>(map: &S, queries: &[Query]) -> u64 {
     let mut sum = 0u64;
     for query in queries {
@@ -193,6 +195,7 @@ pub fn overlaps<S: Store>(
     Ok(digest)
 }
 
+// Returns the sum of the mixes of the pairs that each query overlaps.
 fn overlaps_sum<S: Store>(map: &S, queries: &[Query]) -> Result<u64, AllocError> {
     let mut sum = 0u64;
     for query in queries {
@@ -219,6 +222,7 @@ pub fn gaps<S: Store>(
     Ok(digest)
 }
 
+// Returns the sum of the mixes of the gaps in each query.
 fn gaps_sum<S: Store>(map: &S, queries: &[Query]) -> Result<u64, AllocError> {
     let mut sum = 0u64;
     for query in queries {

@@ -5,7 +5,7 @@ use Rattle.std.proofs.Math.Pow.{mod-mod-pow, pow_mono, split}
 use Rattle.std.proofs.lemmas.Bool.{cases_lt}
 use Rattle.std.proofs.lemmas.List.Elements.{All-head, All-tail}
 use Rattle.std.proofs.lemmas.Nat.{pow_pos}
-use Rattle.examples.specs.Cidr.{AreFewest, IsBlock, IsLargest, Tile, size_of}
+use Rattle.examples.specs.BlockList.{AreFewest, IsBlock, IsLargest, Tile, size_of}
 use Rattle.examples.specs.declared.block_list.Block.{Block}
 
 -- ---- sizes

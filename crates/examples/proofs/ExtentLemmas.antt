@@ -10,7 +10,7 @@ use Rattle.rangemap.proofs.NumberKinds.{closed_from, closed_holds, closed_to, un
 use Rattle.rangemap.proofs.NumberLemmas.{same_number}
 use Rattle.rangemap.proofs.PairLoopLemmas.{ComesFrom, IsStored}
 use Rattle.examples.proofs.RingLemmas.{same_on_ring}
-use Rattle.examples.specs.Places.{IsOneToOne, IsOutside, IsUsed, LiesOn, blocks, place_of}
+use Rattle.examples.specs.Extents.{IsOneToOne, IsOutside, IsUsed, LiesOn, blocks, place_of}
 
 module _ (old new : List (RangeInclusive ℕ × ℕ)) (r : RangeInclusive ℕ) where
   placed : (shift : ℕ) → IsCanonOf blocks nat_eq (override blocks (value_at blocks old) r shift) new → (x : ℕ) → x < 2 ^ 32 → place_of new x ≡ cond (blocks.holds r x) (Some ((x + shift) % 2 ^ 32)) (place_of old x)

@@ -5,7 +5,7 @@ use Rattle.std.specs.Ordering.{nat_cmp}
 use Rattle.std.specs.declared.ops.RangeInclusive.{RangeInclusive}
 use Rattle.std.specs.Range.{range_inclusive_start, range_inclusive_end}
 use Rattle.rangemap.specs.Ranges.{covers}
-use Rattle.examples.specs.Characters.{characters, is_word}
+use Rattle.examples.specs.CharClass.{characters, is_word}
 
 -- the range goes from the first character to the last
 abbrev pub IsFromTo : ℕ → ℕ → RangeInclusive ℕ → Type 0

@@ -1,8 +1,8 @@
-pub mod Blocks
-pub mod Characters
-pub mod Cidr
+pub mod BlockList
+pub mod CharClass
 pub mod Desk
-pub mod Duty
-pub mod Memory
-pub mod Numbers
-pub mod Places
+pub mod Extents
+pub mod MemoryMap
+pub mod Planner
+pub mod Received
+pub mod Rota

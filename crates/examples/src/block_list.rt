@@ -2,7 +2,7 @@
 ghost use Rattle.std.specs.Prelude.{◌≡◌, ◌-◌, ◌<◌, ◌≤◌, ◌^◌, ◌&&◌, ◌||◌, ℕ, [], All, IfOk, OnErr, OnOk, nat_le};
 ghost use Rattle.std.specs.Ordering.{nat_cmp};
 ghost use Rattle.rangemap.specs.Ranges.{closed, covers};
-ghost use Rattle.examples.specs.Cidr.{AreFewest, IsBlock, IsLargest, Tile};
+ghost use Rattle.examples.specs.BlockList.{AreFewest, IsBlock, IsLargest, Tile};
 
 use rangemap::RangeInclusiveSet;
 use std::alloc::{AllocError, Global};
@@ -76,7 +76,7 @@ impl Block {
 ///
 /// # Requires
 ///
-/// `start` is not behind `end`, and the last address is one.
+/// `start` is at most `end`, and `end` at most 2^32.
 ///
 /// # Errors
 ///

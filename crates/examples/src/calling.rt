@@ -1,5 +1,8 @@
 //! The snippets of README.md and docs/CALLING.md, whole, and a caller of each other lemma that the
 //! page names.
+//!
+//! Where a function answers a `Result`, it is `Err` where memory or a clone was refused. What a
+//! function asks of its caller, and what then holds, its clauses say.
 ghost use Rattle.std.specs.Prelude.{◌≡◌, ◌≢◌, ◌+◌, ◌<◌, ◌≤◌, ◌^◌, ◌&&◌, ◌||◌, ℕ, IfNone, IfOk, IfSome, OnErr, OnOk, map, nat_le, nat_lt, Some, None, false, true};
 ghost use Rattle.std.specs.Ordering.{nan_last_cmp, nat_cmp};
 ghost use Rattle.std.specs.String.{string_cmp};

@@ -2,7 +2,7 @@
 ghost use Rattle.std.specs.Prelude.{◌≡◌, not, ◌&&◌, ◌||◌, IfOk, true};
 ghost use Rattle.rangemap.specs.Ranges.{IsCanonOfPoints, same_ranges};
 ghost use Rattle.rangemap.specs.Sets.{AreNonEmptyRanges};
-ghost use Rattle.examples.specs.Characters.{characters, has, is_word};
+ghost use Rattle.examples.specs.CharClass.{characters, has, is_word};
 
 use rangemap::RangeInclusiveSet;
 use std::alloc::{AllocError, Global};

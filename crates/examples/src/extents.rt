@@ -1,6 +1,6 @@
 //! An extent table: on which physical block of a disk each logical block of a file lies.
 ghost use Rattle.std.specs.Prelude.{◌≡◌, ◌+◌, ◌-◌, ◌<◌, ◌≤◌, ◌^◌, ◌↔◌, ℕ, IfOk, IfSome, None, OnErr, OnOk, Some, false, true};
-ghost use Rattle.examples.specs.Places.{IsOneToOne, IsOutside, IsUsed, LiesOn, place_of};
+ghost use Rattle.examples.specs.Extents.{IsOneToOne, IsOutside, IsUsed, LiesOn, place_of};
 
 use rangemap::RangeInclusiveMap;
 use std::alloc::{AllocError, Global};

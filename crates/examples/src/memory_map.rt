@@ -1,6 +1,6 @@
 //! The memory of a process: which addresses are mapped, what may be done there, and what is free.
 ghost use Rattle.std.specs.Prelude.{◌≡◌, ◌+◌, ◌<◌, ◌≤◌, ◌↔◌, ℕ, [], IfNone, IfSome, IsTrue, OnErr, OnOk, Some};
-ghost use Rattle.examples.specs.Memory.{IsBoth, IsFree, IsLowestFree, IsShown, allows, answer_at, region_at};
+ghost use Rattle.examples.specs.MemoryMap.{IsBoth, IsFree, IsLowestFree, IsShown, allows, answer_at, region_at};
 
 use rangemap::chunked::RangeMap;
 use std::alloc::{AllocError, Global};

@@ -1,6 +1,6 @@
 //! Blocks of IPv4 addresses, and who holds them.
 ghost use Rattle.std.specs.Prelude.{◌≡◌, ◌+◌, ◌<◌, ◌≤◌, ◌^◌, ◌↔◌, ℕ, [], IfNone, IfOk, IfSome, OnErr, OnOk, Some, false, true};
-ghost use Rattle.examples.specs.Blocks.{IsFree, IsLowestFree, owner_of};
+ghost use Rattle.examples.specs.Planner.{IsFree, IsLowestFree, owner_of};
 
 use rangemap::RangeInclusiveMap;
 use std::alloc::{AllocError, Global};

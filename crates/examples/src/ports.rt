@@ -5,7 +5,7 @@ ghost use Rattle.rangemap.specs.StepLaws.{held_follows, held_precedes, nat_after
 
 use rangemap::StepLite;
 
-/// A port of TCP. Ranges of ports are closed, since the greatest is one, too; those that follow one
+/// A port of TCP. Ranges of ports are closed, since `u16::MAX` is a port too; those that follow one
 /// another become one.
 #[derive(Clone, Copy, Debug, PartialEq, Eq, PartialOrd, Ord)]
 pub struct Port(pub u16);

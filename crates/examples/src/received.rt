@@ -1,6 +1,6 @@
 //! Which sequence numbers were received, and what to acknowledge.
 ghost use Rattle.std.specs.Prelude.{◌≡◌, ◌≢◌, ◌+◌, ◌<◌, ◌≤◌, ◌^◌, ◌↔◌, ℕ, [], IfNone, IfOk, IfSome, OnErr, OnOk, false, true};
-ghost use Rattle.examples.specs.Numbers.{IsLowestMissing, is_in};
+ghost use Rattle.examples.specs.Received.{IsLowestMissing, is_in};
 
 use rangemap::RangeInclusiveSet;
 use std::alloc::{AllocError, Global};

@@ -1,6 +1,6 @@
 //! A rota: who is on duty at which hour.
 ghost use Rattle.std.specs.Prelude.{◌≡◌, ◌≢◌, ◌<◌, ◌≤◌, ◌⊎◌, ℕ, [], None, IfOk, OnErr, OnOk, Some, false, true};
-ghost use Rattle.examples.specs.Duty.{AreUncovered, IsSwapped, on_duty};
+ghost use Rattle.examples.specs.Rota.{AreUncovered, IsSwapped, on_duty};
 
 use rangemap::RangeMap;
 use rangemap::map::Gaps;

@@ -1,4 +1,5 @@
--- What an operator makes of two sets, which are the keys that they have, and which is the other one.
+-- Which keys the set has that an operator makes of two, which operator is the other one, and the call of a `replay` that makes an
+-- operator.
 use Rattle.std.specs.Prelude.{ℕ, Bool, ◌&&◌, ◌||◌}
 use Rattle.rangemap.specs.declared.range_set.operators.Operator.{Operator}
 use Rattle.rangemap.specs.declared.range_set.operators.Operator.TheVariants.{Union, Intersection}

@@ -27,8 +27,8 @@ module _ {K X A : Type 0} (k : RangeKind K X) where
   SetHasNonEmptyRanges (Union left right) = ⊤
   SetHasNonEmptyRanges (Intersection left right) = ⊤
 
-  -- What a call that every set has makes is what the map's call makes with the value that says nothing. Another takes ranges, or is
-  -- an operator.
+  -- A call that every container has makes what `Change` makes with the value that says nothing. The others take ranges, or are
+  -- operators.
   abbrev pub SetStep : List (K → Option ⊤) → SetCall X A → Bool → List (K → Option ⊤) → Type 0
   SetStep old New answer new = ChangeStep k old MakeEmpty answer new
   SetStep old (Insert at range) answer new = ChangeStep k old (InsertPair at range tt) answer new

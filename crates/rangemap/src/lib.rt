@@ -24,10 +24,10 @@
 //!
 //! # Containers
 //!
-//! | Container | Keys |
+//! | Container | Keys, and what keeps the ranges |
 //! |---|---|
 //! | `RangeMap`, `RangeSet` | any with an order, in half-open ranges `a..b`, in a sorted vector |
-//! | `RangeInclusiveMap`, `RangeInclusiveSet` | integers, `char`, and keys with steps of your own, in closed ranges `a..=b`, so that the greatest key has its place |
+//! | `RangeInclusiveMap`, `RangeInclusiveSet` | integers, `char`, and keys with steps of your own, in closed ranges `a..=b`, so that the greatest key has its place, in a sorted vector |
 //! | `chunked::RangeMap`, `chunked::RangeSet`, `chunked::RangeInclusiveMap`, `chunked::RangeInclusiveSet` | as those above, in many sorted vectors, for more than about a thousand ranges that change at random places |
 //! | `tree_map::RangeMap`, `tree_set::RangeSet` | as `RangeMap`, in a B-tree |
 //!

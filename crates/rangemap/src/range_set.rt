@@ -196,7 +196,8 @@ where
     /// of `outer_range`: one whose start lies behind its end has no gaps, nor has a half-open one
     /// whose start is its end. A closed one that was iterated counts by its two ends.
     ///
-    /// An item is made of clones when it is asked for, which may be refused.
+    /// An item is made when it is asked for, of clones or of steps from the neighbours; a clone may be
+    /// refused.
     ///
     /// # Examples
     ///

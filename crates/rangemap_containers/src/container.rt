@@ -31,7 +31,10 @@ pub use inserts::insert_pairs;
 /// speak of values or pairs make `contains`, `get`, `first` and `last`. So code that is generic over
 /// containers, as the replay and the laws, is proved of the calls that users make. The appends give
 /// clones of what `iter`, `overlapping` and `gaps` lend or make.
-pub trait Container: PartialEq + Drop {
+///
+/// `Drop` is no bound of it, as of no store: what only borrows a container needs none, and what owns
+/// one asks for `Container + Drop`.
+pub trait Container: PartialEq {
     /// A stored range.
     type Range: KeyRange;
 

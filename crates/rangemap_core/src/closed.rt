@@ -112,7 +112,7 @@ impl<K: Ord + Clone, StepFnsT: StepFns<K>> Kind<RangeInclusive<K>> for Closed<St
     }
 }
 
-// Does nothing, and tells that the ends of the endpoint's range are keys.
+// Does nothing at run time; its contract tells the check that the ends of the endpoint's range are keys.
 fn known_at<K: Ord + Clone, StepFnsT: StepFns<K>>(endpoint: Endpoint<'_, RangeInclusive<K>>)
     ensures { IsAskedAt (closed StepFnsT.is_key K.cmp) (endpoint_of endpoint.entry) }
 {

@@ -60,7 +60,7 @@ impl<'a, Q: Kind<R>, R: KeyRange + 'a, C: LentCursor<'a, R, GivenValue: Drop>> G
         }
     }
 
-    /// Returns the next gap, made of clones.
+    /// Returns the next gap, made of clones, or of steps from the neighbours.
     ///
     /// # Requires
     ///
@@ -110,7 +110,7 @@ impl<'a, Q: Kind<R>, R: KeyRange + 'a, C: LentCursor<'a, R, GivenValue: Drop>> I
 
     ghost remaining = { λ s. at_most (length s) };
 
-    /// Returns the next gap, made of clones. Where a clone was refused, which those of numbers,
+    /// Returns the next gap, as `try_next` makes it. Where a clone was refused, which those of numbers,
     /// characters and references never are, it says so once, as `Some(Err(AllocError))`, and has
     /// ended then.
     fn next(&mut self) -> Option<Result<R, AllocError>> {

@@ -58,7 +58,7 @@ pub trait Kind<R: KeyRange> {
     /// The range from one endpoint up to another.
     ghost part_of: { EndpointOf R → EndpointOf R → R };
 
-    /// Does nothing, and tells that a value at hand is a key.
+    /// Does nothing at run time; its contract tells the check that a value at hand is a key.
     fn known(key: &R::Key)
         ensures { kind.is_key key.now };
 
@@ -71,7 +71,8 @@ pub trait Kind<R: KeyRange> {
     fn is_before(from: Endpoint<'_, R>, to: Endpoint<'_, R>) -> bool
         ensures { result ≡ is_before kind end_place (endpoint_of from.entry) (endpoint_of to.entry) };
 
-    /// Returns that part, which has a key, made of clones.
+    /// Returns that part, which has a key. Each end is a clone of a key, or of closed ranges where the
+    /// neighbour starts or ends a step from it.
     ///
     /// # Requires
     ///
@@ -115,7 +116,7 @@ pub trait Kind<R: KeyRange> {
     ghost non_empty_stepped: { (range : R) → R.read.IsNonEmpty range → kind.IsNonEmpty range };
 }
 
-/// Does nothing, and tells that the ends of a range at hand are keys.
+/// Does nothing at run time; its contract tells the check that the ends of a range at hand are keys.
 pub fn known_ends<Q: Kind<R>, R: KeyRange>(range: &R)
     ensures { IsAsked Q.kind range.now }
 {
@@ -123,7 +124,7 @@ pub fn known_ends<Q: Kind<R>, R: KeyRange>(range: &R)
     Q::known(range.end());
 }
 
-/// Returns the part from one endpoint up to another, made of clones, if it has a key.
+/// Returns the part from one endpoint up to another, if it has a key, as `Kind::part` makes it.
 ///
 /// # Requires
 ///

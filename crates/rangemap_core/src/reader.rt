@@ -35,8 +35,8 @@ pub trait Reader<R: KeyRange, V> {
         ensures { reads (C.left pairs) state.old result state.new };
 }
 
-/// What reads the pairs of two stores side by side (`Store::read_both`): equality, order, unions and
-/// intersections.
+/// What reads the pairs of two stores side by side (`Store::read_both`): equality, order, `|` and
+/// `&` of sets.
 pub trait ReaderOfBoth<R: KeyRange, V> {
     /// What it changes.
     type State;

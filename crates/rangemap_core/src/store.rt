@@ -36,7 +36,7 @@ pub trait Store {
     /// The stored pairs, in order.
     ghost pairs: { Self → List (Self.Range × Self.Value) };
 
-    /// Does nothing, and tells that the list is canonical.
+    /// Does nothing at run time; its contract tells the check that the list is canonical.
     fn known(&self)
         ensures { IsCanonical Self.Kind.kind Self.Value.eq (pairs self.now) };
 

@@ -42,15 +42,16 @@ map_entry v start end value = (range : Value) × (list_of v ≡ Some (range ∷ 
 abbrev pub set_entry : Shape
 set_entry v start end value = list_of v ≡ Some (start ∷ end ∷ [])
 
--- What may be answered for a key and for a value, by the functions that a caller gives to write.
+-- How an entry is laid out, and what may be answered for a key and for a value by the functions that a caller gives to write.
 pub record Writer (K V E : Type 0) : Type 1 where
-  pub shape : Value → Value → Value → Value → Type 0
+  pub shape : Shape
   pub key : K → Result Value E → Type 0
   pub value : V → Result Value E → Type 0
 
--- What may be answered for the part of a key and for that of a value, by the functions that a caller gives to read.
+-- How an entry is laid out, and what may be answered for the part of a key and for that of a value by the functions that a caller
+-- gives to read.
 pub record Reader (K V E : Type 0) : Type 1 where
-  pub shape : Value → Value → Value → Value → Type 0
+  pub shape : Shape
   pub key : Value → Result K E → Type 0
   pub value : Value → Result V E → Type 0
 

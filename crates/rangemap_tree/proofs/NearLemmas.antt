@@ -5,16 +5,14 @@ use Rattle.std.specs.BTreeMap.Range.{range_contains}
 use Rattle.std.specs.Map.Iter.{TakesLast}
 use Rattle.std.specs.declared.ops.Bound.TheVariants.{Excluded}
 use Rattle.std.specs.declared.ops.Range.{Range}
-use Rattle.rangemap_core.specs.engine.PlacedKinds.{place_total}
-use Rattle.rangemap_core.specs.engine.Shape.{Shape, IsApart, IsSpaced}
+use Rattle.rangemap_core.specs.engine.Shape.{Shape, IsSpaced}
 use Rattle.rangemap_core.specs.engine.Stretch.{Every}
-use Rattle.rangemap_core.proofs.ListLemmas.{Every-map, Every-append, IsSpaced-left}
-use Rattle.rangemap_core.proofs.InsertPartLemmas.{before_first}
+use Rattle.rangemap_core.proofs.ListLemmas.{Every-map, Every-append}
 use Rattle.rangemap_core.proofs.PlaceOrderLemmas.{lt_le, lt_le_trans}
 use Rattle.rangemap_tree.specs.Starts.{before, from, past, up_to}
 use Rattle.rangemap_tree.specs.Sides.{shape}
 use Rattle.rangemap_tree.proofs.FilterLemmas.{filter_no, filter_passes, filter_same}
-use Rattle.rangemap_tree.proofs.SplitLemmas.{all_from, all_full, grouped, not_lt_of_le, parts_at, split_past, starts_below}
+use Rattle.rangemap_tree.proofs.SplitLemmas.{all_from, grouped, not_lt_of_le, parts_at, split_past, starts_below}
 
 pub not_below : (b c : Bool) → c ≡ true → (b && not c) ≡ false
 not_below true true h = refl

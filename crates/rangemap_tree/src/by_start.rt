@@ -3,7 +3,7 @@ ghost use Rattle.std.specs.Prelude.{◌≡◌, List, [], length, filter, IfOk};
 ghost use Rattle.std.specs.BTreeMap.Range.{range_contains, IsLeBy, IsLtBy};
 ghost use Rattle.std.specs.Range.Bound.{bound_map, IsForward};
 ghost use Rattle.std.specs.Map.Iter.{TakesLast, deref_pair};
-ghost use Rattle.std.specs.declared.ops.Bound.TheVariants.{Excluded, Unbounded};
+ghost use Rattle.std.specs.declared.ops.Bound.TheVariants.{Excluded};
 ghost use Rattle.rangemap_core.specs.Clones.{KeysCloneFaithfully};
 ghost use Rattle.rangemap_tree.specs.Starts.{AreClones, AreStarts};
 
@@ -13,7 +13,7 @@ use rangemap_core::cursor::Cursor;
 use std::alloc::{AllocError, Allocator};
 use std::collections::BTreeMap;
 use std::marker::Model;
-use std::ops::{Bound, Range};
+use std::ops::{Bound, Range, RangeBounds};
 
 mod changes;
 
@@ -99,14 +99,16 @@ impl<K: Ord, V, A: Allocator> ByStart<K, V, A> {
         }
     }
 
-    /// Returns the last pair that starts within the bound, if there is one.
-    pub fn last_up_to(&self, to: Bound<&K>) -> Option<(&Range<K>, &V)>
-        ensures { (rest : List _) × TakesLast deref_pair (filter (λ p. range_contains K.cmp Unbounded (bound_map (λ x. x.now) to.entry) p.0.start) self.now) result rest }
+    /// Returns the last pair that starts within `starts`, if there is one.
+    pub fn last_within<B: RangeBounds<K>>(&self, starts: B) -> Option<(&Range<K>, &V)>
+        requires bounds { B.has_bounds starts }
+        requires forward { B.is_forward starts (IsLeBy K.cmp) (IsLtBy K.cmp) }
+        ensures { (rest : List _) × TakesLast deref_pair (filter (λ p. range_contains K.cmp (B.start_bound starts) (B.end_bound starts) p.0.start) self.now) result rest }
     {
         let Some(tree) = &self.tree else {
             return None;
         };
-        let (_, (range, value)) = tree.range((Bound::Unbounded, to)).next_back()?;
+        let (_, (range, value)) = tree.range(starts).next_back()?;
         Some((range, value))
     }
 }

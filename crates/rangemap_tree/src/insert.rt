@@ -49,7 +49,7 @@ pub fn insert<K: Ord + Clone, V: Eq + Clone, A: Allocator + Clone>(
     ensures growth { OnOk result (length pairs.new ≤ length pairs.old + 2) }
     ensures growth_where_all_are_equal { OnOk result (((v w : V) → V.eq v w ≡ true) → length pairs.new ≤ length pairs.old + 1) }
 {
-    let near = pairs.last_up_to(Bound::Included(&range.end));
+    let near = pairs.last_within(..=&range.end);
     let left = left_side(pairs, near, &range, &value)?;
     let right = right_side(pairs, near, &range, &value)?;
     let Range { start, end } = range;
@@ -120,7 +120,7 @@ fn last_before<'a, K: Ord, V: Eq, A: Allocator>(
     if last.start.cmp(&range.start).is_lt() {
         near
     } else {
-        pairs.last_up_to(Bound::Excluded(&range.start))
+        pairs.last_within(..&range.start)
     }
 }
 

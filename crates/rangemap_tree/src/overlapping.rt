@@ -33,7 +33,7 @@ fn overlap_start<'b, K: Ord, V: Eq, A: Allocator>(
     ensures forward { IsForward (IsLeBy K.cmp) (IsLtBy K.cmp) (bound_map (λ x. x.now) result) (Excluded query.now.end) }
     ensures overlapped { filter (λ p. range_contains K.cmp (bound_map (λ x. x.now) result) (Excluded query.now.end) p.0.start) pairs.now ≡ overlapped (half_open K.cmp) pairs.now query.now }
 {
-    match pairs.last_up_to(Bound::Included(&query.start)) {
+    match pairs.last_within(..=&query.start) {
         Some((range, _)) if range.end.cmp(&query.start).is_gt() => {
             if range.start.cmp(&query.end).is_lt() {
                 Bound::Included(&range.start)

@@ -30,7 +30,7 @@ pub fn remove<K: Ord + Clone, V: Eq + Clone, A: Allocator + Clone>(
     ensures growth { OnOk result (length pairs.new ≤ length pairs.old + 1) }
     ensures meets_nothing { overlapped (half_open K.cmp) pairs.old range.now ≡ [] → IsOk result × (pairs.new ≡ pairs.old) }
 {
-    let Some((last, last_value)) = pairs.last_up_to(Bound::Excluded(&range.end)) else {
+    let Some((last, last_value)) = pairs.last_within(..&range.end) else {
         return Ok(());
     };
     if last.end.cmp(&range.start).is_le() {
@@ -69,7 +69,7 @@ fn piece_before<'a, K: Ord + Clone, V: Eq, A: Allocator>(
     let first = if near.0.start.cmp(&range.start).is_lt() {
         Some(near)
     } else {
-        pairs.last_up_to(Bound::Excluded(&range.start))
+        pairs.last_within(..&range.start)
     };
     let Some((first, _)) = first else {
         return Ok(None);

@@ -13,7 +13,7 @@ use rangemap_core::reader::{Reader, ReaderOfBoth};
 use rangemap_core::store::{HandsOver, Lends, Store, StoreMut};
 use std::alloc::{AllocError, Allocator};
 use std::marker::Model;
-use std::ops::{Bound, Range};
+use std::ops::Range;
 
 /// Pairs of a half-open range and a value in a B-tree, by the starts of the ranges.
 ///
@@ -77,7 +77,7 @@ impl<K: Ord + Clone, V: Eq + Clone, A: Allocator + Clone> Store for Tree<K, V, A
 
     fn covering(&self, key: &K) -> Option<(&Range<K>, &V)> {
         // No other can have the key than the last that starts no later.
-        let (range, value) = self.pairs.last_up_to(Bound::Included(key))?;
+        let (range, value) = self.pairs.last_within(..=key)?;
         if key.cmp(&range.end).is_lt() {
             Some((range, value))
         } else {

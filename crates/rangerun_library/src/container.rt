@@ -16,7 +16,7 @@ use std::fmt::Debug;
 /// A container of the library over the program's keys and values.
 ///
 /// Its debug text is what the program prints of all its items.
-pub trait NumberContainer: Container<Range: NumberRange, Value: Stored> + Debug {
+pub trait NumberContainer: Container<Range: NumberRange, Value: Stored> + Debug + Drop {
     /// Makes the value that a word writes. A set has one value, and reads no word.
     ///
     /// # Errors

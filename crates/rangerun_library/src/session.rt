@@ -100,9 +100,7 @@ impl<A: Allocator + Copy, T: Target<A>> Session<A, T> {
         }
         self.text.clear();
         self.target.carry_out(&self.line, &mut self.text)?;
-        if write_out(output, self.text.as_bytes()).is_err() {
-            return Err(Cause::Stream);
-        }
+        write_out(output, self.text.as_bytes()).map_err(|_| Cause::Stream)?;
         Ok(true)
     }
 }

@@ -61,7 +61,7 @@ fn soak_one<'a, S: Session<'a>>(
     tell(rt, heap, name, S::soak(heap, model, calls))
 }
 
-// Makes the calls on every map, until one differs. Answers whether none did.
+// Makes the calls on every map that isn't in chunks, until one differs. Answers whether none did.
 fn soak_maps(rt: &HostRuntime, heap: &Heap, seed: u64, calls: u64) -> io::Result<bool> {
     let map = Profile {
         has_marks: true,
@@ -91,7 +91,7 @@ fn soak_maps(rt: &HostRuntime, heap: &Heap, seed: u64, calls: u64) -> io::Result
     )
 }
 
-// Makes the calls on every set, until one differs. Answers whether none did.
+// Makes the calls on every set that isn't in chunks, until one differs. Answers whether none did.
 fn soak_sets(rt: &HostRuntime, heap: &Heap, seed: u64, calls: u64) -> io::Result<bool> {
     let set = Profile {
         has_marks: false,

@@ -1,4 +1,4 @@
-//! A run: calls on a container and on its model, compared after each.
+//! A session: calls on a container and on its model, compared after each.
 //!
 //! What is generic over containers does as little as can be: it makes a call, and reads what it
 //! answers as pieces. The model draws the calls and compares, since a function is far cheaper to
@@ -19,7 +19,7 @@ use rangemap_core::store::StoreMut;
 use soak_model::{Call, Difference, Model, check};
 pub use stores::{Maps, Sets};
 
-/// How a run ended.
+/// How a session ended.
 #[derive(Drop)]
 pub struct Report {
     /// The number of calls that were made.
@@ -47,7 +47,7 @@ impl Report {
     }
 }
 
-/// Containers on which runs are made.
+/// Containers on which sessions are held.
 ///
 /// It asks for no other trait, so that a proof which names a container tells of its keys and values
 /// alone, and not of all that a container does.

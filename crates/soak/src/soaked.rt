@@ -57,7 +57,8 @@ pub trait Mark<A: Copy>: Eq + Clone {
 }
 
 /// A container over points.
-pub trait Soaked: OwnCalls<Alloc: Copy, Range: PointRange<Self::Alloc>, Value: Mark<Self::Alloc>> {
+pub trait Soaked: OwnCalls<Alloc: Copy, Range: PointRange<Self::Alloc>, Value: Mark<Self::Alloc>>
+    + Drop {
     /// Returns what its memory comes from.
     fn heap(&self) -> Self::Alloc;
 

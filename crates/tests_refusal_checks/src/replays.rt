@@ -50,7 +50,11 @@ pub fn try_replay<M: InRows, C: CallOn<M>>(
 // added, and that they hold what the row has where all were accepted.
 fn check_left<M: InRows>(answers: &[bool], all: &[M], row: &Row<'_>, granted: u64) -> Answer {
     let is_accepted = !answers.contains(&false);
-    row.check_that(granted >= LISTS, granted, "there was room without a list")?;
+    row.check_that(
+        granted >= LISTS,
+        granted,
+        "a replay is accepted without room for its lists",
+    )?;
     row.check_that(
         all.len() == added(row.given, answers),
         granted,

@@ -1,4 +1,4 @@
-//! Which allocator a container names, and whose the result of an operator has, that of a clone, and
+//! Which allocator a container names, and in whose memory lie the result of an operator, a clone, and
 //! what a replay makes.
 
 mod chunked;

@@ -77,7 +77,9 @@ fn each_clone_of_a_key_may_be_refused(rt: HostRuntime) -> Result<(), Fail> {
         | append all 20..30 b | 20..30 b | 0
         1..3 a | append gaps 1..3 20..30 | 20..30 | 0
         0..2 a, 4..6 b, 8..10 c, 12..14 d, 16..18 e | append gaps 5..11 20..30 | 20..30, 6..8, 10..11 | 4
+        1..3 a | collect_gaps 1..3 | | 0
         0..2 a, 4..6 b, 8..10 c, 12..14 d, 16..18 e | collect_gaps 5..11 | 6..8, 10..11 | 5
+        | segments 0..5 | 0..5 none | 3
         0..2 a, 4..6 b, 8..10 c, 12..14 d, 16..18 e | segments 5..11 | 5..6 b, 6..8 none, 8..10 c, 10..11 none | 18",
     )?;
     chunked_inclusive_map::<Costly<'_>, char, 4>(
@@ -106,7 +108,9 @@ fn each_clone_of_a_key_may_be_refused(rt: HostRuntime) -> Result<(), Fail> {
         1..=3 a | append gaps 1..=3 20..=30 | 20..=30 | 0
         0..=1 a, 4..=5 b, 8..=9 c, 12..=13 d, 16..=17 e | append gaps 6..=13 20..=30 | 20..=30, 6..=7, 10..=11 | 1
         0..=3 a, 4..=7 b, 8..=11 c, 12..=13 d, 16..=17 e | append gaps 0..=19 20..=30 | 20..=30, 14..=15, 18..=19 | 1
+        1..=3 a | collect_gaps 1..=3 | | 0
         0..=1 a, 4..=5 b, 8..=9 c, 12..=13 d, 16..=17 e | collect_gaps 6..=13 | 6..=7, 10..=11 | 2
+        | segments 0..=5 | 0..=5 none | 3
         0..=1 a, 4..=5 b, 8..=9 c, 12..=13 d, 16..=17 e | segments 6..=13 \
             | 6..=7 none, 8..=9 c, 10..=11 none, 12..=13 d | 15",
     )

@@ -47,7 +47,9 @@ fn each_request_may_be_refused(rt: HostRuntime) -> Result<(), Fail> {
         | append all 20..=30 b | 20..=30 b | 0
         1..=3 a | append gaps 1..=3 20..=30 | 20..=30 | 0
         10..=249 a | append gaps 0..=255 20..=30 | 20..=30, 0..=9, 250..=255 | 2
+        1..=3 a | collect_gaps 1..=3 | | 0
         10..=249 a | collect_gaps 0..=255 | 0..=9, 250..=255 | 3
+        | segments 0..=5 | 0..=5 none | 3
         10..=249 a | segments 0..=255 | 0..=9 none, 10..=249 a, 250..=255 none | 10",
     )
 }

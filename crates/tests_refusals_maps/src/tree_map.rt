@@ -80,7 +80,9 @@ fn each_request_may_be_refused(rt: HostRuntime) -> Result<(), Fail> {
         | append all 20..30 b | 20..30 b | 0
         1..3 a | append gaps 1..3 20..30 | 20..30 | 0
         1..3 a | append gaps 0..5 20..30 | 20..30, 0..1, 3..5 | 4
+        1..3 a | collect_gaps 1..3 | | 0
         1..3 a | collect_gaps 0..5 | 0..1, 3..5 | 5
+        | segments 0..5 | 0..5 none | 3
         1..3 a | segments 0..5 | 0..1 none, 1..3 a, 3..5 none | 12",
     )
 }

@@ -46,6 +46,7 @@ fn each_request_may_be_refused(rt: HostRuntime) -> Result<(), Fail> {
         1..3 | append gaps 0..5 20..30 | 20..30, 0..1, 3..5 | 4
         1..3 | collect_gaps 1..3 | | 0
         1..3 | collect_gaps 0..5 | 0..1, 3..5 | 5
+        | segments 0..5 | 0..5 none | 3
         1..3 | segments 0..5 | 0..1 none, 1..3, 3..5 none | 12",
     )
 }

@@ -13,7 +13,7 @@ use std::marker::PhantomData;
 use std::test::Fail;
 use tests_refusal_checks::{
     Answer, Row, Tried, is_made, try_appends, try_both, try_call, try_collect_gaps, try_growths,
-    try_makers, try_segments,
+    try_makers, try_segments, with_range,
 };
 use tests_support::{FromEnds, Heap, InRows, OwnCalls, Word, first_word, made_of};
 
@@ -33,7 +33,7 @@ impl<'a, Q: Kind<R, Steps = R::Key>, R: FromEnds<Key: Word<&'a Heap>>> Tried
     fn is_accepted(heap: &Heap, alloc: &'a Heap, row: &Row<'_>, granted: u64) -> Answer {
         match try_or_make::<Set<SortedVec<Q, R, (), &'a Heap>>>(heap, alloc, row, granted)? {
             Step::Tried(is_accepted) => Ok(is_accepted),
-            Step::Gaps(set, other) => try_gaps(heap, &set, &other, row, granted),
+            Step::Gaps(set, outer) => try_gaps(heap, &set, &outer, row, granted),
             Step::Joins(one, other) => try_joined(heap, &one, &other, row, granted),
         }
     }
@@ -50,7 +50,7 @@ impl<'a, Q: Kind<R, Steps = R::Key>, R: FromEnds<Key: Word<&'a Heap>>, const N: 
     fn is_accepted(heap: &Heap, alloc: &'a Heap, row: &Row<'_>, granted: u64) -> Answer {
         match try_or_make::<Set<Chunks<Q, R, (), &'a Heap, N>>>(heap, alloc, row, granted)? {
             Step::Tried(is_accepted) => Ok(is_accepted),
-            Step::Gaps(set, other) => try_gaps(heap, &set, &other, row, granted),
+            Step::Gaps(set, outer) => try_gaps(heap, &set, &outer, row, granted),
             Step::Joins(one, other) => try_joined(heap, &one, &other, row, granted),
         }
     }
@@ -66,33 +66,36 @@ impl<'a, T: Ord + Clone + Word<&'a Heap>> Tried for Sets<Tree<T, (), &'a Heap>> 
     fn is_accepted(heap: &Heap, alloc: &'a Heap, row: &Row<'_>, granted: u64) -> Answer {
         match try_or_make::<Set<Tree<T, (), &'a Heap>>>(heap, alloc, row, granted)? {
             Step::Tried(is_accepted) => Ok(is_accepted),
-            Step::Gaps(set, other) => try_gaps(heap, &set, &other, row, granted),
+            Step::Gaps(set, outer) => try_gaps(heap, &set, &outer, row, granted),
             Step::Joins(one, other) => try_joined(heap, &one, &other, row, granted),
         }
     }
 }
 
 // How far a call is tried before its sets are lent.
-enum Step<S> {
+enum Step<S, R> {
     /// The call was tried, and was accepted or not.
     Tried(bool),
-    /// The gaps of the first are to be asked for, in the one range of the second.
-    Gaps(S, S),
+    /// The set is to be asked for its gaps in the range.
+    Gaps(S, R),
     /// These two are to be put together.
     Joins(S, S),
 }
 
-// Tries the call of a row, or makes the two sets that it is tried on.
+// Tries the call of a row, or makes what it is tried on.
 fn try_or_make<S: InRows<Value = ()> + OwnCalls>(
     heap: &Heap,
     alloc: S::Alloc,
     row: &Row<'_>,
     granted: u64,
-) -> Result<Step<S>, Fail>
+) -> Result<Step<S, S::Range>, Fail>
     requires { KeysCloneFaithfully S.Range.Key.is_clone S.Range.Key.cmp }
 {
     match first_word(row.call) {
-        ("gaps", other) => Ok(Step::Gaps(made_of(alloc, row.given)?, made_of(alloc, other)?)),
+        ("gaps", outer) => {
+            let (set, outer) = with_range::<S>(alloc, row.given, outer)?;
+            Ok(Step::Gaps(set, outer))
+        }
         ("union" | "intersection" | "or" | "and", other) => {
             let one = made_of(alloc, row.given)?;
             Ok(Step::Joins(one, made_of(alloc, other)?))
@@ -106,11 +109,11 @@ fn try_or_make<S: InRows<Value = ()> + OwnCalls>(
     }
 }
 
-// Asks a set for its gaps in the one range of another.
+// Asks a set for its gaps in a range.
 fn try_gaps<'a, S>(
     heap: &Heap,
     set: &'a Set<S>,
-    other: &'a Set<S>,
+    outer: &'a S::Range,
     row: &Row<'_>,
     granted: u64,
 ) -> Answer
@@ -118,7 +121,6 @@ where
     S: Lends<'a, Range: 'a + KeyRange<Key: Word<S::Alloc>>, Value = ()>,
     requires { KeysCloneFaithfully S.Range.Key.is_clone S.Range.Key.cmp }
 {
-    let outer = other.first().ok_or("gaps are asked for in a range")?;
     let gaps = (set.gaps(outer), set.gaps(outer));
     try_both::<S::Range, S::Alloc, _>(heap, gaps, row, granted)
 }

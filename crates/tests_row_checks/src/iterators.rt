@@ -192,3 +192,10 @@ pub fn check_both_ends<I: DoubleEndedIterator<Item: Debug + Drop>>(
         format_args!("(Some({item}), None, None)"),
     )
 }
+
+/// Compares the debug text of a list of three items. Their texts have semicolons between them.
+pub fn check_three_listed<T: Debug>(alloc: Global, items: &T, texts: &str) -> Result<(), Fail> {
+    let (first, middle, last) = three_lists(texts)?;
+    let text = format!(in alloc; "[{first}, {middle}, {last}]")?;
+    check_text(alloc, items, text.as_str())
+}

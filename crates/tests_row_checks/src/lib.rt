@@ -14,7 +14,9 @@ mod stretches;
 mod tables;
 
 pub use iterated::iterated_to_its_end;
-pub use iterators::{check_both_ends, check_gap, check_three, check_three_both_ways, check_tries};
-pub use replays::{ReplayName, check_replay};
+pub use iterators::{
+    check_both_ends, check_gap, check_three, check_three_both_ways, check_three_listed, check_tries,
+};
+pub use replays::check_replay;
 pub use stretches::{Stretches, check_stretches};
 pub use tables::check_rows;

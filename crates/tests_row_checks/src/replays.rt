@@ -2,69 +2,14 @@
 ghost use Rattle.std.specs.List.{AllByRecursion};
 ghost use Rattle.rangemap.specs.Clones.{KeysCloneFaithfully, ValuesCloneFaithfully};
 
-use rangemap::{chunked, inclusive_map, inclusive_set, map, set, tree_map, tree_set};
-use rangemap_containers::replay::CallOn;
-use std::alloc::AllocError;
+use rangemap_containers::replay::{CallOn, replay};
 use std::test::Fail;
 use tests_support::{InRows, check_row, check_same, check_that, lists};
-
-/// The name by which users call the replay. Each container's module has it, and those of closed ranges
-/// have it once more, for steps that may be of another type than the keys.
-#[derive(Clone, Copy)]
-pub enum ReplayName {
-    /// `map::replay`
-    Map,
-    /// `tree_map::replay`
-    TreeMap,
-    /// `inclusive_map::replay`
-    InclusiveMap,
-    /// `inclusive_map::replay_with_step_fns`
-    InclusiveMapWithStepFns,
-    /// `set::replay`
-    Set,
-    /// `tree_set::replay`
-    TreeSet,
-    /// `inclusive_set::replay`
-    InclusiveSet,
-    /// `inclusive_set::replay_with_step_fns`
-    InclusiveSetWithStepFns,
-    /// `chunked::replay`
-    Chunked,
-    /// `chunked::replay_with_step_fns`
-    ChunkedWithStepFns,
-}
-
-// Makes calls by the replay of this name, and answers which are accepted.
-fn replay<M: InRows, C: CallOn<M>>(
-    name: ReplayName,
-    alloc: M::Alloc,
-    maps: &mut Vec<M, M::Alloc>,
-    calls: Vec<C, M::Alloc>,
-) -> Result<Vec<bool, M::Alloc>, AllocError>
-    requires non_empty { AllByRecursion C.has_non_empty calls.items }
-    requires faithful_keys { KeysCloneFaithfully M.Range.Key.is_clone M.Range.Key.cmp }
-    requires faithful_values { ValuesCloneFaithfully M.Value.is_clone M.Value.eq }
-{
-    let replay = match name {
-        ReplayName::Map => map::replay::<M, C>,
-        ReplayName::TreeMap => tree_map::replay::<M, C>,
-        ReplayName::InclusiveMap => inclusive_map::replay::<M, C>,
-        ReplayName::InclusiveMapWithStepFns => inclusive_map::replay_with_step_fns::<M, C>,
-        ReplayName::Set => set::replay::<M, C>,
-        ReplayName::TreeSet => tree_set::replay::<M, C>,
-        ReplayName::InclusiveSet => inclusive_set::replay::<M, C>,
-        ReplayName::InclusiveSetWithStepFns => inclusive_set::replay_with_step_fns::<M, C>,
-        ReplayName::Chunked => chunked::replay::<M, C>,
-        ReplayName::ChunkedWithStepFns => chunked::replay_with_step_fns::<M, C>,
-    };
-    replay(alloc, maps, calls)
-}
 
 /// Makes calls, from none on, and compares which of them are accepted, and what the containers hold
 /// then. A plus stands for each call that is accepted, and a minus for another; the lists of the
 /// containers have a semicolon between them.
 pub fn check_replay<M: InRows, C: CallOn<M>>(
-    name: ReplayName,
     alloc: M::Alloc,
     calls: Vec<C, M::Alloc>,
     accepted: &str,
@@ -75,7 +20,7 @@ pub fn check_replay<M: InRows, C: CallOn<M>>(
     requires faithful_values { ValuesCloneFaithfully M.Value.is_clone M.Value.eq }
 {
     let mut all: Vec<M, M::Alloc> = Vec::new(alloc);
-    let answers = replay(name, alloc, &mut all, calls)?;
+    let answers = replay(alloc, &mut all, calls)?;
     check_that(
         are_accepted(answers.as_slice(), accepted),
         format_args!("accepted are not {accepted}"),

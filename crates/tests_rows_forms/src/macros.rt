@@ -33,6 +33,11 @@ fn a_list_makes_a_map(rt: HostRuntime) -> Result<(), Fail> {
     )?;
     check_made(
         alloc,
+        range_map! { in alloc; 0..100u32 => "abc", 200..300 => "ghi" },
+        r#"{0..100: "abc", 200..300: "ghi"}"#,
+    )?;
+    check_made(
+        alloc,
         range_inclusive_map! {
             in alloc; 0..=100u32 => "abc", 100..=200 => "def", 200..=300 => "ghi"
         },

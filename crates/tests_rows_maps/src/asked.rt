@@ -10,20 +10,18 @@ use std::fmt::Debug;
 use std::iter::ExactSizeIterator;
 use std::test::Fail;
 use tests_row_checks::{
-    ReplayName, Stretches, check_both_ends, check_replay, check_rows, check_stretches,
-    check_three_both_ways,
+    Stretches, check_both_ends, check_replay, check_rows, check_stretches, check_three_both_ways,
+    check_three_listed,
 };
-use tests_support::{
-    FromEnds, InRows, Word, changes_of, check_same, check_text, map_of, parts, three_lists,
-};
+use tests_support::{FromEnds, InRows, Word, changes_of, check_same, map_of, parts};
 
 /// What text asks of maps over any steps.
 #[derive(Drop)]
 pub enum Rows<'t> {
     /// What each row of a table says is answered.
     Table(&'t str),
-    /// A replay of changes by this name: which of them are accepted, and what each map holds then.
-    Changes(ReplayName, &'t str),
+    /// A replay of changes: which of them are accepted, and what each map holds then.
+    Changes(&'t str),
 }
 
 /// Compares what containers answer.
@@ -33,10 +31,10 @@ pub fn check_answers<M: InRows<Alloc = Global>>(alloc: Global, asked: &Rows<'_>)
 {
     match asked {
         Rows::Table(table) => check_rows::<M>(alloc, *table),
-        Rows::Changes(name, row) => {
+        Rows::Changes(row) => {
             let (calls, accepted, lists) = parts(*row)?;
             let changes = changes_of::<M::Kind, M::Range, M::Value, Global>(alloc, calls)?;
-            check_replay::<M, _>(*name, alloc, changes, accepted, lists)
+            check_replay::<M, _>(alloc, changes, accepted, lists)
         }
     }
 }
@@ -135,11 +133,4 @@ where
         handed.push(pair)?;
     }
     check_three_listed(alloc, &handed, texts)
-}
-
-// Compares the debug text of a list of three pairs.
-fn check_three_listed<T: Debug>(alloc: Global, pairs: &T, texts: &str) -> Result<(), Fail> {
-    let (first, middle, last) = three_lists(texts)?;
-    let text = format!(in alloc; "[{first}, {middle}, {last}]")?;
-    check_text(alloc, pairs, text.as_str())
 }

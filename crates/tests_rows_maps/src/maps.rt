@@ -1,7 +1,7 @@
 //! The maps of which tests ask: in a sorted vector, in a tree and in chunks.
 //!
-//! In each function that names a type of map all that the map does is proved anew. So each is named
-//! here alone, and tests give these functions what they ask.
+//! In each function that names a type of map all that the map does is proved anew. So most tests name
+//! none, and give these functions what they ask; loops, replays and maps of literals name their own.
 ghost use Rattle.rangemap.specs.Clones.{KeysCloneFaithfully, ValuesCloneFaithfully};
 
 use crate::asked::{Asked, Rows, check_answers, check_asked};

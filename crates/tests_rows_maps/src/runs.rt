@@ -62,7 +62,7 @@ fn write_answer(
 /// Runs the commands on a map, and compares what they answer.
 pub fn check_run<M>(alloc: Global) -> Result<(), Fail>
 where
-    M: Container<Alloc = Global, Kind = HalfOpen, Range = Range<u32>, Value = char>,
+    M: Container<Alloc = Global, Kind = HalfOpen, Range = Range<u32>, Value = char> + Drop,
 {
     let mut map = M::new_with_step_fns(alloc);
     let answers = run(alloc, &mut map, commands(alloc)?)?;
@@ -73,6 +73,7 @@ where
     check_same(text.as_str(), ANSWERS)
 }
 
+// Of half-open ranges, by every store: `run` is one function over any container.
 #[test]
 fn commands_are_answered_by_every_map(rt: HostRuntime) -> Result<(), Fail> {
     made_in_vector(rt.alloc(), &Made::Answers)?;

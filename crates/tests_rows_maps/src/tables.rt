@@ -10,7 +10,7 @@ use rangemap_core::kind::Kind;
 use std::alloc::Global;
 use std::ops::{Range, RangeInclusive};
 use std::test::Fail;
-use tests_row_checks::{ReplayName, check_replay};
+use tests_row_checks::check_replay;
 use tests_support::{ChunkedMap, FromEnds, SignedSteps, Word, calls_of, parts};
 
 /// Compares a table for maps of half-open ranges, in a sorted vector, in a tree and in chunks.
@@ -26,14 +26,13 @@ pub fn check_half_open<V: Eq + Clone + Word<Global>>(alloc: Global, table: &str)
 // Compares rows for maps of closed ranges by the steps that `S` has, in a sorted vector and in chunks.
 fn check_by_steps<K: Ord + Clone + Word<Global>, V: Eq + Clone + Word<Global>, S: StepFns<K>>(
     alloc: Global,
-    in_vector: &Rows<'_>,
-    in_chunks: &Rows<'_>,
+    asked: &Rows<'_>,
 ) -> Result<(), Fail>
     requires faithful_keys { KeysCloneFaithfully K.is_clone K.cmp }
     requires faithful_values { ValuesCloneFaithfully V.is_clone V.eq }
 {
-    rows_of_vector::<Closed<S>, RangeInclusive<K>, V>(alloc, in_vector)?;
-    rows_of_chunks::<Closed<S>, RangeInclusive<K>, V>(alloc, in_chunks)
+    rows_of_vector::<Closed<S>, RangeInclusive<K>, V>(alloc, asked)?;
+    rows_of_chunks::<Closed<S>, RangeInclusive<K>, V>(alloc, asked)
 }
 
 /// Compares a table for maps of closed ranges, by their own steps.
@@ -44,14 +43,12 @@ pub fn check_closed<K: StepLite + Clone + Word<Global>, V: Eq + Clone + Word<Glo
     requires faithful_keys { KeysCloneFaithfully K.is_clone K.cmp }
     requires faithful_values { ValuesCloneFaithfully V.is_clone V.eq }
 {
-    let table = Rows::Table(table);
-    check_by_steps::<K, V, K>(alloc, &table, &table)
+    check_by_steps::<K, V, K>(alloc, &Rows::Table(table))
 }
 
 /// Compares a table for maps over signed bytes that are made over the steps of another type.
 pub fn check_stepped(alloc: Global, table: &str) -> Result<(), Fail> {
-    let table = Rows::Table(table);
-    check_by_steps::<i8, bool, SignedSteps>(alloc, &table, &table)
+    check_by_steps::<i8, bool, SignedSteps>(alloc, &Rows::Table(table))
 }
 
 /// Compares a replay of changes by the steps that `S` has.
@@ -61,9 +58,7 @@ pub fn check_changes<K: Ord + Clone + Word<Global>, S: StepFns<K>>(
 ) -> Result<(), Fail>
     requires { KeysCloneFaithfully K.is_clone K.cmp }
 {
-    let in_vector = Rows::Changes(ReplayName::InclusiveMapWithStepFns, row);
-    let in_chunks = Rows::Changes(ReplayName::ChunkedWithStepFns, row);
-    check_by_steps::<K, bool, S>(alloc, &in_vector, &in_chunks)
+    check_by_steps::<K, bool, S>(alloc, &Rows::Changes(row))
 }
 
 // The maps of replays are named once more: over any store the checker refuses the list of calls.
@@ -77,15 +72,9 @@ pub fn check_half_open_replay<V: Eq + Clone + Word<Global>>(
 {
     let (text, accepted, lists) = parts(row)?;
     let calls = calls_of::<HalfOpen, Range<u32>, V, Global>(alloc, text)?;
-    check_replay::<RangeMap<u32, V>, _>(ReplayName::Map, alloc, calls, accepted, lists)?;
+    check_replay::<RangeMap<u32, V>, _>(alloc, calls, accepted, lists)?;
     let calls = calls_of::<HalfOpen, Range<u32>, V, Global>(alloc, text)?;
-    check_replay::<tree_map::RangeMap<u32, V>, _>(
-        ReplayName::TreeMap,
-        alloc,
-        calls,
-        accepted,
-        lists,
-    )
+    check_replay::<tree_map::RangeMap<u32, V>, _>(alloc, calls, accepted, lists)
 }
 
 /// Compares a replay on maps of closed ranges, in a sorted vector.
@@ -97,13 +86,7 @@ pub fn check_closed_replay<K: StepLite + Clone + Word<Global>>(
 {
     let (calls, accepted, lists) = parts(row)?;
     let calls = calls_of::<Closed<K>, RangeInclusive<K>, bool, Global>(alloc, calls)?;
-    check_replay::<RangeInclusiveMap<K, bool>, _>(
-        ReplayName::InclusiveMap,
-        alloc,
-        calls,
-        accepted,
-        lists,
-    )
+    check_replay::<RangeInclusiveMap<K, bool>, _>(alloc, calls, accepted, lists)
 }
 
 /// Compares a replay on maps in chunks of up to two pairs.
@@ -117,11 +100,5 @@ pub fn check_calls_in_chunks<
 {
     let (calls, accepted, lists) = parts(row)?;
     let calls = calls_of::<Q, R, V, Global>(alloc, calls)?;
-    check_replay::<ChunkedMap<Q, R, V, Global, 2>, _>(
-        ReplayName::Chunked,
-        alloc,
-        calls,
-        accepted,
-        lists,
-    )
+    check_replay::<ChunkedMap<Q, R, V, Global, 2>, _>(alloc, calls, accepted, lists)
 }

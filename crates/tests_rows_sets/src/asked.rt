@@ -11,8 +11,8 @@ use std::fmt::Debug;
 use std::iter::ExactSizeIterator;
 use std::test::Fail;
 use tests_row_checks::{
-    ReplayName, Stretches, check_both_ends, check_replay, check_rows, check_stretches,
-    check_three_both_ways,
+    Stretches, check_both_ends, check_replay, check_rows, check_stretches, check_three_both_ways,
+    check_three_listed,
 };
 use tests_support::{
     FromEnds, InRows, Word, changes_of, check_row, check_same, made_of, parts, set_of, two_lists,
@@ -23,8 +23,8 @@ use tests_support::{
 pub enum Asked<'t> {
     /// What each row of a table says is answered.
     Rows(&'t str),
-    /// A replay of changes by this name: which of them are accepted, and what each set holds then.
-    Changes(ReplayName, &'t str),
+    /// A replay of changes: which of them are accepted, and what each set holds then.
+    Changes(&'t str),
     /// The three ranges of a list are handed over, in order. Their texts have semicolons between them.
     HandedOver(&'t str, &'t str),
     /// The one range that this text has is handed over, and none behind it at either end.
@@ -53,7 +53,7 @@ where
 {
     match asked {
         Asked::Rows(table) => check_rows::<Set<S>>(alloc, *table),
-        Asked::Changes(name, row) => check_changes::<Set<S>>(*name, alloc, *row),
+        Asked::Changes(row) => check_changes::<Set<S>>(alloc, *row),
         Asked::HandedOver(ranges, texts) => check_handed_over::<S>(alloc, *ranges, *texts),
         Asked::OneHandedOver(range) => check_one_handed_over::<S>(alloc, *range),
         Asked::Joined {
@@ -70,7 +70,6 @@ where
 
 /// Compares a replay of changes, by any steps.
 pub fn check_changes<M: InRows<Value = (), Alloc = Global>>(
-    name: ReplayName,
     alloc: Global,
     row: &str,
 ) -> Result<(), Fail>
@@ -78,7 +77,7 @@ pub fn check_changes<M: InRows<Value = (), Alloc = Global>>(
 {
     let (calls, accepted, lists) = parts(row)?;
     let changes = changes_of::<M::Kind, M::Range, (), Global>(alloc, calls)?;
-    check_replay::<M, _>(name, alloc, changes, accepted, lists)
+    check_replay::<M, _>(alloc, changes, accepted, lists)
 }
 
 // Compares the stretches of the set that has these ranges, and its gaps.
@@ -109,7 +108,7 @@ where
     check_both_ends(alloc, set.into_iter(), copy.into_iter(), range)
 }
 
-// Compares the three ranges that a set hands over, and its clone.
+// Compares the three ranges that a set hands over: to a loop, and from both ends.
 fn check_handed_over<S: HandsOver<Range: Debug, Value = (), Alloc = Global> + StoreMut + Drop>(
     alloc: Global,
     ranges: &str,
@@ -121,6 +120,7 @@ where
     requires { KeysCloneFaithfully S.Range.Key.is_clone S.Range.Key.cmp }
 {
     check_three_counted::<S>(alloc, ranges)?;
+    check_loop(alloc, set_of::<S>(alloc, ranges)?, texts)?;
     let set = set_of::<S>(alloc, ranges)?;
     let copy = set.clone()?;
     check_three_both_ways(alloc, set.into_iter(), copy.into_iter(), texts)
@@ -135,6 +135,22 @@ where
     requires { KeysCloneFaithfully S.Range.Key.is_clone S.Range.Key.cmp }
 {
     check_same(set_of::<S>(alloc, ranges)?.into_iter().len(), 3)
+}
+
+// Compares the three ranges over which a loop goes.
+fn check_loop<S: HandsOver<Range: Debug, Value = ()>>(
+    alloc: Global,
+    set: Set<S>,
+    texts: &str,
+) -> Result<(), Fail>
+where
+    S::Kind: Kind<S::Range, Steps = <S::Range as KeyRange>::Key>,
+{
+    let mut handed = Vec::new(alloc);
+    for range in set {
+        handed.push(range)?;
+    }
+    check_three_listed(alloc, &handed, texts)
 }
 
 // Compares what the operators make of two sets.

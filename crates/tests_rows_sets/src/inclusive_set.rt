@@ -77,7 +77,6 @@ fn bytes_go_to_their_end(rt: HostRuntime) -> Result<(), Fail> {
     )
 }
 
-// By the set's own calls.
 #[test]
 fn changes_and_gaps_keep_their_laws(rt: HostRuntime) -> Result<(), Fail> {
     check_closed::<u32>(

@@ -116,13 +116,12 @@ fn gaps_lie_between_the_ranges(rt: HostRuntime) -> Result<(), Fail> {
     lent_by_vector::<HalfOpen, Range<u32>>(rt.alloc(), lists, Lent::In(0..500, In::TwoGaps), text)?;
     lent_by_tree(rt.alloc(), lists, Lent::In(0..500, In::TwoGaps), text)?;
     lent_by_chunks::<HalfOpen, Range<u32>>(rt.alloc(), lists, Lent::In(0..500, In::TwoGaps), text)?;
+    let lists = ("0..=100, 200..=300, 400..=500", "");
     let text = "((0, None), (Ok(Some(101..=199)), Some(Ok(301..=399))), (Ok(None), None))";
-    lent_by_vector::<Closed<u32>, RangeInclusive<u32>>(
-        rt.alloc(),
-        ("0..=100, 200..=300, 400..=500", ""),
-        Lent::In(0..=500, In::TwoGaps),
-        text,
-    )
+    let asked = Lent::In(0..=500, In::TwoGaps);
+    lent_by_vector::<Closed<u32>, RangeInclusive<u32>>(rt.alloc(), lists, asked, text)?;
+    let asked = Lent::In(0..=500, In::TwoGaps);
+    lent_by_chunks::<Closed<u32>, RangeInclusive<u32>>(rt.alloc(), lists, asked, text)
 }
 
 #[test]

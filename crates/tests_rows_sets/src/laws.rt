@@ -2,17 +2,14 @@
 ghost use Rattle.rangemap.specs.Clones.{KeysCloneFaithfully};
 
 use crate::asked::Asked;
-use crate::sets::{ask_chunks, ask_tree, ask_vector};
+use crate::sets::{ask_closed, ask_half_open};
 use rangemap::laws::sets::{Operator, absorbs, associates, commutes, distributes, is_idempotent};
 use rangemap::set::Set;
-use rangemap_core::closed::Closed;
-use rangemap_core::half_open::HalfOpen;
 use rangemap_core::key_range::KeyRange;
 use rangemap_core::kind::Kind;
 use rangemap_core::store::StoreMut;
 use std::alloc::Global;
 use std::fmt::Debug;
-use std::ops::{Range, RangeInclusive};
 use std::test::Fail;
 use tests_support::{Word, check_made, check_text, check_that, set_of, three_lists};
 
@@ -164,9 +161,7 @@ fn operators_keep_their_laws(rt: HostRuntime) -> Result<(), Fail> {
         intersections: "({3..5}, {3..5}); ({}, {}); ({3..7}, {3..7})",
         first: "{0..5}",
     };
-    let asked = Asked::Laws(laws);
-    ask_vector::<HalfOpen, Range<u32>>(rt.alloc(), &asked)?;
-    ask_tree(rt.alloc(), &asked)
+    ask_half_open(rt.alloc(), &Asked::Laws(laws))
 }
 
 #[test]
@@ -177,9 +172,10 @@ fn operators_of_closed_sets_keep_their_laws(rt: HostRuntime) -> Result<(), Fail>
         intersections: "({3..=4}, {3..=4}); ({}, {}); ({3..=6}, {3..=6})",
         first: "{0..=4}",
     };
-    ask_vector::<Closed<u32>, RangeInclusive<u32>>(rt.alloc(), &Asked::Laws(laws))
+    ask_closed::<u32>(rt.alloc(), &Asked::Laws(laws))
 }
 
+// Of more ranges than a chunk has room for here.
 #[test]
 fn operators_of_sets_in_chunks_keep_their_laws(rt: HostRuntime) -> Result<(), Fail> {
     let laws = Laws {
@@ -192,7 +188,7 @@ fn operators_of_sets_in_chunks_keep_their_laws(rt: HostRuntime) -> Result<(), Fa
             ({1..2, 4..10, 12..13}, {1..2, 4..10, 12..13})",
         first: "{0..2, 4..6, 8..10, 12..14}",
     };
-    ask_chunks::<HalfOpen, Range<u32>>(rt.alloc(), &Asked::Laws(laws))
+    ask_half_open(rt.alloc(), &Asked::Laws(laws))
 }
 
 #[test]
@@ -207,5 +203,5 @@ fn operators_of_closed_sets_in_chunks_keep_their_laws(rt: HostRuntime) -> Result
             ({1..=1, 4..=9, 12..=12}, {1..=1, 4..=9, 12..=12})",
         first: "{0..=1, 4..=5, 8..=9, 12..=13}",
     };
-    ask_chunks::<Closed<u32>, RangeInclusive<u32>>(rt.alloc(), &Asked::Laws(laws))
+    ask_closed::<u32>(rt.alloc(), &Asked::Laws(laws))
 }

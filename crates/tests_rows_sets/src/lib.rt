@@ -1,6 +1,6 @@
 //! The worked rows of sets, laid out as those of maps in `tests_rows_maps`, and the laws of `|` and `&`.
 //!
-//! `sets` names each type of set once, for what `lent` and `asked` say that a test asks of any.
+//! `sets` names the types of sets, for what `lent` and `asked` say that a test asks of any.
 #![tactic(auto)]
 
 #[cfg(test)]

@@ -60,7 +60,6 @@ fn what_is_asked_is_answered(rt: HostRuntime) -> Result<(), Fail> {
     )
 }
 
-// By the set's own calls.
 #[test]
 fn changes_and_gaps_keep_their_laws(rt: HostRuntime) -> Result<(), Fail> {
     check_half_open(

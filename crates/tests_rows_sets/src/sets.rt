@@ -1,7 +1,7 @@
 //! The sets of which tests ask: in a sorted vector, in a tree and in chunks.
 //!
-//! In each function that names a type of set all that the set does is proved anew. So each is named
-//! here, and tests give these functions what they ask.
+//! In each function that names a type of set all that the set does is proved anew. So most tests name
+//! none, and give these functions what they ask; loops, replays and sets of literals name their own.
 ghost use Rattle.rangemap.specs.Clones.{KeysCloneFaithfully};
 
 use crate::asked::{Asked, check_asked, check_changes};
@@ -18,7 +18,7 @@ use std::alloc::Global;
 use std::fmt::Debug;
 use std::ops::{Range, RangeInclusive};
 use std::test::Fail;
-use tests_row_checks::{ReplayName, check_replay};
+use tests_row_checks::check_replay;
 use tests_support::{ChunkedSet, FromEnds, SignedSteps, Word, parts, set_calls_of, set_of};
 
 /// Asks two sets in a sorted vector, made of two lists, what they lend.
@@ -116,16 +116,15 @@ pub fn ask_half_open(alloc: Global, asked: &Asked<'_>) -> Result<(), Fail> {
     ask_chunks::<HalfOpen, Range<u32>>(alloc, asked)
 }
 
-// Asks sets of closed ranges, in a sorted vector and in chunks.
-fn ask_closed<T: StepLite + Clone + Debug + Word<Global>>(
+/// Asks sets of closed ranges, in a sorted vector and in chunks.
+pub fn ask_closed<T: StepLite + Clone + Debug + Word<Global>>(
     alloc: Global,
-    in_vector: &Asked<'_>,
-    in_chunks: &Asked<'_>,
+    asked: &Asked<'_>,
 ) -> Result<(), Fail>
     requires { KeysCloneFaithfully T.is_clone T.cmp }
 {
-    ask_vector::<Closed<T>, RangeInclusive<T>>(alloc, in_vector)?;
-    ask_chunks::<Closed<T>, RangeInclusive<T>>(alloc, in_chunks)
+    ask_vector::<Closed<T>, RangeInclusive<T>>(alloc, asked)?;
+    ask_chunks::<Closed<T>, RangeInclusive<T>>(alloc, asked)
 }
 
 /// Compares a table for sets of half-open ranges.
@@ -140,8 +139,7 @@ pub fn check_closed<T: StepLite + Clone + Debug + Word<Global>>(
 ) -> Result<(), Fail>
     requires { KeysCloneFaithfully T.is_clone T.cmp }
 {
-    let table = Asked::Rows(table);
-    ask_closed::<T>(alloc, &table, &table)
+    ask_closed::<T>(alloc, &Asked::Rows(table))
 }
 
 // The sets of replays are named once more: over any store the checker refuses the list of calls.
@@ -156,22 +154,16 @@ fn check_calls_in_chunks<Q: Kind<R, Steps = R::Key>, R: FromEnds<Key: Word<Globa
 {
     let (calls, accepted, lists) = parts(row)?;
     let calls = set_calls_of::<Q, R, Global>(alloc, calls)?;
-    check_replay::<ChunkedSet<Q, R, Global, 2>, _>(
-        ReplayName::Chunked,
-        alloc,
-        calls,
-        accepted,
-        lists,
-    )
+    check_replay::<ChunkedSet<Q, R, Global, 2>, _>(alloc, calls, accepted, lists)
 }
 
 /// Compares a replay on sets of half-open ranges, in a sorted vector, in a tree and in chunks.
 pub fn check_half_open_replay(alloc: Global, row: &str) -> Result<(), Fail> {
     let (text, accepted, lists) = parts(row)?;
     let calls = set_calls_of::<HalfOpen, Range<u32>, Global>(alloc, text)?;
-    check_replay::<RangeSet<u32>, _>(ReplayName::Set, alloc, calls, accepted, lists)?;
+    check_replay::<RangeSet<u32>, _>(alloc, calls, accepted, lists)?;
     let calls = set_calls_of::<HalfOpen, Range<u32>, Global>(alloc, text)?;
-    check_replay::<tree_set::RangeSet<u32>, _>(ReplayName::TreeSet, alloc, calls, accepted, lists)?;
+    check_replay::<tree_set::RangeSet<u32>, _>(alloc, calls, accepted, lists)?;
     check_calls_in_chunks::<HalfOpen, Range<u32>>(alloc, row)
 }
 
@@ -184,33 +176,17 @@ pub fn check_closed_replay<T: StepLite + Clone + Word<Global>>(
 {
     let (calls, accepted, lists) = parts(row)?;
     let calls = set_calls_of::<Closed<T>, RangeInclusive<T>, Global>(alloc, calls)?;
-    check_replay::<RangeInclusiveSet<T>, _>(
-        ReplayName::InclusiveSet,
-        alloc,
-        calls,
-        accepted,
-        lists,
-    )?;
+    check_replay::<RangeInclusiveSet<T>, _>(alloc, calls, accepted, lists)?;
     check_calls_in_chunks::<Closed<T>, RangeInclusive<T>>(alloc, row)
 }
 
 /// Compares a replay of changes by the steps of bytes.
 pub fn check_bytes_changes(alloc: Global, row: &str) -> Result<(), Fail> {
-    let in_vector = Asked::Changes(ReplayName::InclusiveSetWithStepFns, row);
-    let in_chunks = Asked::Changes(ReplayName::ChunkedWithStepFns, row);
-    ask_closed::<u8>(alloc, &in_vector, &in_chunks)
+    ask_closed::<u8>(alloc, &Asked::Changes(row))
 }
 
 /// Compares a replay of changes by the steps that another type has for signed bytes.
 pub fn check_stepped_changes(alloc: Global, row: &str) -> Result<(), Fail> {
-    check_changes::<RangeInclusiveSet<i8, SignedSteps>>(
-        ReplayName::InclusiveSetWithStepFns,
-        alloc,
-        row,
-    )?;
-    check_changes::<ChunkedSet<Closed<SignedSteps>, RangeInclusive<i8>, Global, 2>>(
-        ReplayName::ChunkedWithStepFns,
-        alloc,
-        row,
-    )
+    check_changes::<RangeInclusiveSet<i8, SignedSteps>>(alloc, row)?;
+    check_changes::<ChunkedSet<Closed<SignedSteps>, RangeInclusive<i8>, Global, 2>>(alloc, row)
 }

@@ -38,7 +38,7 @@ pub use rangemap::tree_set::{
 };
 
 // every law
-pub use rangemap::laws::comparisons::{equal_maps_hash_alike, equality_agrees_with_order};
+pub use rangemap::laws::comparisons::{equal_containers_hash_alike, equality_agrees_with_order};
 pub use rangemap::laws::definitions::{
     closed_rows, json_rows, list_rows, query_rows, set_and_text_rows,
 };

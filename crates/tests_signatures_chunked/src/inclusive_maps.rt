@@ -145,7 +145,7 @@ pub fn write_and_read<K: StepLite + Clone, V: Eq + Clone, E: Copy>(
     )
 }
 
-/// Makes each call of this file once, over any keys; `keys` calls it at six types of them.
+/// Makes every call of this file, over any keys; `keys` calls it at six types of them.
 pub fn every<K: StepLite + Clone + Hash + Debug, const N: usize>(
     alloc: Global,
     map: &mut RangeInclusiveMap<K, u8>,

@@ -133,7 +133,7 @@ pub fn write_and_read<T: StepLite + Clone, E: Copy>(
     )
 }
 
-/// Makes each call of this file once, over any keys; `keys` calls it at six types of them.
+/// Makes every call of this file, over any keys; `keys` calls it at six types of them.
 pub fn every<T: StepLite + Clone + Hash + Debug, const N: usize>(
     alloc: Global,
     set: &mut RangeInclusiveSet<T>,

@@ -127,7 +127,7 @@ pub fn write_and_read<K: Ord + Clone, V: Eq + Clone, E: Copy>(
     )
 }
 
-/// Makes each call of this file once, over any keys; `keys` calls it at seven types of them.
+/// Makes every call of this file, over any keys; `keys` calls it at seven types of them.
 pub fn every<K: Ord + Clone + Hash + Debug, const N: usize>(
     alloc: Global,
     map: &mut RangeMap<K, u8>,

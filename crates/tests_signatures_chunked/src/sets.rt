@@ -119,7 +119,7 @@ pub fn write_and_read<T: Ord + Clone, E: Copy>(
     )
 }
 
-/// Makes each call of this file once, over any keys; `keys` calls it at seven types of them.
+/// Makes every call of this file, over any keys; `keys` calls it at seven types of them.
 pub fn every<T: Ord + Clone + Hash + Debug, const N: usize>(
     alloc: Global,
     set: &mut RangeSet<T>,

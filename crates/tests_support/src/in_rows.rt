@@ -26,7 +26,8 @@ pub trait InRows: Container<
     Alloc: Copy,
     Range: FromEnds<Key: Word<Self::Alloc>>,
     Value: Word<Self::Alloc>,
-> {
+>
+    + Drop {
     /// Tells a reader of all pairs, in order.
     fn read_all<U: ReadsPairs<Self::Range, Self::Value>>(
         &self,

@@ -138,6 +138,7 @@ pub fn members<S: Store>(
     Ok(digest)
 }
 
+// Returns how many queries start at a key of the set.
 fn member_count<S: Store>(set: &S, queries: &[Query]) -> u64 {
     let mut count = 0u64;
     for query in queries {

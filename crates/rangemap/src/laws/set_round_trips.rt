@@ -1,8 +1,8 @@
 //! What is made again of what a set hands over: of its ranges, and of its JSON form.
 //!
-//! The set that is made has another store than the one that it is made of, so that it can't be that
-//! one. Clones are faithful, as for `insert`, and the functions of the JSON form may be called with any
-//! key and any value.
+//! The store of the set that is made is a type parameter of its own, so that the body can't hand
+//! back the set that it was given. Clones are faithful, as for `insert`, and the functions of the
+//! JSON form may be called with any key and any value.
 ghost use Rattle.std.specs.Prelude.{IfErr, IfOk, IsTrue};
 ghost use Rattle.std.specs.Fn.{FnReturnsAt};
 ghost use Rattle.rangemap.specs.Clones.{KeysCloneFaithfully};
@@ -85,8 +85,7 @@ impl<WK, RK> Functions<WK, RK> {
         let value = set.to_value(json_alloc, write_key)?;
         match Set::from_value(alloc, form, &value, read_key) {
             Ok(again) => Ok((value, again)),
-            // A match within the match: an `Err(_)` behind `Err(ReadError::OutOfMemory)` would not tell
-            // the proof that the error is another one.
+            // Two matches, since one would not tell the proof that the error is another one.
             Err(error) => match error {
                 ReadError::OutOfMemory => Err(WriteError::OutOfMemory),
                 _ => unreachable!(),

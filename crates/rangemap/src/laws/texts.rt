@@ -1,7 +1,7 @@
-//! What the debug text of a map or a set is, where the texts of its keys and values are known.
+//! The debug texts of maps and sets over some types of keys and values, whole.
 //!
-//! The laws of numbers and of ASCII texts stand at types of keys: over any store of such ranges a
-//! caller could not be proved.
+//! The laws of numbers and of ASCII texts stand at types of keys: over any store of such ranges
+//! the proof of such a function fails at its callers.
 ghost use Rattle.std.specs.Prelude.{◌≡◌, codes, decimal, string_bytes, true, IfOk};
 ghost use Rattle.std.specs.Char.{is_ascii};
 ghost use Rattle.std.specs.Fmt.{signed_decimal};
@@ -51,6 +51,10 @@ pub fn unsigned_set_text(alloc: Global, set: &RangeSet<u32>) -> Result<String, A
 }
 
 /// Returns the debug text of a map of numbers to ASCII texts.
+///
+/// # Requires
+///
+/// Each value is ASCII.
 ///
 /// # Errors
 ///

@@ -71,10 +71,11 @@ where
     ///
     /// # Errors
     ///
-    /// Entries are read in order. In an entry the order is shape, start, end, emptiness, and with
-    /// `Form::Canonical` then the order and the touch with the range before. The first fault is the
-    /// answer, and nothing is made then. A half-open range is empty where its start is not less than
-    /// its end, a closed one where it is greater.
+    /// `NotAList` where the value is no list. Else entries are read in order, and in an entry the order
+    /// is shape (`BadEntry`), start and end (`BadKey`), emptiness (`EmptyRange`), with `Form::Canonical`
+    /// then the order (`OutOfOrder`) and the touch (`Uncoalesced`) with the range before, and last its
+    /// insert (`OutOfMemory`). The first fault is the answer, and nothing is made then. A half-open range
+    /// is empty where its start is not less than its end, a closed one where it is greater.
     ///
     /// # Examples
     ///

@@ -49,7 +49,11 @@ impl<M: Container> CallOn<M> for Change<M::Range, M::Value> {
     }
 }
 
-/// Pushes what was made, for which there is room. Returns whether it was made.
+/// Pushes what was made. Returns whether it was made.
+///
+/// # Requires
+///
+/// The list has room for one container more.
 pub fn push_made<M: Container>(
     containers: &mut Vec<M, M::Alloc>,
     made: Result<M, AllocError>,

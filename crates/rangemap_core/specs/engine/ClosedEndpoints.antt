@@ -1,4 +1,4 @@
--- Closed ranges lie between places, and answer by their endpoints what is asked about them. No public contract needs this.
+-- Closed ranges lie between places, and answer by their endpoints what is asked about them. No contract of a container needs this.
 use Rattle.std.proofs.Common.{◌≡◌, false, ◌&&◌, Option, Some, None, MatchOption, unwrap_or, ◌∙◌, ap, refl, sym, Ordering, Less, Equal, Greater, is_lt, is_le}
 use Rattle.std.specs.Prelude.{◌≢◌}
 use Rattle.std.specs.Cmp.{IsTotalOrder}

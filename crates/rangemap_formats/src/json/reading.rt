@@ -49,9 +49,9 @@ pub(crate) trait ReadsParts<S: Store, E> {
 ///
 /// # Errors
 ///
-/// Entries are read in order. In an entry the order is shape, start, end, value, emptiness, and
-/// with `Form::Canonical` then the order and the touch with the pair before. The first fault is the
-/// answer, and nothing is made then.
+/// `NotAList` where the value is no list. Else entries are read in order, and in an entry the order is
+/// shape, start, end, value, emptiness, with `Form::Canonical` then the order and the touch with the
+/// pair before, and last its insert. The first fault is the answer, and nothing is made then.
 pub fn read<S: StoreMut + Drop, E, R: ReadsParts<S, E>>(
     alloc: S::Alloc,
     form: Form,

@@ -18,7 +18,7 @@ pub fn equality_agrees_with_order<M: Container + Ord>(left: &M, right: &M) -> (b
 }
 
 /// Equal maps hash alike: fed to two hashers in one state, they leave these in one state.
-pub fn equal_maps_hash_alike<M: Container + Hash, H: Hasher>(
+pub fn equal_containers_hash_alike<M: Container + Hash, H: Hasher>(
     left: &M,
     right: &M,
     left_state: &mut H,

@@ -1,8 +1,8 @@
 //! What is made again of what a map hands over: of its pairs, and of its JSON form.
 //!
-//! The map that is made has another store than the one that it is made of, so that it can't be that
-//! one. Clones are faithful, as for `insert`, and the functions of the JSON form may be called with any
-//! key and any value.
+//! The store of the map that is made is a type parameter of its own, so that the body can't hand
+//! back the map that it was given. Clones are faithful, as for `insert`, and the functions of the
+//! JSON form may be called with any key and any value.
 ghost use Rattle.std.specs.Prelude.{◌≡◌, IfErr, IfOk, IsTrue, true};
 ghost use Rattle.std.specs.Fn.{FnReturnsAt};
 ghost use Rattle.rangemap_core.specs.Clones.{KeysCloneFaithfully, ValuesCloneFaithfully};
@@ -97,8 +97,7 @@ impl<WK, WV, RK, RV> Functions<WK, WV, RK, RV> {
         let value = map.to_value(json_alloc, write_key, write_value)?;
         match Map::from_value(alloc, form, &value, read_key, read_value) {
             Ok(again) => Ok((value, again)),
-            // A match within the match: an `Err(_)` behind `Err(ReadError::OutOfMemory)` would not tell
-            // the proof that the error is another one.
+            // Two matches, since one would not tell the proof that the error is another one.
             Err(error) => match error {
                 ReadError::OutOfMemory => Err(WriteError::OutOfMemory),
                 _ => unreachable!(),

@@ -47,8 +47,8 @@ where
 {
     /// Inserts the items of `iter`, in the order in which they come, each as `insert` does.
     ///
-    /// Items that come in order, behind all that is stored, move no stored pair but where a list gets
-    /// other memory, or where a chunk is cut. Where many come in another order, sort them first.
+    /// In a vector and in chunks, items that come in order, behind all that is stored, move no stored
+    /// pair but where a vector grows or a chunk is cut. Where many come in another order, sort them first.
     ///
     /// # Requires
     ///

@@ -5,7 +5,8 @@ use rangemap_core::key_range::KeyRange;
 use soak_model::{Difference, Ends, Lookup, Model, Piece};
 use std::alloc::{AllocError, Global};
 
-/// `get`, `get_key_value` and `contains_key`, at the start of the range of one point
+/// Asks `get`, `get_key_value` and `contains_key` for the start of the range of one point, and
+/// compares what they answer with the model. Nothing is refused, so it returns `false`.
 pub fn get<S: Soaked>(subject: &S, model: &Model<'_>, point: u8) -> Result<bool, Difference> {
     let range = S::Range::from_points(subject.heap(), point, point)?;
     let key = range.start();
@@ -17,7 +18,8 @@ pub fn get<S: Soaked>(subject: &S, model: &Model<'_>, point: u8) -> Result<bool,
     model.check_lookup(point, lookup)
 }
 
-/// `first_range_value`, `last_range_value` and `is_empty`
+/// Asks `first_range_value`, `last_range_value` and `is_empty`, and compares what they answer with
+/// the model. Nothing is refused, so it returns `false`.
 pub fn ends<S: Soaked>(subject: &S, model: &Model<'_>) -> Result<bool, Difference> {
     let ends = Ends {
         first: piece_of(subject.first_range_value()),
@@ -27,7 +29,8 @@ pub fn ends<S: Soaked>(subject: &S, model: &Model<'_>) -> Result<bool, Differenc
     model.check_ends(ends)
 }
 
-/// `overlaps`, and what `append_overlapping` appends
+/// Asks `overlaps`, and `append_overlapping` for what it appends, and compares both with the model.
+/// Nothing is refused, so it returns `false`.
 pub fn overlapping<S: Soaked>(
     subject: &S,
     model: &Model<'_>,
@@ -41,7 +44,8 @@ pub fn overlapping<S: Soaked>(
     model.check_overlapping((first, last), &list, subject.overlaps(&query))
 }
 
-/// `gaps`, by `try_next` or by `next`
+/// Asks for `gaps`, by `try_next` or by `next`, and compares them with the points that nothing has.
+/// Returns whether one was refused.
 pub fn gaps<S: Soaked>(
     subject: &S,
     model: &mut Model<'_>,
@@ -60,6 +64,7 @@ pub fn list<S: Soaked>(alloc: Global, subject: &S) -> Result<Vec<Piece>, AllocEr
     pieces(alloc, &pairs)
 }
 
+// Returns the pairs as pieces of points.
 fn pieces<R: Told, V: Mark<A>, A: Copy>(
     alloc: Global,
     pairs: &[(R, V)],
@@ -71,11 +76,13 @@ fn pieces<R: Told, V: Mark<A>, A: Copy>(
     Ok(pieces)
 }
 
+// Returns a pair that was found as a piece of points.
 fn piece_of<R: Told, V: Mark<A>, A: Copy>(found: Option<(&R, &V)>) -> Option<Piece> {
     let (range, value) = found?;
     Some(range.piece(value.mark()))
 }
 
+// Returns the mark of a value that was found.
 fn mark_of<V: Mark<A>, A: Copy>(found: Option<&V>) -> Option<u8> {
     Some(found?.mark())
 }

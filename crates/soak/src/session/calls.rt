@@ -7,7 +7,8 @@ use soak_model::{Change, Difference, Model, Points, Run};
 use std::alloc::AllocError;
 use tests_support::{extend_by, made_from};
 
-/// `insert`, `remove`, `extend` or `clear`.
+/// Makes an `insert`, a `remove`, an `extend` or a `clear`, and compares what it leaves with the model.
+/// Returns whether it was refused.
 pub fn change<S: Soaked>(
     subject: &mut S,
     model: &mut Model<'_>,
@@ -39,7 +40,8 @@ pub fn change<S: Soaked>(
     model.change(change, is_accepted, held)
 }
 
-/// `clone`, the copy of which takes the container's place.
+/// Makes a `clone`, compares it with the model, and puts it in the container's place. Returns whether it
+/// was refused.
 pub fn copy<S: Soaked>(subject: &mut S, model: &mut Model<'_>) -> Result<bool, Difference> {
     let held = model.chance.heap.held();
     model.chance.refuse_one();
@@ -52,7 +54,7 @@ pub fn copy<S: Soaked>(subject: &mut S, model: &mut Model<'_>) -> Result<bool, D
     Ok(is_refused)
 }
 
-/// `from_iter`
+/// Makes a container by `from_iter`, and compares it with the model. Returns whether it was refused.
 pub fn collect<S: Soaked>(
     subject: &S,
     model: &mut Model<'_>,
@@ -65,7 +67,8 @@ pub fn collect<S: Soaked>(
     check_made(subject, model, &made, true, &Points::of(runs), held)
 }
 
-/// `|` or `&` with a set that is made for it; of a map, a lookup.
+/// Makes `|` or `&` with a set that is made for it, and compares the result with the model; of a map it
+/// makes a lookup. Returns whether it was refused.
 pub fn combine<S: Soaked>(
     subject: &S,
     model: &mut Model<'_>,

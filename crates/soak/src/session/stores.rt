@@ -1,4 +1,4 @@
-//! Runs on containers over each store, which is named here once for all keys and values.
+//! Sessions on containers over each store, which is named here once for all keys and values.
 
 use super::{Report, Session, soak_map, soak_set};
 use crate::soaked::{Heap, Mark, PointKey, PointRange};

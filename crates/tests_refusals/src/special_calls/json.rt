@@ -32,10 +32,8 @@ fn read_number(part: &Value) -> Result<u32, NoNumber> {
 // Reads a key or a value whose clones take memory.
 fn read_costly<'a>(heap: &'a Heap, part: &Value) -> Result<Costly<'a>, NoNumber> {
     let number = part.as_u64().ok_or(NoNumber)?;
-    match u8::try_from(number) {
-        Ok(byte) => Ok(Costly { byte, heap }),
-        Err(_) => Err(NoNumber),
-    }
+    let byte = u8::try_from(number).ok().ok_or(NoNumber)?;
+    Ok(Costly { byte, heap })
 }
 
 // The form that a row reads in, and the value that it reads.
@@ -44,7 +42,7 @@ fn form_and_value(alloc: Global, given: &str) -> Result<(Form, Value), Fail> {
     let form = match form {
         "any" => Form::Any,
         "canonical" => Form::Canonical,
-        _ => return Err(Fail::new("no form is called so")),
+        _ => return Err(Fail::new(format_args!("no form is called {form}"))),
     };
     Ok((form, Value::from_str(alloc, text)?))
 }

@@ -6,7 +6,7 @@ use super::hash_of;
 use super::tallied::{Counts, Tallied, Tally};
 use rangemap::RangeMap;
 use rangemap::container::Container;
-use rangemap::laws::comparisons::{equal_maps_hash_alike, equality_agrees_with_order};
+use rangemap::laws::comparisons::{equal_containers_hash_alike, equality_agrees_with_order};
 use rangemap::laws::equal_exactly_when_alike;
 use std::alloc::{AllocError, Global};
 use std::cmp::Ordering;
@@ -46,7 +46,7 @@ fn are_alike<M: Container + Hash>(one: &M, same: &M, tallies: Tallies<'_>) -> bo
     }
     let _ = (tallies.0.taken(), tallies.1.taken());
     let (mut left, mut right) = (Folding::new(), Folding::new());
-    equal_maps_hash_alike(one, same, &mut left, &mut right);
+    equal_containers_hash_alike(one, same, &mut left, &mut right);
     (left.finish(), right.finish()) == (hash, hash) && are_counted(tallies, (0, 0, 1))
 }
 

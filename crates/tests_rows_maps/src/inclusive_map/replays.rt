@@ -1,5 +1,4 @@
-//! Rows over closed ranges made by both replays, where every call is accepted, and calls that name no
-//! map.
+//! Rows over closed ranges made by `replay`, where every call is accepted, and calls that name no map.
 
 use crate::tables::{check_calls_in_chunks, check_changes, check_closed_replay};
 use rangemap_core::closed::Closed;

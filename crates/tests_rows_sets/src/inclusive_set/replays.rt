@@ -1,4 +1,4 @@
-//! Rows over sets of closed ranges made by both replays, and calls that name no set.
+//! Rows over sets of closed ranges made by `replay`, and calls that name no set.
 
 use crate::sets::{check_bytes_changes, check_closed_replay, check_stepped_changes};
 use std::test::Fail;

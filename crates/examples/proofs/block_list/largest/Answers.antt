@@ -1,6 +1,6 @@
 use Rattle.std.proofs.Common.{arith, ◌≡◌, inl, inr, ◌*◌, ◌-◌, ◌%◌, ◌≤◌, ap, sym, subst, ◌∙◌}
 use Rattle.std.proofs.lemmas.Bool.{cases_lt}
-use Rattle.examples.specs.Cidr.{size_of}
+use Rattle.examples.specs.BlockList.{size_of}
 use Rattle.examples.proofs.CidrLemmas.{aligned_too, smaller, twice}
 use Rattle.examples.proofs.block_list.largest.Goals as goal
 use Rattle.examples.proofs.block_list.largest.Goals.{then-wider-test+then-at-size-eq0+else-at-size, then-wider-test+else-at-size-eq0, else-wider-test}

@@ -1,5 +1,5 @@
 use Rattle.std.proofs.Common.{◌≡◌, ◌+◌, ◌≤◌}
-use Rattle.examples.specs.Cidr.{IsBlock, size_of}
+use Rattle.examples.specs.BlockList.{IsBlock, size_of}
 use Rattle.examples.proofs.block_list.largest.Given as goal
 
 -- the block so far fits

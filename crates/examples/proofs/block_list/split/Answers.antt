@@ -1,6 +1,6 @@
 use Rattle.std.proofs.Common.{arith, ◌≡◌, subst}
 use Rattle.std.proofs.lemmas.List.Elements.{All-push, All-weaker}
-use Rattle.examples.specs.Cidr.{IsBlock, IsLargest, Tile}
+use Rattle.examples.specs.BlockList.{IsBlock, IsLargest, Tile}
 use Rattle.examples.proofs.CidrLemmas.{Tile-last, largest_are_fewest}
 use Rattle.examples.proofs.block_list.split.Goals as goal
 

@@ -1,5 +1,5 @@
 use Rattle.std.proofs.Common.{◌≤◌, ◌-◌, All}
-use Rattle.examples.specs.Cidr.{IsLargest, Tile}
+use Rattle.examples.specs.BlockList.{IsLargest, Tile}
 use Rattle.examples.proofs.block_list.split.Given as goal
 
 -- the blocks so far are those of the addresses before `at`

@@ -1,7 +1,7 @@
 use Rattle.std.proofs.Common.{Bool, true, false, ap, not, refl, ◌≡◌, ◌∙◌}
 use Rattle.std.proofs.lemmas.Result.{IfOk-weaker}
 use Rattle.rangemap.proofs.SetCallerLemmas.{equal_sets, placed_characters}
-use Rattle.examples.specs.Characters.{has}
+use Rattle.examples.specs.CharClass.{has}
 use Rattle.examples.proofs.char_class.complement_twice.Goals as goal
 
 not_not : (b : Bool) → not (not b) ≡ b

@@ -1,6 +1,6 @@
 use Rattle.std.proofs.Common.{Bool, true, false, ap, not, refl, sym, ◌≡◌, ◌&&◌, ◌||◌, ◌∙◌}
 use Rattle.rangemap.proofs.SetCallerLemmas.{equal_sets, placed_characters}
-use Rattle.examples.specs.Characters.{has}
+use Rattle.examples.specs.CharClass.{has}
 use Rattle.examples.proofs.char_class.de_morgan.Goals as goal
 
 not_or : (a b : Bool) → not (a || b) ≡ (not a && not b)

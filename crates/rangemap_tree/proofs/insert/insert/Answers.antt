@@ -15,10 +15,10 @@ use Rattle.rangemap_tree.proofs.insert.insert.Goals as goal
 use Rattle.rangemap_tree.proofs.insert.insert.Goals.{in_default-via-in-Some+else-is_gt, in_default-via-in_default}
 
 pub left_side-requires-clause-near : goal.left_side-requires-clause-near
-left_side-requires-clause-near g c = c.last_up_to-near.ensures
+left_side-requires-clause-near g c = c.last_within-near.ensures
 
 pub right_side-requires-clause-near : goal.right_side-requires-clause-near
-right_side-requires-clause-near g c = c.last_up_to-near.ensures
+right_side-requires-clause-near g c = c.last_within-near.ensures
 
 pub starts_between-requires-clause-forward : goal.starts_between-requires-clause-forward
 starts_between-requires-clause-forward g c =
@@ -111,7 +111,7 @@ replace-requires-in_default-clause-starts g c =
     let ps = c.args.pairs.now in
     let m : Range g.row.K.Denot = record { start = c.unwrap_or.result; end = c.unwrap_or-2.result } in
     let sp = to_spaced (half_open_placed o) eq ps c.requires.canonical in
-    let near = c.last_up_to-near in
+    let near = c.last_within-near in
     let past = past_at o eq e ps c.requires.canonical c.args.range c.requires.non_empty c.args.value c.in_ok-left.left.start c.in_ok-right.right.end c.in_ok-left.left.cut c.in_ok-right.right.piece c.in_ok-left.ensures c.in_ok-right.ensures m c.unwrap_or.ensures c.unwrap_or-2.ensures in
     let within : List (Range g.row.K.Denot × g.row.V.Denot) = filter (λ p. range_contains cmp (Excluded m.start) (Excluded m.end) p.0.start) ps in
     let none : within ≡ [] = elim c.in_default.branch [

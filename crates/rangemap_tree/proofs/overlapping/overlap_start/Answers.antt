@@ -24,9 +24,9 @@ within g c =
     elim c.in_default.branch [
       | in_default-via-in-Some+else-is_gt w ↦
           let a : Range g.row.K.Denot × g.row.V.Denot = (w.in-Some.range.now, w.in-Some.field-0-1.now) in
-          let is = taken_some deref_pair _ c.last_up_to.result c.last_up_to.ensures (w.in-Some.range, w.in-Some.field-0-1) w.in-Some.is in
-          behind_last o eq e ps sp q c.last_up_to.ensures.0 a is (ap is_gt (sym w.cmp.ensures) ∙ sym w.is_gt.ensures ∙ w.if-is_gt.false)
-      | in_default-via-in_default w ↦ behind_none o eq e ps sp q (taken_none deref_pair _ c.last_up_to.result c.last_up_to.ensures w.in_default.is)
+          let is = taken_some deref_pair _ c.last_within.result c.last_within.ensures (w.in-Some.range, w.in-Some.field-0-1) w.in-Some.is in
+          behind_last o eq e ps sp q c.last_within.ensures.0 a is (ap is_gt (sym w.cmp.ensures) ∙ sym w.is_gt.ensures ∙ w.if-is_gt.false)
+      | in_default-via-in_default w ↦ behind_none o eq e ps sp q (taken_none deref_pair _ c.last_within.result c.last_within.ensures w.in_default.is)
     ]
 
 pub returns-then-is_lt-clause-overlapped : goal.returns-then-is_lt-clause-overlapped

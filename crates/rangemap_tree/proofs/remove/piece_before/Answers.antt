@@ -23,7 +23,7 @@ returns-in_default g c =
     let near : Range g.row.K.Denot × g.row.V.Denot = (c.args.near.0.now, c.args.near.1.now) in
     let took : (us : List (Range g.row.K.Denot × g.row.V.Denot)) × TakesLast deref_pair (before cmp r.start ps) c.if-is_lt.first us = elim c.if-is_lt.branch [
       | then-is_lt w ↦ rw w.first-is (c.requires.near.0, last_before_start o eq e ps sp r c.requires.range c.requires.near.0 near c.requires.near.1 (lt_is (cmp near.0.start r.start) (ap is_lt (sym c.cmp.ensures) ∙ sym c.is_lt.ensures ∙ w.if-is_lt.true)))
-      | else-is_lt w ↦ rw w.first-is w.last_up_to-first.ensures
+      | else-is_lt w ↦ rw w.first-is w.last_within-first.ensures
     ] in
     left_none_cut o eq e ps sp r c.requires.range (taken_none deref_pair _ c.if-is_lt.first took c.in_default.is)
 
@@ -39,7 +39,7 @@ returns-then-is_le g c =
     let near : Range g.row.K.Denot × g.row.V.Denot = (c.args.near.0.now, c.args.near.1.now) in
     let took : (us : List (Range g.row.K.Denot × g.row.V.Denot)) × TakesLast deref_pair (before cmp r.start ps) c.if-is_lt.first us = elim c.if-is_lt.branch [
       | then-is_lt w ↦ rw w.first-is (c.requires.near.0, last_before_start o eq e ps sp r c.requires.range c.requires.near.0 near c.requires.near.1 (lt_is (cmp near.0.start r.start) (ap is_lt (sym c.cmp.ensures) ∙ sym c.is_lt.ensures ∙ w.if-is_lt.true)))
-      | else-is_lt w ↦ rw w.first-is w.last_up_to-first.ensures
+      | else-is_lt w ↦ rw w.first-is w.last_within-first.ensures
     ] in
     let a : Range g.row.K.Denot × g.row.V.Denot = (c.in-Some.first.now, c.in-Some.field-0-1.now) in
     let us = taken_some deref_pair _ c.if-is_lt.first took (c.in-Some.first, c.in-Some.field-0-1) c.in-Some.is in
@@ -57,7 +57,7 @@ returns g c =
     let near : Range g.row.K.Denot × g.row.V.Denot = (c.args.near.0.now, c.args.near.1.now) in
     let took : (us : List (Range g.row.K.Denot × g.row.V.Denot)) × TakesLast deref_pair (before cmp r.start ps) c.if-is_lt.first us = elim c.if-is_lt.branch [
       | then-is_lt w ↦ rw w.first-is (c.requires.near.0, last_before_start o eq e ps sp r c.requires.range c.requires.near.0 near c.requires.near.1 (lt_is (cmp near.0.start r.start) (ap is_lt (sym c.cmp.ensures) ∙ sym c.is_lt.ensures ∙ w.if-is_lt.true)))
-      | else-is_lt w ↦ rw w.first-is w.last_up_to-first.ensures
+      | else-is_lt w ↦ rw w.first-is w.last_within-first.ensures
     ] in
     let a : Range g.row.K.Denot × g.row.V.Denot = (c.in-Some.first.now, c.in-Some.field-0-1.now) in
     let us = taken_some deref_pair _ c.if-is_lt.first took (c.in-Some.first, c.in-Some.field-0-1) c.in-Some.is in

@@ -1,5 +1,4 @@
 use Rattle.std.proofs.Common.{◌≤◌, ◌+◌, List, ◌++◌, ◌∙◌, sym, ap, [], length, subst, is_gt, is_le, is_lt, true≢false}
-use Rattle.std.specs.Map.Iter.{deref_pair}
 use Rattle.std.specs.declared.ops.Range.{Range}
 use Rattle.rangemap_core.specs.engine.EndpointKinds.{half_open_placed, lt_is}
 use Rattle.rangemap_core.specs.Ranges.{half_open, IsCanonOf, erase, value_at}

@@ -3,7 +3,7 @@ use Rattle.rangemap.specs.CharLaws.{IsChar}
 use Rattle.rangemap.proofs.Loops.{asks_for_gaps}
 use Rattle.rangemap.proofs.NumberKinds.{closed_holds, unsigned}
 use Rattle.rangemap.proofs.SetCallerLemmas.{AreInserted, below_last_character, gaps_inserted, none_inserted, one_more_inserted, placed_characters}
-use Rattle.examples.specs.Characters.{characters, has}
+use Rattle.examples.specs.CharClass.{characters, has}
 use Rattle.examples.proofs.char_class.CharClass.complement.Goals as goal
 
 pub loop-gap-init : goal.loop-gap-init

@@ -1,5 +1,5 @@
 use Rattle.rangemap.proofs.SetCallerLemmas.{AreInserted}
-use Rattle.examples.specs.Characters.{characters}
+use Rattle.examples.specs.CharClass.{characters}
 use Rattle.examples.proofs.char_class.CharClass.complement.Given as goal
 
 -- the class has the characters of the gaps so far

@@ -3,7 +3,7 @@ use Rattle.std.specs.Prelude.{nat_eq}
 use Rattle.rangemap.proofs.Loops.{LendsPairs, lends_again}
 use Rattle.rangemap.proofs.NumberKinds.{placed_below}
 use Rattle.rangemap.proofs.PairLoopLemmas.{item_is_stored, value_from_items}
-use Rattle.examples.specs.Places.{blocks}
+use Rattle.examples.specs.Extents.{blocks}
 use Rattle.examples.proofs.ExtentLemmas.{forward, outside, unused_by, used_by}
 use Rattle.examples.proofs.extents.Extents.is_used.Goals as goal
 

@@ -5,7 +5,7 @@ use Rattle.rangemap.proofs.NumberLemmas.{inserted, same_number}
 use Rattle.examples.proofs.ChangeLemmas.{after_either}
 use Rattle.examples.proofs.ExtentLemmas.{one_to_one_mapped}
 use Rattle.examples.proofs.RingLemmas.{lies_within}
-use Rattle.examples.specs.Places.{IsOneToOne}
+use Rattle.examples.specs.Extents.{IsOneToOne}
 use Rattle.examples.proofs.extents.Extents.map.Goals as goal
 
 pub invariant_of-self : goal.invariant_of-self

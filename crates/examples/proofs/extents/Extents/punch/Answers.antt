@@ -4,7 +4,7 @@ use Rattle.rangemap.proofs.NumberKinds.{closed_unsigned}
 use Rattle.rangemap.proofs.NumberLemmas.{removed, same_number}
 use Rattle.examples.proofs.ChangeLemmas.{after_either}
 use Rattle.examples.proofs.ExtentLemmas.{one_to_one_punched}
-use Rattle.examples.specs.Places.{IsOneToOne}
+use Rattle.examples.specs.Extents.{IsOneToOne}
 use Rattle.examples.proofs.extents.Extents.punch.Goals as goal
 
 pub invariant_of-self : goal.invariant_of-self

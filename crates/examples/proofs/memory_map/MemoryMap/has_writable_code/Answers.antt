@@ -5,7 +5,7 @@ use Rattle.rangemap.proofs.Loops.{LendsPairs, lends_again}
 use Rattle.rangemap.proofs.NumberKinds.{half_open_unsigned, placed_half_open}
 use Rattle.rangemap.proofs.NumberLemmas.{forward}
 use Rattle.rangemap.proofs.PairLoopLemmas.{item_is_stored, value_from_items}
-use Rattle.examples.specs.Memory.{IsBoth, is_both}
+use Rattle.examples.specs.MemoryMap.{IsBoth, is_both}
 use Rattle.examples.proofs.memory_map.MemoryMap.has_writable_code.Goals as goal
 
 pub returns-then-region-2 : goal.returns-then-region-2

@@ -1,6 +1,6 @@
 use Rattle.std.proofs.Common.{◌≡◌, All, false}
 use Rattle.std.specs.Map.Iter.{deref_pair}
-use Rattle.examples.specs.Memory.{is_both}
+use Rattle.examples.specs.MemoryMap.{is_both}
 use Rattle.examples.proofs.memory_map.MemoryMap.has_writable_code.Given as goal
 
 -- no region so far is both

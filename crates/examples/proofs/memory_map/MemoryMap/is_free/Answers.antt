@@ -2,7 +2,7 @@ use Rattle.std.proofs.Common.{not, sym, true≢false, ◌∙◌, ◌≡◌, ℕ,
 use Rattle.std.specs.declared.ops.Range.{Range}
 use Rattle.rangemap.proofs.NumberKinds.{half_open_storable, half_open_unsigned, unsigned}
 use Rattle.rangemap.proofs.NumberLemmas.{free_by_overlaps, held_by_overlaps, not_free_and_held}
-use Rattle.examples.specs.Memory.{IsFree}
+use Rattle.examples.specs.MemoryMap.{IsFree}
 use Rattle.examples.proofs.memory_map.MemoryMap.is_free.Goals as goal
 
 not_true : (b : Bool) → not b ≡ true → b ≡ false

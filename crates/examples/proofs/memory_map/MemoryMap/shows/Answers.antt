@@ -6,7 +6,7 @@ use Rattle.rangemap.proofs.LoopLemmas.{value_from_met_items}
 use Rattle.rangemap.proofs.Loops.{LendsPairs, lends_again}
 use Rattle.rangemap.proofs.NumberKinds.{half_open_storable, half_open_unsigned, placed_half_open, unsigned}
 use Rattle.rangemap.proofs.PairLoopLemmas.{IsAsked, met_item_is_stored}
-use Rattle.examples.specs.Memory.{IsShown}
+use Rattle.examples.specs.MemoryMap.{IsShown}
 use Rattle.examples.proofs.memory_map.MemoryMap.shows.Goals as goal
 use Rattle.examples.specs.contracts.memory_map.RegionPartialEq as region
 use Rattle.examples.specs.declared.memory_map.Region.{Region}

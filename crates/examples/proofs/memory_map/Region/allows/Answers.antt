@@ -1,5 +1,5 @@
 use Rattle.std.proofs.Common.{ap, sym}
-use Rattle.examples.specs.Memory.{allows}
+use Rattle.examples.specs.MemoryMap.{allows}
 use Rattle.examples.proofs.memory_map.Region.allows.Goals as goal
 
 pub returns-in-Read : goal.returns-in-Read

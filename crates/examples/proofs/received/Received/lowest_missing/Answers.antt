@@ -1,7 +1,7 @@
 use Rattle.std.proofs.Common.{arith, ◌^◌, ◌+◌, ◌≡◌, false, subst, sym}
 use Rattle.rangemap.proofs.NumberKinds.{closed_unsigned}
 use Rattle.rangemap.proofs.SetCallerLemmas.{set_run_found}
-use Rattle.examples.specs.Numbers.{is_in}
+use Rattle.examples.specs.Received.{is_in}
 use Rattle.examples.proofs.received.Received.lowest_missing.Goals as goal
 
 pub returns-then-last-lt18446744073709551615-clause-found : goal.returns-then-last-lt18446744073709551615-clause-found

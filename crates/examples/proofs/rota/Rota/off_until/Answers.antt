@@ -2,7 +2,7 @@ use Rattle.std.proofs.Common.{Ok, Some, None, refl, subst}
 use Rattle.rangemap.specs.MadeRanges.{TakesRange}
 use Rattle.rangemap.proofs.Loops.{asks_first_gap}
 use Rattle.rangemap.proofs.SetNumberLemmas.{first_gap, some_gap}
-use Rattle.examples.specs.Duty.{hours}
+use Rattle.examples.specs.Rota.{hours}
 use Rattle.examples.proofs.rota.Rota.off_until.Goals as goal
 
 pub returns : goal.returns

@@ -1,6 +1,6 @@
 use Rattle.rangemap.proofs.CallerLemmas.{gap_keys}
 use Rattle.rangemap.proofs.NumberKinds.{half_open_unsigned}
-use Rattle.examples.specs.Duty.{hours}
+use Rattle.examples.specs.Rota.{hours}
 use Rattle.examples.proofs.rota.Rota.uncovered.Goals as goal
 
 pub returns : goal.returns
