@@ -41,7 +41,7 @@ impl<A: Allocator> Calendar<A> {
 ///
 /// # Errors
 ///
-/// `Err` says that there was no memory for the answers. Then no call was made.
+/// There was no memory for the answers: then no call was made.
 pub fn replay<A: Allocator>(
     alloc: A,
     calendar: &mut Calendar<A>,

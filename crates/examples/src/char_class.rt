@@ -8,7 +8,8 @@ use rangemap::RangeInclusiveSet;
 use std::alloc::{AllocError, Global};
 use std::ops::RangeInclusive;
 
-/// A set of characters. Two classes of the same characters are equal, however they were made.
+/// A set of characters. The `members` of two classes of the same characters are equal, however these
+/// were made.
 #[derive(Drop)]
 pub struct CharClass {
     /// The characters.
@@ -99,7 +100,7 @@ impl CharClass {
 }
 
 /// The law of De Morgan: returns "not in one or the other", and "not in one, and not in the other",
-/// which are equal.
+/// whose members are equal.
 ///
 /// # Errors
 ///
@@ -120,7 +121,7 @@ pub fn de_morgan(
     Ok((left, right))
 }
 
-/// Returns the complement of the complement, which is equal to the class.
+/// Returns the complement of the complement, whose members are equal to those of the class.
 ///
 /// # Errors
 ///

@@ -32,8 +32,8 @@ pub use inserts::insert_pairs;
 /// containers, as the replay and the laws, is proved of the calls that users make. The appends give
 /// clones of what `iter`, `overlapping` and `gaps` lend or make.
 ///
-/// `Drop` is no bound of it, as of no store: what only borrows a container needs none, and what owns
-/// one asks for `Container + Drop`.
+/// `Drop` is no bound of it, as of no store: what only borrows a container needs none, and what may
+/// drop one asks for `Container + Drop`.
 pub trait Container: PartialEq {
     /// A stored range.
     type Range: KeyRange;

@@ -62,7 +62,7 @@ pub fn equal_exactly_when_alike<M: Container>(left: &M, right: &M) -> (bool, boo
 ///
 /// # Errors
 ///
-/// The insert was refused. The map is as it was.
+/// The insert was refused. The container is as it was.
 pub fn insert_changes_its_range_alone<M: Container>(
     map: &mut M,
     range: M::Range,
@@ -84,7 +84,7 @@ pub fn insert_changes_its_range_alone<M: Container>(
 ///
 /// # Errors
 ///
-/// The remove was refused. The map is as it was.
+/// The remove was refused. The container is as it was.
 pub fn remove_changes_its_range_alone<M: Container>(
     map: &mut M,
     range: M::Range,
@@ -101,12 +101,13 @@ pub fn remove_changes_its_range_alone<M: Container>(
     map.remove(range)
 }
 
-/// The same insert twice leaves what it leaves once: given two equal maps, it inserts into `once` a
-/// single time and into `twice` two times, and they are equal again.
+/// The same insert twice leaves what it leaves once: given two equal containers, it inserts into
+/// `once` a single time and into `twice` two times, and they are equal again.
 ///
 /// # Errors
 ///
-/// An insert was refused. Each map is as it was, or as one insert leaves it.
+/// An insert, or the clone of a range or a value for it, was refused. Each container is as it was, or
+/// as one insert leaves it.
 pub fn insert_twice_equals_once<M: Container>(
     once: &mut M,
     twice: &mut M,
@@ -128,12 +129,13 @@ pub fn insert_twice_equals_once<M: Container>(
     insert_clone(twice, range, value)
 }
 
-/// Inserts on ranges with no common point commute: given two equal maps, it makes both inserts into
-/// each, in the one order and in the other, and the maps are equal again.
+/// Inserts on ranges with no common point commute: given two equal containers, it makes both
+/// inserts into each, in the one order and in the other, and they are equal again.
 ///
 /// # Errors
 ///
-/// An insert was refused. Each map is as it was, or as one of its inserts left it.
+/// An insert, or the clone of a range or a value for it, was refused. Each container is as it was, or
+/// as one of its inserts left it.
 pub fn inserts_commute<M: Container>(
     forth: &mut M,
     back: &mut M,
@@ -158,13 +160,13 @@ pub fn inserts_commute<M: Container>(
     insert_clone(back, first.0, first.1)
 }
 
-/// A remove takes back the insert before it: given two equal maps, it inserts into `changed` and
-/// removes the range again, removes it from `removed` alone, and the maps are equal again.
+/// A remove takes back the insert before it: given two equal containers, it inserts into
+/// `changed` and removes the range again, removes it from `removed` alone, and they are equal again.
 ///
 /// # Errors
 ///
-/// A call was refused. `changed` is as it was, or as one of its calls left it, and `removed` is as it
-/// was.
+/// A call, or a clone for it, was refused. `changed` is as it was, or as one of its calls left it, and
+/// `removed` is as it was.
 pub fn remove_after_insert_equals_remove<M: Container>(
     changed: &mut M,
     removed: &mut M,

@@ -1,4 +1,4 @@
-//! What a run leaves to chance: which calls are made, on what, and which requests are refused. The
+//! What a session leaves to chance: which calls are made, on what, and which requests are refused. The
 //! numbers look random, and are the same for the same seed.
 ghost use Rattle.std.specs.Prelude.{◌<◌};
 

@@ -19,7 +19,7 @@ use tests_row_text::{FromEnds, ReadsGaps, ReadsPairs, Word};
 /// A container of which a text names the ranges and the values, and which tells what it holds, by its
 /// own iterators.
 ///
-/// It builds on one trait alone: over two that share a third, each function here takes many times
+/// Beside `Drop` it builds on one trait alone: over two that share a third, each function here takes many times
 /// as long to prove. And each container has an impl of its own: one for all that have what is asked
 /// would make every use of a container twice as long to prove.
 pub trait InRows: Container<

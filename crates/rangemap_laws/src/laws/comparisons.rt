@@ -1,4 +1,4 @@
-//! How equality, order and hash of maps hang together.
+//! How equality, order and hash of containers hang together.
 ghost use Rattle.std.specs.Prelude.{◌≡◌, ◌↔◌, fold, IsTrue};
 ghost use Rattle.std.specs.declared.cmp.Ordering.TheVariants.{Equal as EqualWord};
 ghost use Rattle.rangemap_core.specs.Ranges.{same_pairs};
@@ -7,8 +7,8 @@ use rangemap_containers::container::Container;
 use std::cmp::Ordering;
 use std::hash::{Hash, Hasher};
 
-/// Equality agrees with order: two maps are equal exactly where neither is less. The answers are
-/// those of `==` and `cmp`.
+/// Equality agrees with order: two containers are equal exactly where neither is less. The answers
+/// are those of `==` and `cmp`.
 pub fn equality_agrees_with_order<M: Container + Ord>(left: &M, right: &M) -> (bool, Ordering)
     ensures equal { result.0 ≡ same_pairs M.Kind.kind M.Value.eq (M.pairs left.now) (M.pairs right.now) }
     ensures order { result.1 ≡ M.cmp left.now right.now }
@@ -17,7 +17,7 @@ pub fn equality_agrees_with_order<M: Container + Ord>(left: &M, right: &M) -> (b
     (left == right, left.cmp(right))
 }
 
-/// Equal maps hash alike: fed to two hashers in one state, they leave these in one state.
+/// Equal containers hash alike: fed to two hashers in one state, they leave these in one state.
 pub fn equal_containers_hash_alike<M: Container + Hash, H: Hasher>(
     left: &M,
     right: &M,
