@@ -1,0 +1,89 @@
+//! What the library has of its own: laws, replays and their calls, runs of commands, and what code
+//! over any container names.
+
+use rangemap::laws;
+use rangemap::tree_map::Container;
+use std::alloc::{AllocError, Global};
+use std::ops::Range;
+
+// the structs behind the aliases, under the name that each container's module gives them, and what
+// containers have in common
+pub use rangemap::container::{Container as AnyContainer, collect_gaps, insert_pairs, segments};
+pub use rangemap::inclusive_map::Map as MapOfClosedRanges;
+pub use rangemap::inclusive_set::Set as SetOfClosedRanges;
+pub use rangemap::map::Map;
+pub use rangemap::range_set::{Operator as OperatorOfSets, Set as SetOverAnyStore};
+pub use rangemap::set::Set;
+pub use rangemap::tree_map::Map as MapInTree;
+pub use rangemap::tree_set::Set as SetInTree;
+
+// one function, under the name that each container's module gives it, and the calls that it makes
+pub use rangemap::inclusive_map::{
+    Call as CallOfClosedMaps, Change as ChangeOfClosedMaps, replay as replay_of_closed_maps,
+    replay_with_step_fns as replay_of_maps_by_step_fns,
+};
+pub use rangemap::inclusive_set::{
+    Call as CallOfClosedSets, Change as ChangeOfClosedSets, replay as replay_of_closed_sets,
+    replay_with_step_fns as replay_of_sets_by_step_fns,
+};
+pub use rangemap::map::{Call as CallOfMaps, Change as ChangeOfMaps, replay as replay_of_maps};
+pub use rangemap::range_set::calls::SetCall;
+pub use rangemap::set::{Call as CallOfSets, Change as ChangeOfSets, replay as replay_of_sets};
+pub use rangemap::tree_map::{
+    Answer, Call as CallOfTrees, Change as ChangeOfTrees, Command, Outcome,
+    replay as replay_of_trees, run,
+};
+pub use rangemap::tree_set::{
+    Call as CallOfSetsInTrees, Change as ChangeOfSetsInTrees, replay as replay_of_sets_in_trees,
+};
+
+// all of these in chunks
+pub use rangemap::chunked::{
+    Call as CallOfChunks, Change as ChangeOfChunks, InclusiveCall, InclusiveChange,
+    InclusiveSetCall, InclusiveSetChange, Map as MapInChunks, Set as SetInChunks,
+    SetCall as CallOfSetsInChunks, SetChange as ChangeOfSetsInChunks, replay as replay_of_chunks,
+    replay_with_step_fns as replay_of_chunks_by_step_fns,
+};
+
+// every law
+pub use rangemap::laws::comparisons::{equal_containers_hash_alike, equality_agrees_with_order};
+pub use rangemap::laws::definitions::{
+    closed_rows, json_rows, list_rows, query_rows, set_and_text_rows,
+};
+pub use rangemap::laws::iterators::{
+    items_go_to_the_end, next_back_ends_both_ends, next_ends_both_ends, next_ends_tries,
+    next_stays_ended, try_next_ends_tries,
+};
+pub use rangemap::laws::overlaps::overlaps_exactly_where_covered;
+pub use rangemap::laws::round_trips::{Functions, from_iter_of_into_iter_is_equal};
+pub use rangemap::laws::runs::accepted_runs_answer_alike;
+pub use rangemap::laws::set_round_trips::{
+    Functions as FunctionsOfSets, from_iter_of_into_iter_is_equal as from_iter_of_a_set_is_equal,
+};
+pub use rangemap::laws::sets::{
+    Operator, absorbs, associates, closed_operations, commutes, distributes, is_idempotent,
+};
+pub use rangemap::laws::texts::{
+    ascii_text, set_texts_are_joined, signed_text, texts_are_joined, unsigned_set_text,
+    unsigned_text,
+};
+pub use rangemap::laws::{
+    equal_exactly_when_alike, gaps_and_covered_keys_make_up_a_range,
+    insert_changes_its_range_alone, insert_twice_equals_once, inserts_commute, lists_are_unique,
+    remove_after_insert_equals_remove, remove_changes_its_range_alone,
+};
+
+pub fn represented<M: Container<Range = Range<u32>, Value = char>>(
+    map: &M,
+    query: &Range<u32>,
+    out: &mut Vec<(Range<u32>, char), Global>,
+    gaps: &mut Vec<Range<u32>, Global>,
+) -> Result<(), AllocError> {
+    map.append_all(out)?;
+    map.append_overlapping(query, out)?;
+    map.append_gaps(query, gaps)
+}
+
+pub fn laws_alike<M: Container>(left: &M, right: &M) -> (bool, bool) {
+    laws::equal_exactly_when_alike(left, right)
+}
