@@ -1,0 +1,2 @@
+-- Lemmas of the rows of any container.
+pub mod NoCommonKey

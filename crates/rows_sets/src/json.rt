@@ -1,0 +1,123 @@
+//! Sets over each store, as far as rows ask for their JSON form, each named once over open keys.
+
+use rangemap_chunked::Chunks;
+use rangemap_core::key_range::KeyRange;
+use rangemap_core::kind::Kind;
+use rangemap_core::store::{HandsOver, Store, StoreMut};
+use rangemap_sorted::SortedVec;
+use rangemap_tree::Tree;
+use rows_json::{JsonSet, JsonWord, SetRoundTrips};
+use rows_runner::{Group, Known, Session};
+use rows_text::{FromEnds, Heap, Memory};
+use std::alloc::AllocError;
+
+// Runs the rows about the JSON form of a set.
+fn run_json<S>(
+    alloc: S::Alloc,
+    name: &str,
+    made: Known,
+    session: &mut Session<'_>,
+) -> Result<(), AllocError>
+where
+    S: StoreMut<Alloc: Memory, Range: FromEnds<Key: JsonWord<S::Alloc>>>
+        + Store<Value = ()>
+        + HandsOver
+        + Drop,
+    S::Kind: Kind<S::Range, Steps = <S::Range as KeyRange>::Key>,
+{
+    let mut set: JsonSet<S> = JsonSet::new(alloc);
+    session.run(name, made, Group::Json, &mut set)
+}
+
+// Runs those besides that a set of numbers has, which is made again of what it hands over.
+fn run_round_trips<S>(
+    alloc: S::Alloc,
+    name: &str,
+    session: &mut Session<'_>,
+) -> Result<(), AllocError>
+where
+    S: StoreMut<Alloc: Memory, Range: FromEnds<Key = u32>> + Store<Value = ()> + HandsOver + Drop,
+    S::Kind: Kind<S::Range, Steps = <S::Range as KeyRange>::Key>,
+{
+    let made = Known::JSON_AND_ROUND_TRIPS;
+    run_json::<S>(alloc, name, made, session)?;
+    let mut set: SetRoundTrips<S> = SetRoundTrips::new(alloc);
+    session.run(name, made, Group::RoundTrips, &mut set)
+}
+
+/// Runs the rows about the JSON form of a set in a sorted vector.
+pub fn json_in_vector<Q, R, A>(
+    alloc: A,
+    kind: &str,
+    session: &mut Session<'_>,
+) -> Result<(), AllocError>
+where
+    Q: Kind<R, Steps = R::Key>,
+    R: FromEnds<Key: JsonWord<A>>,
+    A: Memory,
+{
+    let name = session.name(kind, "vector")?;
+    run_json::<SortedVec<Q, R, (), A>>(alloc, name.as_str(), Known::JSON, session)
+}
+
+/// Runs the rows about the JSON form of a set in a tree.
+pub fn json_in_tree<K, A>(alloc: A, kind: &str, session: &mut Session<'_>) -> Result<(), AllocError>
+where
+    K: JsonWord<A>,
+    A: Memory,
+{
+    let name = session.name(kind, "tree")?;
+    run_json::<Tree<K, (), A>>(alloc, name.as_str(), Known::JSON, session)
+}
+
+/// Runs the rows about the JSON form of a set in chunks of up to `N` ranges.
+pub fn json_in_chunks<'h, Q, R, const N: usize>(
+    heap: &'h Heap,
+    kind: &str,
+    session: &mut Session<'_>,
+) -> Result<(), AllocError>
+where
+    Q: Kind<R, Steps = R::Key>,
+    R: FromEnds<Key: JsonWord<&'h Heap>>,
+{
+    let name = session.name_in_chunks(kind, N)?;
+    run_json::<Chunks<Q, R, (), &'h Heap, N>>(heap, name.as_str(), Known::JSON, session)
+}
+
+/// Runs those of a set of numbers in a sorted vector, and those about round trips.
+pub fn numbers_in_vector<Q, R, A>(
+    alloc: A,
+    kind: &str,
+    session: &mut Session<'_>,
+) -> Result<(), AllocError>
+where
+    Q: Kind<R, Steps = u32>,
+    R: FromEnds<Key = u32>,
+    A: Memory,
+{
+    let name = session.name(kind, "vector")?;
+    run_round_trips::<SortedVec<Q, R, (), A>>(alloc, name.as_str(), session)
+}
+
+/// Runs those of a set of numbers in a tree, and those about round trips.
+pub fn numbers_in_tree<A>(alloc: A, kind: &str, session: &mut Session<'_>) -> Result<(), AllocError>
+where
+    A: Memory,
+{
+    let name = session.name(kind, "tree")?;
+    run_round_trips::<Tree<u32, (), A>>(alloc, name.as_str(), session)
+}
+
+/// Runs those of a set of numbers in chunks of up to `N` ranges, and those about round trips.
+pub fn numbers_in_chunks<'h, Q, R, const N: usize>(
+    heap: &'h Heap,
+    kind: &str,
+    session: &mut Session<'_>,
+) -> Result<(), AllocError>
+where
+    Q: Kind<R, Steps = u32>,
+    R: FromEnds<Key = u32>,
+{
+    let name = session.name_in_chunks(kind, N)?;
+    run_round_trips::<Chunks<Q, R, (), &'h Heap, N>>(heap, name.as_str(), session)
+}

@@ -1,0 +1,85 @@
+//! The laws of `|` and `&`, run on a set and on others that a question has.
+
+use crate::any_steps::made_of;
+use rangemap::laws::sets::{Operator, absorbs, associates, commutes, distributes, is_idempotent};
+use rangemap::set::Set;
+use rangemap_core::key_range::KeyRange;
+use rangemap_core::kind::Kind;
+use rangemap_core::store::{HandsOver, StoreMut};
+use rows_text::{Fault, FromEnds, Memory, OwnRanges, Question, Word, first_word, write_all};
+use std::alloc::AllocError;
+
+/// Runs the law that a question names first, of the operator that it names then, on a set, the set of
+/// the list behind that and the one of the list behind a semicolon. Appends what both sides make.
+pub fn ask<S>(set: &Set<S>, question: &Question<'_>, out: &mut String) -> Result<(), Fault>
+where
+    S: StoreMut<Value = (), Alloc: Memory, Range: FromEnds<Key: Word<S::Alloc>>> + HandsOver + Drop,
+    S::Kind: Kind<S::Range, Steps = <S::Range as KeyRange>::Key>,
+{
+    let alloc = *set.allocator();
+    let (law, operand) = first_word(question.operand);
+    let (name, list) = first_word(operand);
+    let operator = operator_of(name)?;
+    let second: Set<S> = made_of(alloc, list)?;
+    let third: Set<S> = made_of(alloc, question.script)?;
+    match law {
+        "commutes" => {
+            apply_both(operator, set, &second)?;
+            write_both(commutes(operator, set, &second), out)
+        }
+        "associates" => write_both(associates(operator, set, &second, &third), out),
+        "distributes" => write_both(distributes(operator, set, &second, &third), out),
+        "idempotent" => write_set(&is_idempotent(operator, set)?, out),
+        "absorbs" => write_set(&absorbs(operator, set, &second)?, out),
+        _ => Err(Fault::NoOperand),
+    }
+}
+
+// The operator that a word names, which is the other of the other.
+fn operator_of(word: &str) -> Result<Operator, Fault> {
+    let operator = match word {
+        "or" => Operator::Union,
+        "and" => Operator::Intersection,
+        _ => return Err(Fault::NoOperand),
+    };
+    if operator.other() == operator || operator.other().other() != operator {
+        return Err(Fault::Differs);
+    }
+    Ok(operator)
+}
+
+// Applies an operator to two sets in either order, which has to make the same.
+fn apply_both<S>(operator: Operator, set: &Set<S>, other: &Set<S>) -> Result<(), Fault>
+where
+    S: StoreMut<Value = (), Alloc: Memory, Range: FromEnds<Key: Word<S::Alloc>>> + Drop,
+    S::Kind: Kind<S::Range, Steps = <S::Range as KeyRange>::Key>,
+{
+    let applied = operator.apply(set, other)?;
+    if applied != operator.apply(other, set)? {
+        return Err(Fault::Differs);
+    }
+    Ok(())
+}
+
+// Appends the ranges of two sets that a law makes, which have to be the same.
+fn write_both<S>(made: Result<(Set<S>, Set<S>), AllocError>, out: &mut String) -> Result<(), Fault>
+where
+    S: StoreMut<Value = (), Alloc: Memory, Range: FromEnds<Key: Word<S::Alloc>>> + HandsOver + Drop,
+    S::Kind: Kind<S::Range, Steps = <S::Range as KeyRange>::Key>,
+{
+    let (one, other) = made?;
+    if one != other {
+        return Err(Fault::Differs);
+    }
+    write_set(&one, out)
+}
+
+/// Appends the ranges of a set.
+pub fn write_set<S>(set: &Set<S>, out: &mut String) -> Result<(), Fault>
+where
+    S: StoreMut<Value = (), Alloc: Memory, Range: FromEnds<Key: Word<S::Alloc>>> + HandsOver + Drop,
+    S::Kind: Kind<S::Range, Steps = <S::Range as KeyRange>::Key>,
+{
+    let copy = set.clone()?;
+    write_all::<_, _, OwnRanges<S::Alloc>>(copy.into_iter(), out)
+}

@@ -1,0 +1,213 @@
+//! What each word does to a set whose keys have steps of their own, or none.
+ghost use Rattle.rangemap_core.specs.Ranges.{AreNonEmpty};
+ghost use Rattle.rangemap_core.specs.Sets.{AreNonEmptyRanges};
+
+use crate::{any_steps, operators, replays};
+use rangemap::container::insert_pairs;
+use rangemap::set::Set;
+use rangemap_core::key_range::KeyRange;
+use rangemap_core::kind::Kind;
+use rangemap_core::store::{HandsOver, Store, StoreMut};
+use rows_text::{
+    Fault, FromEnds, Memory, OwnRanges, Question, Subject, Word, first_word, pairs_of, ranges_of,
+    write_taken,
+};
+use std::alloc::AllocError;
+
+/// A set that is asked what only one over its key's own steps can be.
+#[derive(Drop)]
+pub struct OwnSteps<S: Store<Value = ()>> {
+    set: Set<S>,
+}
+
+impl<S: StoreMut<Value = (), Alloc: Memory>> OwnSteps<S>
+where
+    S::Kind: Kind<S::Range, Steps = <S::Range as KeyRange>::Key>,
+{
+    /// The empty set.
+    pub fn new(alloc: S::Alloc) -> OwnSteps<S> {
+        OwnSteps {
+            set: Set::new(alloc),
+        }
+    }
+}
+
+impl<S> Subject for OwnSteps<S>
+where
+    S: StoreMut<Value = (), Alloc: Memory, Range: FromEnds<Key: Word<S::Alloc>>> + HandsOver + Drop,
+    S::Kind: Kind<S::Range, Steps = <S::Range as KeyRange>::Key>,
+{
+    fn renew(&mut self) {
+        any_steps::renew(&mut self.set);
+    }
+
+    fn change(&mut self, call: &str, granted: u64) -> Result<(), Fault> {
+        let (name, operand) = first_word(call);
+        match name {
+            "extend" => extend(&mut self.set, operand, granted),
+            "or" | "and" => become_joined(&mut self.set, (name, operand), granted),
+            "insert_pairs" => insert_list(&mut self.set, operand, granted),
+            "from_iter" => become_made(&mut self.set, operand, granted),
+            "new" => become_new(&mut self.set, granted),
+            _ => any_steps::change(&mut self.set, call, granted),
+        }
+    }
+
+    fn ask(&self, question: &Question<'_>, out: &mut String) -> Result<(), Fault> {
+        match question.name {
+            "iter" | "into_iter" => hand_over(&self.set, question, out),
+            "replay" => replays::ask::<S>(*self.set.allocator(), question, out),
+            "operators" => operators::ask(&self.set, question, out),
+            "debug" => debug(&self.set, question, out),
+            "lines" => lines(&self.set, question, out),
+            _ => any_steps::ask(&self.set, question, out),
+        }
+    }
+}
+
+fn become_new<S: StoreMut<Value = (), Alloc: Memory> + Drop>(
+    set: &mut Set<S>,
+    granted: u64,
+) -> Result<(), Fault>
+where
+    S::Kind: Kind<S::Range, Steps = <S::Range as KeyRange>::Key>,
+{
+    let alloc = *set.allocator();
+    alloc.begin(granted);
+    *set = Set::new(alloc);
+    alloc.end();
+    Ok(())
+}
+
+fn extend<S>(set: &mut Set<S>, ranges: &str, granted: u64) -> Result<(), Fault>
+where
+    S: StoreMut<Value = (), Alloc: Memory, Range: FromEnds<Key: Word<S::Alloc>>>,
+    S::Kind: Kind<S::Range, Steps = <S::Range as KeyRange>::Key>,
+{
+    let alloc = *set.allocator();
+    let ranges = ranges_of::<S::Kind, S::Range, S::Alloc>(alloc, ranges)?;
+    alloc.begin(granted);
+    let made = extend_by(set, ranges);
+    alloc.end();
+    Ok(made?)
+}
+
+fn become_made<S>(set: &mut Set<S>, ranges: &str, granted: u64) -> Result<(), Fault>
+where
+    S: StoreMut<Value = (), Alloc: Memory, Range: FromEnds<Key: Word<S::Alloc>>> + Drop,
+    S::Kind: Kind<S::Range, Steps = <S::Range as KeyRange>::Key>,
+{
+    let alloc = *set.allocator();
+    let ranges = ranges_of::<S::Kind, S::Range, S::Alloc>(alloc, ranges)?;
+    alloc.begin(granted);
+    let made = made_from(alloc, ranges);
+    alloc.end();
+    *set = made?;
+    Ok(())
+}
+
+fn insert_list<S>(set: &mut Set<S>, pairs: &str, granted: u64) -> Result<(), Fault>
+where
+    S: StoreMut<Value = (), Alloc: Memory, Range: FromEnds<Key: Word<S::Alloc>>> + Drop,
+{
+    let alloc = *set.allocator();
+    let pairs = pairs_of::<S::Kind, S::Range, (), S::Alloc>(alloc, pairs)?;
+    alloc.begin(granted);
+    let made = insert_all(set, pairs);
+    alloc.end();
+    Ok(made?)
+}
+
+// Inserts the pairs of a list one by one.
+fn insert_all<S>(set: &mut Set<S>, pairs: Vec<(S::Range, ()), S::Alloc>) -> Result<(), AllocError>
+where
+    S: StoreMut<Value = (), Alloc: Memory, Range: FromEnds<Key: Word<S::Alloc>>> + Drop,
+    requires non_empty { AreNonEmpty S.Kind.kind pairs.items }
+{
+    insert_pairs(set, pairs)
+}
+
+// Puts the set of the keys of this one or of that of a list, or of both, in its place.
+fn become_joined<S>(set: &mut Set<S>, call: (&str, &str), granted: u64) -> Result<(), Fault>
+where
+    S: StoreMut<Value = (), Alloc: Memory, Range: FromEnds<Key: Word<S::Alloc>>> + Drop,
+    S::Kind: Kind<S::Range, Steps = <S::Range as KeyRange>::Key>,
+{
+    let (name, ranges) = call;
+    let alloc = *set.allocator();
+    let ranges = ranges_of::<S::Kind, S::Range, S::Alloc>(alloc, ranges)?;
+    let other: Set<S> = made_from(alloc, ranges)?;
+    alloc.begin(granted);
+    let made = if name == "or" {
+        &*set | &other
+    } else {
+        &*set & &other
+    };
+    alloc.end();
+    *set = made?;
+    Ok(())
+}
+
+// Extends a set by the ranges of a list.
+fn extend_by<S>(set: &mut Set<S>, ranges: Vec<S::Range, S::Alloc>) -> Result<(), AllocError>
+where
+    S: StoreMut<Value = (), Alloc: Memory, Range: FromEnds<Key: Word<S::Alloc>>>,
+    S::Kind: Kind<S::Range, Steps = <S::Range as KeyRange>::Key>,
+    requires non_empty { AreNonEmptyRanges S.Kind.kind ranges.items }
+{
+    set.extend(ranges)
+}
+
+// Makes a set of the ranges of a list.
+fn made_from<S>(alloc: S::Alloc, ranges: Vec<S::Range, S::Alloc>) -> Result<Set<S>, AllocError>
+where
+    S: StoreMut<Value = (), Alloc: Memory, Range: FromEnds<Key: Word<S::Alloc>>> + Drop,
+    S::Kind: Kind<S::Range, Steps = <S::Range as KeyRange>::Key>,
+    requires non_empty { AreNonEmptyRanges S.Kind.kind ranges.items }
+{
+    Set::from_iter(alloc, ranges)
+}
+
+// Appends what is taken of the ranges that a clone hands over.
+fn hand_over<S>(set: &Set<S>, question: &Question<'_>, out: &mut String) -> Result<(), Fault>
+where
+    S: StoreMut<Value = (), Alloc: Memory, Range: FromEnds<Key: Word<S::Alloc>>> + HandsOver + Drop,
+    S::Kind: Kind<S::Range, Steps = <S::Range as KeyRange>::Key>,
+{
+    let alloc = *set.allocator();
+    let copy = set.clone()?;
+    alloc.begin(question.granted);
+    let answer = write_taken::<_, _, OwnRanges<S::Alloc>>(copy.into_iter(), question.operand, out);
+    alloc.end();
+    answer
+}
+
+fn debug<S>(set: &Set<S>, question: &Question<'_>, out: &mut String) -> Result<(), Fault>
+where
+    S: StoreMut<Value = (), Alloc: Memory, Range: FromEnds<Key: Word<S::Alloc>>>,
+    S::Kind: Kind<S::Range, Steps = <S::Range as KeyRange>::Key>,
+{
+    let alloc = *set.allocator();
+    alloc.begin(question.granted);
+    write!(out, "{set:?}")?;
+    alloc.end();
+    Ok(())
+}
+
+// Appends the text of many lines, with a slash for each new line.
+fn lines<S>(set: &Set<S>, question: &Question<'_>, out: &mut String) -> Result<(), Fault>
+where
+    S: StoreMut<Value = (), Alloc: Memory, Range: FromEnds<Key: Word<S::Alloc>>>,
+    S::Kind: Kind<S::Range, Steps = <S::Range as KeyRange>::Key>,
+{
+    let alloc = *set.allocator();
+    let mut text = String::new(*out.allocator());
+    alloc.begin(question.granted);
+    write!(text, "{set:#?}")?;
+    alloc.end();
+    for line in text.split('\n') {
+        out.push_str(line.trim())?;
+        out.push('/')?;
+    }
+    Ok(())
+}

@@ -1,0 +1,4 @@
+-- Lemmas of the allocator and of the calls of rows.
+pub mod Ticks
+pub mod Shapes
+pub mod OneMore
