@@ -1,6 +1,0 @@
-use Rattle.std.specs.Vec.Iter.{into_iter_items}
-use Rattle.rangemap_core.proofs.IncomingLemmas.{listed}
-use Rattle.tests_refusal_checks.proofs.makers.insert_until.Goals as goal
-
-pub insert_pairs-answer-requires-clause-non_empty : goal.insert_pairs-answer-requires-clause-non_empty
-insert_pairs-answer-requires-clause-non_empty g c it h = listed g.M.Kind.Kind.kind into_iter_items h.3 it _ h.0 c.requires.non_empty

@@ -1,2 +1,0 @@
--- Lemmas of the rows.
-pub mod NoCommonKey

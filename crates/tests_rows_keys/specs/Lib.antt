@@ -1,2 +1,0 @@
-pub mod Reversed
-pub mod Pairs
