@@ -14,8 +14,8 @@ use rangemap_sorted::entries::covering;
 use std::alloc::{AllocError, Allocator};
 use std::marker::{Model, PhantomData};
 
-/// How many pairs a chunk has at most, in the containers that users name, where memory is not refused.
-/// docs/SPEED.md says what other sizes cost.
+/// How many pairs a chunk has at most, in the containers that users name, where memory is not
+/// refused.
 pub const SIZE: usize = 512;
 
 /// Pairs of a range and a value in chunks, each a sorted vector of up to `N` pairs, or of more where
@@ -135,6 +135,8 @@ impl<Q: Kind<R>, R: KeyRange, V: Eq + Clone, A: Allocator + Clone, const N: usiz
 
 impl<Q: Kind<R>, R: KeyRange, V: Eq + Clone, A: Allocator + Clone, const N: usize> StoreMut
     for Chunks<Q, R, V, A, N> {
+    ghost room = { λ _. 0 };
+
     fn empty(alloc: A) -> Self {
         Chunks {
             chunks: Vec::new(alloc),

@@ -36,7 +36,7 @@ impl<R, V, A: Allocator> Model for IntoIter<R, V, A> {
 }
 
 impl<R, V, A: Allocator> IntoIter<R, V, A> {
-    /// Returns the pairs of the chunks, none of which was taken yet.
+    /// Returns the pairs of the chunks, before any was taken.
     pub(crate) fn over(chunks: Vec<Chunk<R, V, A>, A>) -> Self
         requires { AreFilled chunks.items }
         ensures { result ≡ whole chunks.items }

@@ -26,6 +26,7 @@ pub mod SameRangeLemmas
 pub mod SearchLemmas
 pub mod SegmentLemmas
 pub mod SetLemmas
+pub mod StoredKeyLemmas
 pub mod StoredLemmas
 pub mod UniquenessLemmas
 pub mod UnitLemmas

@@ -4,9 +4,9 @@ use Rattle.std.proofs.Math.Bool.{or-false}
 use Rattle.std.proofs.lemmas.List.{length-map}
 use Rattle.std.specs.Bool.{⊤}
 use Rattle.rangemap_core.specs.Ranges.{RangeKind, IsCanonOf, IsCanonOfPoints, covering, covers, erase, nothing, overlapped, override, override_all, Overrides, unit_eq, value_at, with_unit}
-use Rattle.rangemap_core.specs.Operators.{common, either}
-use Rattle.rangemap_core.proofs.OperatorLemmas.{common_some, either_some}
-use Rattle.rangemap_core.specs.Sets.{Adds, AreCommon, AreEither, TakesOut, met, range_at, ranges}
+use Rattle.rangemap_core.specs.Operators.{common, either, one_only, without}
+use Rattle.rangemap_core.proofs.OperatorLemmas.{common_some, either_some, one_only_some, without_some}
+use Rattle.rangemap_core.specs.Sets.{Adds, AreCommon, AreEither, AreOneOnly, AreWithout, TakesOut, met, range_at, ranges}
 use Rattle.rangemap_core.proofs.UnitValueLemmas.{canon_of, covers_one, erased, overridden, ranges_met, ranges_with, value_covers}
 
 module _ {K X : Type 0} (k : RangeKind K X) where
@@ -35,6 +35,16 @@ module _ {K X : Type 0} (k : RangeKind K X) where
   pub intersected : (ps qs rs : List X) → AreCommon k ps qs rs → IsCanonOf k (unit_eq k) (common (value_at k (with_unit k ps)) (value_at k (with_unit k qs))) (with_unit k rs)
   intersected ps qs rs h = canon_of k (common (value_at k (with_unit k ps)) (value_at k (with_unit k qs))) _ rs
       (λ x key. common_some (value_at k (with_unit k ps) x) (value_at k (with_unit k qs) x) ∙ ap (λ b. b && is_some (value_at k (with_unit k qs) x)) (valued_where_covered ps x) ∙ ap (λ b. covers k ps x && b) (valued_where_covered qs x)) h
+
+  pub subtracted : (ps qs rs : List X) → AreWithout k ps qs rs → IsCanonOf k (unit_eq k) (without (value_at k (with_unit k ps)) (value_at k (with_unit k qs))) (with_unit k rs)
+  subtracted ps qs rs h = canon_of k (without (value_at k (with_unit k ps)) (value_at k (with_unit k qs))) _ rs
+      (λ x key. without_some (value_at k (with_unit k ps) x) (value_at k (with_unit k qs) x) ∙ ap (λ b. b && not (is_some (value_at k (with_unit k qs) x))) (valued_where_covered ps x) ∙ ap (λ b. covers k ps x && not b) (valued_where_covered qs x)) h
+
+  pub exchanged : (ps qs rs : List X) → AreOneOnly k ps qs rs → IsCanonOf k (unit_eq k) (one_only (value_at k (with_unit k ps)) (value_at k (with_unit k qs))) (with_unit k rs)
+  exchanged ps qs rs h = canon_of k (one_only (value_at k (with_unit k ps)) (value_at k (with_unit k qs))) _ rs
+      (λ x key. one_only_some (value_at k (with_unit k ps) x) (value_at k (with_unit k qs) x)
+      ∙ ap (λ b. (b && not (is_some (value_at k (with_unit k qs) x))) || (is_some (value_at k (with_unit k qs) x) && not b)) (valued_where_covered ps x)
+      ∙ ap (λ b. (covers k ps x && not b) || (b && not (covers k ps x))) (valued_where_covered qs x)) h
 
   -- ---- several ranges, one after another
 

@@ -25,15 +25,16 @@ module _ {K X : Type 0} (k : RangeKind K X) where
       by rest true = refl
       by rest false = rest
 
-  pub value_covers : (ps : List (X × ⊤)) (x : K) → is_some (value_at k ps x) ≡ covers k (ranges ps) x
+  -- of values of any type
+  pub value_covers : {V : Type 0} (ps : List (X × V)) (x : K) → is_some (value_at k ps x) ≡ covers k (ranges ps) x
   value_covers [] x = refl
-  value_covers (p ∷ ps) x = by (value_covers ps x) (k.holds p.0 x)
+  value_covers {V} (p ∷ ps) x = by (value_covers ps x) (k.holds p.0 x)
     where
-      by : is_some (value_at k ps x) ≡ covers k (ranges ps) x → (b : Bool) → is_some (option_map (λ (q : X × ⊤). q.1) (cond b (Some p) (covering k ps x))) ≡ is_some (cond b (Some p.0) (range_at k (ranges ps) x))
+      by : is_some (value_at k ps x) ≡ covers k (ranges ps) x → (b : Bool) → is_some (option_map (λ (q : X × V). q.1) (cond b (Some p) (covering k ps x))) ≡ is_some (cond b (Some p.0) (range_at k (ranges ps) x))
       by rest true = refl
       by rest false = rest
 
-  pub covering_covers : (ps : List (X × ⊤)) (x : K) → is_some (covering k ps x) ≡ covers k (ranges ps) x
+  pub covering_covers : {V : Type 0} (ps : List (X × V)) (x : K) → is_some (covering k ps x) ≡ covers k (ranges ps) x
   covering_covers [] x = refl
   covering_covers (p ∷ ps) x = by (covering_covers ps x) (k.holds p.0 x)
     where

@@ -1,7 +1,7 @@
 //! Closed ranges as a kind.
 //!
-//! A step is asked of a key only where a greater or smaller key was seen, which is a condition of
-//! the step: so nothing here steps past the last key of a type.
+//! A step from a key requires that a greater or a smaller key was seen. So nothing here steps past the
+//! last key of a type.
 ghost use Rattle.rangemap_core.specs.engine.Endpoints.{IsAskedAt, endpoint_of};
 ghost use Rattle.rangemap_core.specs.Ranges.{closed};
 

@@ -1,14 +1,14 @@
-//! What goes over the pairs of a store, lent or handed over.
+//! Iteration over the pairs of a store, lent or handed over.
 ghost use Rattle.std.specs.Prelude.{◌≡◌, ◌∷◌, [], List, MatchOption};
 ghost use Rattle.std.specs.Map.Iter.{TakesFirst, TakesLast};
 ghost use Rattle.rangemap_core.specs.Shown.{shown};
 
 use crate::key_range::KeyRange;
 
-/// What takes the pairs of a store one after another, from both ends.
+/// Takes the pairs of a store one after another, from both ends.
 ///
 /// The public iterators wrap one, so that no store writes an impl of std's `Iterator`. The trait has no
-/// lifetime, so that a struct can hold a cursor of any.
+/// lifetime, so a struct can hold a cursor of any lifetime.
 pub trait Cursor: Drop {
     /// A stored range.
     type Range;
@@ -16,10 +16,10 @@ pub trait Cursor: Drop {
     /// What a range is mapped to.
     type Value;
 
-    /// What is there of a range that is taken: the range itself, or a reference to it.
+    /// What a caller gets of a range: the range itself, or a reference to it.
     type Given;
 
-    /// What is there of its value.
+    /// What a caller gets of its value.
     type GivenValue;
 
     /// The pairs that are still to come.
@@ -45,7 +45,7 @@ pub trait Cursor: Drop {
         ensures value { result.1.now ≡ given_value pair.now.1 };
 }
 
-/// A cursor that shows the next pair without taking it, as unions and intersections ask of it.
+/// A cursor that shows the next pair without taking it. Unions, intersections and differences need that.
 pub trait Peek: Cursor<Range: KeyRange, Given: Drop, GivenValue: Drop> {
     /// Returns the first pair that is still to come.
     fn peek(&mut self) -> Option<(Self::Given, Self::GivenValue)>
@@ -53,7 +53,7 @@ pub trait Peek: Cursor<Range: KeyRange, Given: Drop, GivenValue: Drop> {
         ensures first { MatchOption result (Self.left self.old ≡ []) (λ pair. (rest : List (Self.Range × Self.Value)) × (Self.left self.old ≡ shown Self.given Self.given_value pair ∷ rest)) };
 }
 
-/// A cursor over pairs that are lent for `'a`: what it gives of a range is a reference to it.
+/// A cursor over pairs that are lent for `'a`. It gives references to the ranges.
 pub trait LentCursor<'a, R: 'a>: Cursor<Range = R, Given = &'a R> {
     /// The reference leads to the range.
     ghost lent: { (range : _) → Self.given range ≡ range.now };

@@ -1,4 +1,4 @@
-//! The parts of a range that no stored range covers, whatever keeps the ranges.
+//! The parts of a range that no stored range covers, for any store.
 ghost use Rattle.std.specs.Prelude.{◌≡◌, ◌≢◌, ◌++◌, [], Bool, IfOk, IfSome, IsOk, List, None as NoneWord, Ok as OkWord, OnErr, OnOk, length, map};
 ghost use Rattle.std.specs.Iterator.{Drains, IsFinite, UpTo, at_most};
 ghost use Rattle.std.specs.Iterator.SizeHint.{IsWithinCount};
@@ -24,7 +24,7 @@ use std::marker::{Model, PhantomData};
 pub struct Gaps<'a, Q: Kind<R>, R: KeyRange, C: Cursor<Range = R>> {
     // Where the next gap may start: with the outer range, or behind the last stored range.
     from: Endpoint<'a, R>,
-    // The pair in front of which a gap was refused, to be asked for again.
+    // The pair before which a gap was refused. You may ask for that gap again.
     refused: Option<(C::Given, C::GivenValue)>,
     pairs: C,
     outer_range: &'a R,
@@ -44,8 +44,8 @@ impl<'a, Q: Kind<R>, R: KeyRange, C: Cursor<Range = R>> Model for Gaps<'a, Q, R,
 }
 
 impl<'a, Q: Kind<R>, R: KeyRange + 'a, C: LentCursor<'a, R, GivenValue: Drop>> Gaps<'a, Q, R, C> {
-    /// Returns the gaps that pairs leave in the range, where they are those of a canonical list that
-    /// overlap it, and its ends are keys.
+    /// Returns the gaps that pairs leave in the range. The pairs are those of a canonical list that
+    /// overlap the range, and its ends are keys.
     pub fn over(pairs: C, outer_range: &'a R) -> Self
         ensures items { result ≡ gaps_from Q.kind Q.end_place Q.part_of (AtStart outer_range.now) outer_range.now (C.left pairs) }
         ensures gaps { (eq : C.Value → C.Value → Bool) → (list : List (R × C.Value)) → IsCanonical Q.kind eq list → IsAsked Q.kind outer_range.now → C.left pairs ≡ overlapped Q.kind list outer_range.now → AreGaps Q.kind (map (λ pair. pair.0) list) outer_range.now result }
@@ -68,8 +68,8 @@ impl<'a, Q: Kind<R>, R: KeyRange + 'a, C: LentCursor<'a, R, GivenValue: Drop>> G
     ///
     /// # Errors
     ///
-    /// A clone was refused, which those of numbers, characters and references never are. Nothing
-    /// changed then, so the same gap may be asked for again.
+    /// A clone was refused. Nothing has changed then, so you may ask for the same gap again. Clones
+    /// of numbers, characters and references are never refused.
     pub fn try_next(&mut self) -> Result<Option<R>, AllocError>
         requires { KeysCloneFaithfully R.Key.is_clone R.Key.cmp }
         ensures ok { IfOk result (λ item. TakesRange Q.kind self.old item self.new) }
@@ -110,13 +110,13 @@ impl<'a, Q: Kind<R>, R: KeyRange + 'a, C: LentCursor<'a, R, GivenValue: Drop>> I
 
     ghost remaining = { λ s. at_most (length s) };
 
-    /// Returns the next gap, as `try_next` makes it. Where a clone was refused, which those of numbers,
-    /// characters and references never are, it says so once, as `Some(Err(AllocError))`, and has
-    /// ended then.
+    /// Returns the next gap, as `try_next` makes it. If a clone is refused, `next` returns
+    /// `Some(Err(AllocError))` once, and `None` from then on. Clones of numbers, characters and
+    /// references are never refused.
     fn next(&mut self) -> Option<Result<R, AllocError>> {
         let gap = self.try_next();
         if gap.is_err() {
-            // A refusal is the last answer.
+            // Nothing follows a refusal.
             self.is_done = true;
         }
         gap.transpose()
@@ -131,7 +131,7 @@ impl<'a, Q: Kind<R>, R: KeyRange + 'a, C: LentCursor<'a, R, GivenValue: Drop>> I
     }
 }
 
-/// Returns the gaps that what is stored leaves in the range, which may be empty or reversed.
+/// Returns the gaps that the stored ranges leave in the range, which may be empty or reversed.
 pub fn gaps_of<'a, S: Lends<'a>>(
     stored: &'a S,
     outer_range: &'a S::Range,
@@ -146,7 +146,7 @@ where
     Gaps::over(stored.overlapping(outer_range), outer_range)
 }
 
-/// Appends the gaps that pairs leave in `outer_range`, where they are those that overlap it.
+/// Appends the gaps that pairs leave in `outer_range`. The pairs are those that overlap it.
 ///
 /// # Requires
 ///
@@ -154,8 +154,8 @@ where
 ///
 /// # Errors
 ///
-/// A clone of a key, or the growth of the vector, was refused: then the vector is as it was. What was
-/// put there before the refusal is taken off again. Where there is no gap, the call takes no memory,
+/// A clone of a key, or the growth of the vector, was refused. The vector is then as it was. Items that
+/// were appended before the refusal are removed again. If there is no gap, the call takes no memory,
 /// succeeds and changes nothing.
 pub fn append_gaps<
     'a,
@@ -172,7 +172,7 @@ pub fn append_gaps<
     append_items(Gaps::<Q, R, C>::over(pairs, outer_range), out)
 }
 
-// Appends the ranges that are still to come. Where one, or the growth of the vector, is refused, the
+// Appends the ranges that are still to come. If a range or the growth of the vector is refused, the
 // vector is as it was.
 fn append_items<R: Drop, I: Iterator<Item = Result<R, AllocError>> + Drop, B: Allocator>(
     gaps: I,

@@ -9,7 +9,7 @@ use std::ops::{Range, RangeInclusive};
 
 /// A range of keys: `a..b` or `a..=b`. No step of a key is asked.
 pub trait KeyRange: Drop {
-    /// What the ranges are over.
+    /// The type of the keys.
     type Key: Ord + Clone;
 
     /// What contracts know of the ranges where every value counts as a key.

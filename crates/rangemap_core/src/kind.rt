@@ -1,14 +1,18 @@
 //! The kinds of range that a map may store.
+ghost use Rattle.std.specs.Option.{option_map};
 ghost use Rattle.std.specs.Prelude.{◌≡◌, List, false, true, Option as OptionOf, IfOk, IsOk, MatchOption, OnErr};
 ghost use Rattle.rangemap_core.specs.Clones.{KeysCloneFaithfully, KeysCloneInfallibly};
 ghost use Rattle.rangemap_core.specs.engine.Endpoints.{EndpointOf, IsAsked, IsPlaced, endpoint_of, is_before};
 ghost use Rattle.rangemap_core.specs.engine.Intervals.{IsInterval, ReadsAs};
+ghost use Rattle.rangemap_core.specs.engine.PartStarts.{part_start};
 ghost use Rattle.rangemap_core.specs.MadeRanges.{IsSame};
 ghost use Rattle.rangemap_core.specs.operations.PlaceLaws.{HasPlaces};
 ghost use Rattle.rangemap_core.specs.Ranges.{RangeKind};
 ghost use Rattle.rangemap_core.specs.Sets.{IsCanonicalSet};
+ghost use Rattle.rangemap_core.specs.Shown.{shown_range};
 ghost use Rattle.rangemap_core.specs.Touch.{IsTouch};
 
+use crate::cursor::Cursor;
 use crate::key_range::KeyRange;
 use std::alloc::AllocError;
 
@@ -44,9 +48,9 @@ pub enum Touch {
 
 /// A kind of range that may be stored: what the steps of keys decide.
 pub trait Kind<R: KeyRange> {
-    /// The type whose steps the keys take: the key type, where the ranges have no steps. `new`, `from`,
-    /// `from_iter`, `extend`, `into_iter`, `to_value`, `from_value`, `{:?}`, and of sets `|` and `&` exist
-    /// where it is the key type.
+    /// The type whose steps the keys take. It is the key type if the ranges have no steps. `new`,
+    /// `from`, `from_iter`, `extend`, `into_iter`, `to_value`, `from_value`, `{:?}`, and of sets `|`,
+    /// `&`, `-` and `^` exist only if it is the key type.
     type Steps;
 
     /// What contracts know of the ranges.
@@ -71,8 +75,8 @@ pub trait Kind<R: KeyRange> {
     fn is_before(from: Endpoint<'_, R>, to: Endpoint<'_, R>) -> bool
         ensures { result ≡ is_before kind end_place (endpoint_of from.entry) (endpoint_of to.entry) };
 
-    /// Returns that part, which has a key. Each end is a clone of a key, or of closed ranges where the
-    /// neighbour starts or ends a step from it.
+    /// Returns that part, which has a key. Each end is a clone of a key. An end of a closed range beside
+    /// a neighbour is a step from the neighbour's end.
     ///
     /// # Requires
     ///
@@ -80,15 +84,15 @@ pub trait Kind<R: KeyRange> {
     ///
     /// # Errors
     ///
-    /// A clone was refused, which those of numbers, characters and references never are.
+    /// A clone was refused. Clones of numbers, characters and references never are.
     fn part(from: Endpoint<'_, R>, to: Endpoint<'_, R>) -> Result<R, AllocError>
         requires is_before { is_before kind end_place (endpoint_of from) (endpoint_of to) ≡ true }
         requires faithful_keys { KeysCloneFaithfully R.Key.is_clone R.Key.cmp }
         ensures ok { IfOk result (IsSame kind (part_of (endpoint_of from.entry) (endpoint_of to.entry))) }
         ensures succeeds { KeysCloneInfallibly R.Key.is_infallible → IsOk result };
 
-    /// Ranges lie between places in a total order. What a range holds, and what it meets, follows from
-    /// the places of its endpoints, of an empty or a reversed one too.
+    /// Ranges lie between places in a total order. The places of its endpoints decide what a range holds
+    /// and what it meets, also if it is empty or reversed.
     ghost placed: { IsPlaced kind end_place part_of };
 
     /// What a range holds, and what it meets, follows from its ends.
@@ -132,7 +136,7 @@ pub fn known_ends<Q: Kind<R>, R: KeyRange>(range: &R)
 ///
 /// # Errors
 ///
-/// A clone was refused, which those of numbers, characters and references never are.
+/// A clone was refused. Clones of numbers, characters and references never are.
 pub fn part_between<Q: Kind<R>, R: KeyRange>(
     from: Endpoint<'_, R>,
     to: Endpoint<'_, R>,
@@ -146,5 +150,22 @@ pub fn part_between<Q: Kind<R>, R: KeyRange>(
         Ok(Some(Q::part(from, to)?))
     } else {
         Ok(None)
+    }
+}
+
+/// Returns where the next part of a range may start that stored ranges leave free: behind the pair that was
+/// passed last, or with the outer range where none was.
+pub fn start_of<'b, C: Cursor>(
+    passed: &'b Option<(C::Given, C::GivenValue)>,
+    outer_range: &'b C::Range,
+) -> Endpoint<'b, C::Range>
+where
+    C::Value: 'b,
+    C::Range: 'b,
+    ensures { endpoint_of result ≡ part_start (option_map (shown_range C.given) passed.now) outer_range.now }
+{
+    match passed {
+        Some(pair) => Endpoint::End(C::parts(pair).0),
+        None => Endpoint::Start(outer_range),
     }
 }

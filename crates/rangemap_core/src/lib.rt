@@ -1,8 +1,8 @@
-//! What every map and set with ranges as keys stands on: ranges and their kinds, what a store has to
-//! do, and the iterators over what it keeps.
+//! The base of every map and set: ranges and their kinds, the traits of a store, and the iterators over
+//! its pairs.
 //!
-//! Users name the crate `rangemap`, which exports the containers. What a list of ranges with values
-//! means is said in `specs/Ranges.antt`; every public contract is in its words.
+//! Users name the crate `rangemap`, which exports the containers. `specs/Ranges.antt` says what a list
+//! of ranges with values means. Every public contract uses its words.
 #![tactic(auto)]
 
 pub mod closed;

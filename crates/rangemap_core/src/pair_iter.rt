@@ -1,4 +1,4 @@
-//! The pairs of a map, one after another, whatever keeps them.
+//! The pairs of a map, one after another, for any store.
 ghost use Rattle.std.specs.Prelude.{◌≡◌, length, IfSome, None as NoneWord, Some as SomeWord};
 ghost use Rattle.std.specs.Iterator.{UpTo, at_most};
 ghost use Rattle.std.specs.Iterator.SizeHint.{IsWithinCount};
@@ -29,7 +29,7 @@ impl<C: Cursor> Model for PairIter<C> {
 }
 
 impl<C: Cursor> PairIter<C> {
-    /// Returns the pairs of a cursor, of which there are `len`.
+    /// Returns the pairs of a cursor that has `len` left.
     ///
     /// # Requires
     ///
@@ -41,15 +41,15 @@ impl<C: Cursor> PairIter<C> {
         PairIter { cursor, len }
     }
 
-    /// Returns what takes the pairs. Of a map in a vector that is std's iterator over a slice, whose
-    /// `as_slice` shows the pairs where they stand.
+    /// Returns the cursor. For a map in a vector it is std's iterator over a slice, whose `as_slice`
+    /// shows the pairs in place.
     pub fn cursor(&self) -> &C
         ensures { C.left result.now ≡ self.now }
     {
         &self.cursor
     }
 
-    /// Returns what takes the pairs, by value.
+    /// Returns the cursor, by value.
     pub fn into_cursor(self) -> C
         ensures { C.left result ≡ self }
     {

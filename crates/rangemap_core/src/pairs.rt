@@ -1,7 +1,7 @@
 //! Pairs of a range and a value, and what a change leaves of them.
-ghost use Rattle.std.specs.Prelude.{◌≡◌, IfOk, true};
+ghost use Rattle.std.specs.Prelude.{◌≡◌, IfOk, IsOk, true};
 ghost use Rattle.std.specs.Option.{option_to_list};
-ghost use Rattle.rangemap_core.specs.Clones.{KeysCloneFaithfully, ValuesCloneFaithfully};
+ghost use Rattle.rangemap_core.specs.Clones.{KeysCloneFaithfully, KeysCloneInfallibly, ValuesCloneFaithfully, ValuesCloneInfallibly};
 ghost use Rattle.rangemap_core.specs.Ranges.{IsStorable, same_pair};
 ghost use Rattle.rangemap_core.specs.engine.Endpoints.{IsAskedAt, endpoint_of, place_of};
 ghost use Rattle.rangemap_core.specs.engine.Shape.{shape_of};
@@ -68,6 +68,7 @@ pub fn piece<Q: Kind<R>, R: KeyRange, V: Eq + Clone>(
     requires faithful_values { ValuesCloneFaithfully V.is_clone V.eq }
     ensures cut { IfOk result (IsCut (shape_of Q.kind Q.end_place V.eq) (place_of Q.kind Q.end_place (endpoint_of from.entry)) (place_of Q.kind Q.end_place (endpoint_of to.entry)) value.now) }
     ensures storable { IfOk result (λ piece. Every (λ a. IsStorable Q.kind a.0) (option_to_list piece)) }
+    ensures succeeds { KeysCloneInfallibly R.Key.is_infallible → ValuesCloneInfallibly V.is_infallible → IsOk result }
 {
     let Some(range) = part_between::<Q, R>(from, to)? else {
         return Ok(None);

@@ -1,13 +1,13 @@
-//! What keeps the pairs of a map or a set: a sorted vector, a tree, chunks.
+//! The traits of a store, which keeps the pairs of a map or a set: a sorted vector, a tree, chunks.
 //!
 //! `Store`, `StoreMut`, `HandsOver` and `Lends` are all that a representation has to do. `Map` and
 //! `Set` make every public call of them, so a store has no `extend`, no comparison, no text and no
 //! JSON form of its own.
-ghost use Rattle.std.specs.Prelude.{◌≡◌, ◌-◌, ◌+◌, ◌≤◌, List, [], IfOk, IsOk, OnErr, OnOk, length, map, slice_get, true};
+ghost use Rattle.std.specs.Prelude.{◌≡◌, ◌-◌, ◌+◌, ◌≤◌, List, [], IfOk, IsOk, OnErr, OnOk, length, map, slice_get, true, ℕ};
 ghost use Rattle.std.specs.Map.Iter.{deref_pair};
 ghost use Rattle.std.specs.Option.{option_map};
 ghost use Rattle.rangemap_core.specs.Appends.{AppendsGaps};
-ghost use Rattle.rangemap_core.specs.Clones.{KeysCloneFaithfully, ValuesCloneFaithfully};
+ghost use Rattle.rangemap_core.specs.Clones.{KeysCloneFaithfully, KeysCloneInfallibly, ValuesCloneFaithfully, ValuesCloneInfallibly};
 ghost use Rattle.rangemap_core.specs.Ranges.{AreGaps, IsCanonOf, IsCanonical, IsNewest, covering, erase, overlapped, override, same_pairs, value_at};
 ghost use Rattle.rangemap_core.specs.Shown.{shown};
 
@@ -17,9 +17,9 @@ use crate::kind::Kind;
 use crate::reader::{Reader, ReaderOfBoth};
 use std::alloc::{AllocError, Allocator};
 
-/// What keeps pairs of a range and a value, as a canonical list.
+/// Keeps pairs of a range and a value, as a canonical list.
 ///
-/// A bound that one representation alone has stands at its impl.
+/// A bound that only one representation needs stands at its impl.
 pub trait Store {
     /// A stored range.
     type Range: KeyRange;
@@ -30,7 +30,7 @@ pub trait Store {
     /// The kind of the ranges.
     type Kind: Kind<Self::Range>;
 
-    /// What the memory comes from.
+    /// The allocator.
     type Alloc: Allocator;
 
     /// The stored pairs, in order.
@@ -59,7 +59,7 @@ pub trait Store {
     fn last(&self) -> Option<(&Self::Range, &Self::Value)>
         ensures { option_map (λ pair. (pair.0.now, pair.1.now)) result ≡ slice_get (pairs self.now) (length (pairs self.now) - 1) };
 
-    /// Has all pairs read, in order.
+    /// Has a reader read all pairs, in order.
     ///
     /// # Requires
     ///
@@ -68,7 +68,7 @@ pub trait Store {
         requires { U.may_read (pairs self.now) state.old }
         ensures { U.reads (pairs self.now) state.old result state.new };
 
-    /// Has the pairs of this store and of another one read side by side.
+    /// Has a reader read the pairs of this store and of another one side by side.
     ///
     /// # Requires
     ///
@@ -81,7 +81,7 @@ pub trait Store {
         requires { U.may_read (pairs self.now) (pairs other.now) state.old }
         ensures { U.reads (pairs self.now) (pairs other.now) state.old result state.new };
 
-    /// Has the pairs read that overlap `range`, in order. Nothing is asked of `range`.
+    /// Has a reader read the pairs that overlap `range`, in order. `range` may be any range.
     ///
     /// # Requires
     ///
@@ -94,8 +94,8 @@ pub trait Store {
         requires { U.may_read (overlapped Self.Kind.kind (pairs self.now) range.now) state.old }
         ensures { U.reads (overlapped Self.Kind.kind (pairs self.now) range.now) state.old result state.new };
 
-    /// Appends the parts of `outer_range` that no stored range covers, in order. Nothing is asked of
-    /// `outer_range`.
+    /// Appends the parts of `outer_range` that no stored range covers, in order. `outer_range` may be
+    /// any range.
     ///
     /// # Requires
     ///
@@ -103,7 +103,7 @@ pub trait Store {
     ///
     /// # Errors
     ///
-    /// A clone of a key, or the growth of `out`, was refused: then `out` is as it was. Where there is no
+    /// A clone of a key, or the growth of `out`, was refused. `out` is then as it was. If there is no
     /// gap, the call takes no memory, succeeds and changes nothing.
     fn append_gaps<B: Allocator>(
         &self,
@@ -118,9 +118,12 @@ pub trait Store {
 
 /// A store that is made and changed.
 ///
-/// It is a trait of its own, since the check of a call takes time for each method of the traits in the
-/// call's bound: code that only asks does not pay for the changes.
+/// It is a trait of its own, because the check of a call takes time for each method of each trait in its
+/// bounds. Code that only looks up does not pay for the changes.
 pub trait StoreMut: Store {
+    /// For how many pairs there is room, as far as the store shows it: 0 where it does not.
+    ghost room: { Self → ℕ };
+
     /// Returns the empty store, whose memory comes from `alloc`. It takes none yet.
     fn empty(alloc: Self::Alloc) -> Self
         ensures { Self.pairs result ≡ [] };
@@ -133,8 +136,8 @@ pub trait StoreMut: Store {
     ///
     /// # Errors
     ///
-    /// Memory, or a clone of a key, of a value or of the allocator, was refused, or the change might leave
-    /// more pairs than the store can count: then the store is as it was.
+    /// Memory, or a clone of a key, of a value or of the allocator, was refused, or the change might
+    /// leave more pairs than the store can count. The store is then as it was.
     fn insert(&mut self, range: Self::Range, value: Self::Value) -> Result<(), AllocError>
         requires non_empty { Self.Kind.kind.IsNonEmpty range }
         requires faithful_keys { KeysCloneFaithfully Self.Range.Key.is_clone Self.Range.Key.cmp }
@@ -143,7 +146,9 @@ pub trait StoreMut: Store {
         ensures newest { OnOk result (IsNewest Self.Kind.kind range value (Self.pairs self.new)) }
         ensures err { OnErr result (Self.pairs self.new ≡ Self.pairs self.old) }
         ensures growth { OnOk result (length (Self.pairs self.new) ≤ length (Self.pairs self.old) + 2) }
-        ensures growth_where_all_are_equal { OnOk result (((v w : Self.Value) → Self.Value.eq v w ≡ true) → length (Self.pairs self.new) ≤ length (Self.pairs self.old) + 1) };
+        ensures growth_where_all_are_equal { OnOk result (((v w : Self.Value) → Self.Value.eq v w ≡ true) → length (Self.pairs self.new) ≤ length (Self.pairs self.old) + 1) }
+        ensures succeeds { KeysCloneInfallibly Self.Range.Key.is_infallible → ValuesCloneInfallibly Self.Value.is_infallible → length (Self.pairs self.old) + 2 ≤ room self.old → IsOk result }
+        ensures room { room self.old ≤ room self.new };
 
     /// Takes every key of `range` out.
     ///
@@ -153,8 +158,8 @@ pub trait StoreMut: Store {
     ///
     /// # Errors
     ///
-    /// As for `insert`. Where no stored range overlaps the given one, the call takes no memory,
-    /// succeeds and changes nothing.
+    /// As for `insert`. If no stored range overlaps the given one, the call takes no memory, succeeds
+    /// and changes nothing.
     fn remove(&mut self, range: Self::Range) -> Result<(), AllocError>
         requires non_empty { Self.Kind.kind.IsNonEmpty range }
         requires faithful_keys { KeysCloneFaithfully Self.Range.Key.is_clone Self.Range.Key.cmp }
@@ -162,7 +167,9 @@ pub trait StoreMut: Store {
         ensures ok { OnOk result (IsCanonOf Self.Kind.kind Self.Value.eq (erase Self.Kind.kind (value_at Self.Kind.kind (Self.pairs self.old)) range) (Self.pairs self.new)) }
         ensures err { OnErr result (Self.pairs self.new ≡ Self.pairs self.old) }
         ensures growth { OnOk result (length (Self.pairs self.new) ≤ length (Self.pairs self.old) + 1) }
-        ensures meets_nothing { overlapped Self.Kind.kind (Self.pairs self.old) range ≡ [] → IsOk result × (Self.pairs self.new ≡ Self.pairs self.old) };
+        ensures meets_nothing { overlapped Self.Kind.kind (Self.pairs self.old) range ≡ [] → IsOk result × (Self.pairs self.new ≡ Self.pairs self.old) }
+        ensures succeeds { KeysCloneInfallibly Self.Range.Key.is_infallible → ValuesCloneInfallibly Self.Value.is_infallible → length (Self.pairs self.old) + 1 ≤ room self.old → IsOk result }
+        ensures room { room self.old ≤ room self.new };
 
     /// Takes every key out. It takes no memory.
     fn clear(&mut self)
@@ -204,7 +211,7 @@ pub trait HandsOver: Store {
         ensures pairs { Self.IntoIter.left result ≡ Self.pairs self }
         ensures canonical { IsCanonical Self.Kind.kind Self.Value.eq (Self.pairs self) };
 
-    /// An item is, in contracts, the stored pair itself.
+    /// In contracts, an item is the stored pair itself.
     ghost gives: { (pair : Self.Range × Self.Value) → shown Self.IntoIter.given Self.IntoIter.given_value pair ≡ pair };
 }
 
@@ -236,7 +243,7 @@ where
     fn iter(&'a self) -> Self::Iter
         ensures { Self.Iter.left result ≡ Self.pairs self.now };
 
-    /// Returns the pairs that overlap `range`, of which nothing is asked.
+    /// Returns the pairs that overlap `range`, which may be any range.
     fn overlapping(&'a self, range: &'a Self::Range) -> Self::Overlapping
         ensures { Self.Overlapping.left result ≡ overlapped Self.Kind.kind (Self.pairs self.now) range.now };
 

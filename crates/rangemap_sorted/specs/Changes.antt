@@ -1,10 +1,6 @@
 -- A change of the keys of a range: they get a value, or where there is none, lose theirs.
-use Rattle.std.specs.Prelude.{ℕ, Bool, List, Option, Some, None, IfSome, if◌then◌else◌}
-use Rattle.rangemap_core.specs.Ranges.{IsCanonOf, IsNewest, RangeKind}
-
--- f with the value on the points of r, or undefined there
-abbrev pub changed : {K X V : Type 0} → RangeKind K X → (K → Option V) → X → Option V → K → Option V
-changed k f r value x = if k.holds r x then value else f x
+use Rattle.std.specs.Prelude.{ℕ, Bool, List, Option, Some, None, IfSome}
+use Rattle.rangemap_core.specs.Ranges.{IsCanonOf, IsNewest, RangeKind, changed}
 
 module _ {K X V : Type 0} (k : RangeKind K X) (eq : V → V → Bool) where
   -- the canonical list of f changed so, which has the very value on the points of r, where there is one

@@ -28,7 +28,7 @@ impl<'a, Q: Kind<R>, R: KeyRange, V> Model for Probe<'a, Q, R, V> {
 }
 
 impl<'a, Q: Kind<R>, R: KeyRange, V> Probe<'a, Q, R, V> {
-    /// Returns the starts of the pairs, of which none was asked for yet.
+    /// Returns the starts of the pairs, before any was looked at.
     pub fn new(pairs: &'a [(R, V)]) -> Self
         ensures starts { result.0 ≡ starts_of Q.kind pairs.now }
         ensures fresh { result.1 ≡ 0 }

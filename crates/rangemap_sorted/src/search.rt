@@ -53,8 +53,10 @@ pub fn count_up_to<'a, Q: Kind<R>, R: KeyRange + 'a, V>(
     let mut half = whole;
     'halves: while 1 < half {
         half /= 2;
-        // Its body never runs: `base + half` is at most `len`. In a loop that has no other within, LLVM
-        // makes a branch of the conditional move below, which docs/SPEED.md tells of.
+        // Its body never runs: `base + half` is at most `len`. In a loop that has no other within,
+        // LLVM makes a branch of the conditional move below. After a change look at
+        // `workloads::lookups` in the static library by `objdump -d`: a step takes ten instructions
+        // with one `cmovae` (eleven for closed ranges and in chunks).
         'fits: while len < base + half {
             half >>= 1;
         }

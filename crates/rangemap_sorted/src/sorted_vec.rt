@@ -1,4 +1,5 @@
 //! The store in one sorted vector.
+ghost use Rattle.std.specs.Prelude.{◌≡◌, [], IfOk};
 
 use crate::entries::clones::clone_pairs;
 use crate::entries::{changes, covering};
@@ -38,14 +39,38 @@ pub struct SortedVec<Q: Kind<R>, R: KeyRange, V: Eq + Clone, A: Allocator> {
 }
 
 impl<Q: Kind<R>, R: KeyRange, V: Eq + Clone, A: Allocator> Model for SortedVec<Q, R, V, A> {
-    ghost use Rattle.std.specs.Prelude.{List};
+    ghost use Rattle.std.specs.Prelude.{List, ℕ, vec_capacity};
     ghost use Rattle.rangemap_core.specs.Ranges.{IsCanonical};
 
-    ghost Value = { List (R × V) };
+    ghost Value = { List (R × V) × ℕ };
 
-    ghost view = { λ s. s.pairs.items };
+    ghost view = { λ s. (s.pairs.items, vec_capacity s.pairs) };
 
     ghost invariant = { λ s. IsCanonical Q.kind V.eq s.pairs.items };
+}
+
+impl<Q: Kind<R>, R: KeyRange, V: Eq + Clone, A: Allocator> SortedVec<Q, R, V, A> {
+    /// Returns the empty store with room for `room` pairs. If clones are never refused, a change succeeds as
+    /// long as two more pairs have room.
+    ///
+    /// # Errors
+    ///
+    /// Memory was refused.
+    pub fn with_room(alloc: A, room: usize) -> Result<Self, AllocError>
+        ensures { IfOk result (λ made. made ≡ ([], room)) }
+    {
+        Ok(SortedVec {
+            pairs: Vec::with_capacity(alloc, room)?,
+            kind: PhantomData,
+        })
+    }
+
+    /// Returns for how many pairs there is room.
+    pub fn room(&self) -> usize
+        ensures { result ≡ self.now.1 }
+    {
+        self.pairs.capacity()
+    }
 }
 
 impl<Q: Kind<R>, R: KeyRange, V: Eq + Clone, A: Allocator> Store for SortedVec<Q, R, V, A> {
@@ -57,7 +82,7 @@ impl<Q: Kind<R>, R: KeyRange, V: Eq + Clone, A: Allocator> Store for SortedVec<Q
 
     type Alloc = A;
 
-    ghost pairs = { λ s. s };
+    ghost pairs = { λ s. s.0 };
 
     fn known(&self) {
         // The check knows the invariant of what is read.
@@ -111,6 +136,8 @@ impl<Q: Kind<R>, R: KeyRange, V: Eq + Clone, A: Allocator> Store for SortedVec<Q
 }
 
 impl<Q: Kind<R>, R: KeyRange, V: Eq + Clone, A: Allocator> StoreMut for SortedVec<Q, R, V, A> {
+    ghost room = { λ s. s.1 };
+
     fn empty(alloc: A) -> Self {
         SortedVec {
             pairs: Vec::new(alloc),
@@ -119,11 +146,11 @@ impl<Q: Kind<R>, R: KeyRange, V: Eq + Clone, A: Allocator> StoreMut for SortedVe
     }
 
     fn insert(&mut self, range: R, value: V) -> Result<(), AllocError> {
-        changes::insert::<Q, R, V, A>(&mut self.pairs, range, value)
+        changes::change::<Q, R, V, A>(&mut self.pairs, range, Some(value))
     }
 
     fn remove(&mut self, range: R) -> Result<(), AllocError> {
-        changes::remove::<Q, R, V, A>(&mut self.pairs, &range)
+        changes::change::<Q, R, V, A>(&mut self.pairs, range, None)
     }
 
     fn clear(&mut self) {

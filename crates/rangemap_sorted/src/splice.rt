@@ -43,6 +43,7 @@ pub fn splice<T: Drop, A: Allocator>(
     ensures ok { OnOk result (list.new.items ≡ take places.start list.old.items ++ (option_to_list left ++ (option_to_list middle ++ option_to_list right)) ++ drop places.end list.old.items) }
     ensures err { OnErr result (list.new.items ≡ list.old.items) }
     ensures succeeds { vec_len list.old + (length (option_to_list left) + length (option_to_list middle) + length (option_to_list right) - (places.end - places.start)) ≤ vec_capacity list.old → IsOk result }
+    ensures room { vec_capacity list.old ≤ vec_capacity list.new }
 {
     let Range { start, end } = places;
     let added = usize::from(left.is_some())
@@ -104,7 +105,8 @@ fn put<T: Drop, A: Allocator>(
 pub fn cut<T: Drop, A: Allocator>(list: &mut Vec<T, A>, places: Range<usize>)
     requires start_le_end { places.start ≤ places.end }
     requires in_bounds { places.end ≤ vec_len list.old }
-    ensures { list.new.items ≡ take places.start list.old.items ++ drop places.end list.old.items }
+    ensures items { list.new.items ≡ take places.start list.old.items ++ drop places.end list.old.items }
+    ensures capacity { vec_capacity list.new ≡ vec_capacity list.old }
 {
     let Range { start, end } = places;
     if start < end {

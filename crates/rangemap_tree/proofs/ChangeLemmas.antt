@@ -7,15 +7,14 @@ use Rattle.std.specs.declared.ops.Range.{Range}
 use Rattle.rangemap_core.specs.Ranges.{half_open, IsCanonical, IsNewest, IsStorable, IsCanonOf, covering, value_at, override, erase}
 use Rattle.rangemap_core.specs.engine.EndpointKinds.{half_open_placed}
 use Rattle.rangemap_core.specs.engine.PlacedKinds.{place_total}
-use Rattle.rangemap_core.specs.engine.Shape.{IsPlaceOverride, IsSpaced}
+use Rattle.rangemap_core.specs.engine.Shape.{IsPlaceChange, IsSpaced}
 use Rattle.rangemap_core.specs.engine.Stretch.{Every, IsLeftPart, IsRightPart}
-use Rattle.rangemap_core.proofs.PlaceLemmas.{to_spaced, to_newest, to_override, to_erase}
+use Rattle.rangemap_core.proofs.PlaceLemmas.{to_spaced, to_newest, to_changed}
 use Rattle.rangemap_core.proofs.StoredLemmas.{all_storable}
-use Rattle.rangemap_core.proofs.JoinLemmas.{joined_spaced, joined_overrides}
+use Rattle.rangemap_core.proofs.JoinLemmas.{joined_spaced, joined_changes}
 use Rattle.rangemap_core.proofs.ListLemmas.{Every-map, Every-right}
 use Rattle.rangemap_core.proofs.InsertPartLemmas.{before_first}
 use Rattle.rangemap_core.proofs.PlaceOrderLemmas.{le_trans, lt_le_trans, le_lt_trans}
-use Rattle.rangemap_core.proofs.RestLemmas.{rests_spaced, rests_erase}
 use Rattle.rangemap_tree.specs.Starts.{before, from, past, up_to, recut, piece_list, IsCutThere, IsNewAt}
 use Rattle.rangemap_tree.specs.Sides.{shape, IsLeft, IsRight, IsLeftCut, IsRightCut}
 use Rattle.rangemap_tree.proofs.StartLemmas.{from_lower}
@@ -121,10 +120,10 @@ module _ {K V : Type 0} {cmp : K → K → Ordering} (o : IsTotalOrder cmp) (eq 
       high_tie : cmp m.end (unwrap_or end r.end) ≡ Equal
       high_tie = subst (λ x. cmp m.end x ≡ Equal) high (tied_itself o m.end)
 
-      left_part : IsLeftPart (shape cmp eq) ps (recut cut (before cmp m.start ps)) r m v
+      left_part : IsLeftPart (shape cmp eq) ps (recut cut (before cmp m.start ps)) r m (Some v)
       left_part = left.part m low_tie
 
-      right_part : IsRightPart (shape cmp eq) ps (piece_list piece ++ from cmp m.end ps) r m v
+      right_part : IsRightPart (shape cmp eq) ps (piece_list piece ++ from cmp m.end ps) r m (Some v)
       right_part = right.part m high_tie
 
       pub middle_full : cmp m.start m.end ≡ Less
@@ -141,16 +140,16 @@ module _ {K V : Type 0} {cmp : K → K → Ordering} (o : IsTotalOrder cmp) (eq 
       past_at = right.past_end m.end high_tie
 
       new_spaced : IsSpaced (shape cmp eq) (recut cut (before cmp m.start ps) ++ (m, v) ∷ (piece_list piece ++ from cmp m.end ps))
-      new_spaced = joined_spaced (shape cmp eq) (place_total o) e ps (recut cut (before cmp m.start ps)) (piece_list piece ++ from cmp m.end ps) r m v left_part right_part full
+      new_spaced = joined_spaced (shape cmp eq) (place_total o) e ps (recut cut (before cmp m.start ps)) (piece_list piece ++ from cmp m.end ps) r m (Some v) left_part right_part full
 
-      overrides : IsPlaceOverride (shape cmp eq) ps (recut cut (before cmp m.start ps) ++ (m, v) ∷ (piece_list piece ++ from cmp m.end ps)) (r, v)
-      overrides = joined_overrides (shape cmp eq) (place_total o) e ps (recut cut (before cmp m.start ps)) (piece_list piece ++ from cmp m.end ps) r m v left_part right_part full
+      overrides : IsPlaceChange (shape cmp eq) ps (recut cut (before cmp m.start ps) ++ (m, v) ∷ (piece_list piece ++ from cmp m.end ps)) r (Some v)
+      overrides = joined_changes (shape cmp eq) (place_total o) e ps (recut cut (before cmp m.start ps)) (piece_list piece ++ from cmp m.end ps) r m (Some v) left_part right_part full
 
       pub inserted : IsCanonOf (half_open cmp) eq (override (half_open cmp) (value_at (half_open cmp) ps) r v) (recut cut (before cmp m.start ps) ++ (m, v) ∷ (piece_list piece ++ from cmp m.end ps))
-      inserted = to_override (half_open_placed o) eq ps (recut cut (before cmp m.start ps) ++ (m, v) ∷ (piece_list piece ++ from cmp m.end ps)) r (all_storable _ eq ps c) (storables _ new_spaced) stored new_spaced e v overrides
+      inserted = to_changed (half_open_placed o) eq ps (recut cut (before cmp m.start ps) ++ (m, v) ∷ (piece_list piece ++ from cmp m.end ps)) r (all_storable _ eq ps c) (storables _ new_spaced) stored new_spaced e (Some v) overrides
 
       pub inserted_is_newest : IsNewest (half_open cmp) r v (recut cut (before cmp m.start ps) ++ (m, v) ∷ (piece_list piece ++ from cmp m.end ps))
-      inserted_is_newest = to_newest (half_open_placed o) eq ps (recut cut (before cmp m.start ps) ++ (m, v) ∷ (piece_list piece ++ from cmp m.end ps)) r (all_storable _ eq ps c) (storables _ new_spaced) stored new_spaced v overrides
+      inserted_is_newest = to_newest (half_open_placed o) eq ps (recut cut (before cmp m.start ps) ++ (m, v) ∷ (piece_list piece ++ from cmp m.end ps)) r (all_storable _ eq ps c) (storables _ new_spaced) stored new_spaced (Some v) overrides
 
       pub inserted_length : length (recut cut (before cmp m.start ps) ++ (m, v) ∷ (piece_list piece ++ from cmp m.end ps)) ≤ length ps + 1 + length (piece_list piece)
       inserted_length =
@@ -165,9 +164,9 @@ module _ {K V : Type 0} {cmp : K → K → Ordering} (o : IsTotalOrder cmp) (eq 
     module _ (cut : Option (Range K)) (piece : Option (K × (Range K × V))) (left : IsLeftCut cmp eq ps r cut) (right : IsRightCut cmp eq ps r piece) where
       pub removed : IsCanonOf (half_open cmp) eq (erase (half_open cmp) (value_at (half_open cmp) ps) r) (recut cut (before cmp r.start ps) ++ (piece_list piece ++ from cmp r.end ps))
       removed =
-          let sp = rests_spaced (shape cmp eq) (place_total o) e ps (recut cut (before cmp r.start ps)) (piece_list piece ++ from cmp r.end ps) r left.rest right.rest full in
-          to_erase (half_open_placed o) eq ps (recut cut (before cmp r.start ps) ++ (piece_list piece ++ from cmp r.end ps)) r (all_storable _ eq ps c) (storables _ sp) stored sp
-          (rests_erase (shape cmp eq) (place_total o) e ps (recut cut (before cmp r.start ps)) (piece_list piece ++ from cmp r.end ps) r left.rest right.rest full)
+          let sp = joined_spaced (shape cmp eq) (place_total o) e ps (recut cut (before cmp r.start ps)) (piece_list piece ++ from cmp r.end ps) r r None left.rest right.rest full in
+          to_changed (half_open_placed o) eq ps (recut cut (before cmp r.start ps) ++ (piece_list piece ++ from cmp r.end ps)) r (all_storable _ eq ps c) (storables _ sp) stored sp
+          e None (joined_changes (shape cmp eq) (place_total o) e ps (recut cut (before cmp r.start ps)) (piece_list piece ++ from cmp r.end ps) r r None left.rest right.rest full)
 
       pub removed_length : length (recut cut (before cmp r.start ps) ++ (piece_list piece ++ from cmp r.end ps)) ≤ length ps + 1
       removed_length =
@@ -184,7 +183,7 @@ module _ {K V : Type 0} {cmp : K → K → Ordering} (o : IsTotalOrder cmp) (eq 
     pub unmoved : Every (λ (p : Range K × V). is_gt (cmp p.0.end r.start) ≡ false) (before cmp r.end ps) → IsCanonOf (half_open cmp) eq (erase (half_open cmp) (value_at (half_open cmp) ps) r) ps
     unmoved h =
         let u = untouched o eq e ps spaced r full h in
-        let sp = rests_spaced (shape cmp eq) (place_total o) e ps (before cmp r.end ps) (from cmp r.end ps) r u.0 u.1 full in
+        let sp = joined_spaced (shape cmp eq) (place_total o) e ps (before cmp r.end ps) (from cmp r.end ps) r r None u.0 u.1 full in
         subst (IsCanonOf (half_open cmp) eq (erase (half_open cmp) (value_at (half_open cmp) ps) r)) u.2
-        (to_erase (half_open_placed o) eq ps (before cmp r.end ps ++ from cmp r.end ps) r (all_storable _ eq ps c) (storables _ sp) stored sp
-        (rests_erase (shape cmp eq) (place_total o) e ps (before cmp r.end ps) (from cmp r.end ps) r u.0 u.1 full))
+        (to_changed (half_open_placed o) eq ps (before cmp r.end ps ++ from cmp r.end ps) r (all_storable _ eq ps c) (storables _ sp) stored sp
+        e None (joined_changes (shape cmp eq) (place_total o) e ps (before cmp r.end ps) (from cmp r.end ps) r r None u.0 u.1 full))

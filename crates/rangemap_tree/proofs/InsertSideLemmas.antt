@@ -8,6 +8,7 @@ use Rattle.rangemap_core.specs.engine.PlacedKinds.{place_total}
 use Rattle.rangemap_core.specs.engine.Shape.{Shape, IsApart, IsSpaced}
 use Rattle.rangemap_core.specs.engine.Stretch.{Every, IsLeftPart, IsRightPart}
 use Rattle.rangemap_core.proofs.ListLemmas.{Every-map, Every-append, Every-right, apart_from_all, IsApart-from_lt, IsSpaced-left, IsSpaced-right}
+use Rattle.rangemap_core.proofs.JoinLemmas.{with_option}
 use Rattle.rangemap_core.proofs.InsertPartLemmas.{left_uncut, left_taken, left_cut, right_uncut, right_taken, right_cut, before_first}
 use Rattle.rangemap_core.proofs.PlaceOrderLemmas.{lt_le, tied_le, tied_ge, le_trans, lt_le_trans, le_lt_trans}
 use Rattle.rangemap_tree.specs.Starts.{before, from, past, up_to, recut}
@@ -34,9 +35,9 @@ module _ {K V : Type 0} {cmp : K → K → Ordering} (o : IsTotalOrder cmp) (eq 
 
     left_clear : Every (λ (a : Range K × V). IsApart S a (r, v)) (before cmp r.start ps) → IsLeft cmp eq ps r v None None
     left_clear clear = record {
-      part = λ m tie. subst (λ xs. IsLeftPart S xs (before cmp m.start ps) r m v) parts.0
-          (subst (λ ys. IsLeftPart S (before cmp r.start ps ++ from cmp r.start ps) ys r m v) (sym (before_tied o m.start r.start tie ps))
-          (left_uncut S places e r m v (before cmp r.start ps) (from cmp r.start ps) (subst (IsSpaced S) (sym parts.0) c) clear above tie));
+      part = λ m tie. subst (λ xs. IsLeftPart S xs (before cmp m.start ps) r m (Some v)) parts.0
+          (subst (λ ys. IsLeftPart S (before cmp r.start ps ++ from cmp r.start ps) ys r m (Some v)) (sym (before_tied o m.start r.start tie ps))
+          (left_uncut S places e r m (Some v) (before cmp r.start ps) (from cmp r.start ps) (subst (IsSpaced S) (sym parts.0) c) (Every-map _ _ (before cmp r.start ps) (λ a h. with_option S places e a (r, v) h) clear) above tie));
       cut_there = λ x tie. tt;
     }
 
@@ -75,7 +76,7 @@ module _ {K V : Type 0} {cmp : K → K → Ordering} (o : IsTotalOrder cmp) (eq 
         part = λ m tie.
             let t : cmp m.start a.0.start ≡ Equal = o.congr m.start k a.0.start tie ∙ same in
             let b : before cmp m.start ps ≡ us = ap (before cmp m.start) whole ∙ (parts_at o m.start us (a ∷ from cmp r.start ps) (us_below m.start t) (from_a m.start t)).0 in
-            subst (λ ys. IsLeftPart S ps ys r m v) (sym b) (subst (λ xs. IsLeftPart S xs us r m v) (sym whole) (left_taken S places e r m v us (from cmp r.start ps) a spaced a_below reaches equal t));
+            subst (λ ys. IsLeftPart S ps ys r m (Some v)) (sym b) (subst (λ xs. IsLeftPart S xs us r m (Some v)) (sym whole) (left_taken S places e r m (Some v) us (from cmp r.start ps) a spaced a_below reaches equal t));
         cut_there = λ x tie. tt;
       }
 
@@ -83,7 +84,7 @@ module _ {K V : Type 0} {cmp : K → K → Ordering} (o : IsTotalOrder cmp) (eq 
       left_parted g low high reaches differs = record {
         part = λ m tie.
             let b : recut (Some g) (before cmp m.start ps) ≡ us ++ (g, a.1) ∷ [] = ap (recut (Some g)) (before_tied o m.start r.start tie ps ∙ is) ∙ recut_last g us a in
-            subst (λ ys. IsLeftPart S ps ys r m v) (sym b) (subst (λ xs. IsLeftPart S xs (us ++ (g, a.1) ∷ []) r m v) (sym whole) (left_cut S places e r m v us (from cmp r.start ps) a g a.1 spaced a_below reaches differs tie low high (e.refl a.1)));
+            subst (λ ys. IsLeftPart S ps ys r m (Some v)) (sym b) (subst (λ xs. IsLeftPart S xs (us ++ (g, a.1) ∷ []) r m (Some v)) (sym whole) (left_cut S places e r m (Some v) us (from cmp r.start ps) a g a.1 spaced a_below reaches differs tie low high (e.refl a.1)));
         cut_there = λ x tie. (us, a, before_tied o x r.start tie ps ∙ is, low);
       }
 
@@ -105,7 +106,7 @@ module _ {K V : Type 0} {cmp : K → K → Ordering} (o : IsTotalOrder cmp) (eq 
           let low : Every (λ (p : Range K × V). cmp p.0.start m.end ≡ Less) init = both init m.end tie (all_full o eq e init (IsSpaced-left S places init post sp)) within in
           let high : Every (λ (p : Range K × V). is_gt (cmp m.end p.0.start) ≡ false) post = Every-map _ _ post (λ b k. le_trans o m.end r.end b.0.start (tied_le o m.end r.end tie) k.before) clear in
           let b : from cmp m.end ps ≡ post = ap (from cmp m.end) (sym w) ∙ (parts_at o m.end init post low high).1 in
-          subst (λ ys. IsRightPart S ps ys r m v) (sym b) (subst (λ xs. IsRightPart S xs post r m v) w (right_uncut S places e r m v init post sp clear within tie));
+          subst (λ ys. IsRightPart S ps ys r m (Some v)) (sym b) (subst (λ xs. IsRightPart S xs post r m (Some v)) w (right_uncut S places e r m (Some v) init post sp (Every-map _ _ post (λ b h. with_option S places e (r, v) b h) clear) within tie));
       new_there = λ x tie. tt;
       past_end = λ x tie. past_from x (tied_le o x r.end tie);
       of_other_values = λ h. refl;
@@ -169,7 +170,7 @@ module _ {K V : Type 0} {cmp : K → K → Ordering} (o : IsTotalOrder cmp) (eq 
         part = λ m tie.
             let t : cmp m.end b.0.end ≡ Equal = o.congr m.end k b.0.end tie ∙ same in
             let f : from cmp m.end ps ≡ past cmp r.end ps = (from_is m.end (lt_le_trans o b.0.start b.0.end m.end b_tail.0 (tied_ge o m.end b.0.end t)) (behind_b m.end (tied_le o m.end b.0.end t))).1 in
-            subst (λ ys. IsRightPart S ps ys r m v) (sym f) (subst (λ xs. IsRightPart S xs (past cmp r.end ps) r m v) (sym r_whole) (right_taken S places e r m v us (past cmp r.end ps) b r_spaced reaches b_up_to equal t));
+            subst (λ ys. IsRightPart S ps ys r m (Some v)) (sym f) (subst (λ xs. IsRightPart S xs (past cmp r.end ps) r m (Some v)) (sym r_whole) (right_taken S places e r m (Some v) us (past cmp r.end ps) b r_spaced reaches b_up_to equal t));
         new_there = λ x tie. tt;
         past_end = λ x tie. (all_from o x (past cmp r.end ps) (behind_b x (tied_le o x b.0.end (o.congr x k b.0.end tie ∙ same)))).1;
         of_other_values = λ h. refl;
@@ -179,7 +180,7 @@ module _ {K V : Type 0} {cmp : K → K → Ordering} (o : IsTotalOrder cmp) (eq 
       right_parted q key low high equal reaches differs starts = record {
         part = λ m tie.
             let f : from cmp m.end ps ≡ past cmp r.end ps = (from_is m.end (lt_le_trans o b.0.start r.end m.end starts (tied_ge o m.end r.end tie)) (Every-map _ _ (past cmp r.end ps) (λ p k. lt_le o m.end p.0.start (le_lt_trans o m.end r.end p.0.start (tied_le o m.end r.end tie) k)) rest_past)).1 in
-            subst (λ ys. IsRightPart S ps (q.1 ∷ ys) r m v) (sym f) (subst (λ xs. IsRightPart S xs (q.1 ∷ past cmp r.end ps) r m v) (sym r_whole) (right_cut S places e r m v us (past cmp r.end ps) b q.1.0 q.1.1 r_spaced reaches b_up_to differs tie low high equal));
+            subst (λ ys. IsRightPart S ps (q.1 ∷ ys) r m (Some v)) (sym f) (subst (λ xs. IsRightPart S xs (q.1 ∷ past cmp r.end ps) r m (Some v)) (sym r_whole) (right_cut S places e r m (Some v) us (past cmp r.end ps) b q.1.0 q.1.1 r_spaced reaches b_up_to differs tie low high equal));
         new_there = λ x tie.
             let back : cmp r.end x ≡ Equal = o.antisymm r.end x ∙ ap ordering_reverse tie in
             let both = from_is x (lt_le_trans o b.0.start r.end x starts (tied_le o r.end x back)) (Every-map _ _ (past cmp r.end ps) (λ p k. lt_le o x p.0.start (le_lt_trans o x r.end p.0.start (tied_le o x r.end tie) k)) rest_past) in

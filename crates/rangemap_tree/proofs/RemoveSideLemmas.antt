@@ -1,6 +1,6 @@
 -- What a remove leaves on either side of a range, by the starts of the pairs.
 use Rattle.std.proofs.Common.{◌≡◌, List, [], ◌∷◌, ◌++◌, Bool, true, false, cond, ◌&&◌, Option, Some, None, filter, refl, sym, ap, ◌∙◌, subst, not, Ordering, Less, Equal, Greater, is_lt, is_le, is_gt}
-use Rattle.std.specs.Cmp.{IsTotalOrder, IsEquivalence}
+use Rattle.std.specs.Cmp.{IsTotalOrder, IsEquivalence, tied_itself}
 use Rattle.std.specs.Ordering.{ordering_reverse}
 use Rattle.std.specs.BTreeMap.Range.{range_contains}
 use Rattle.std.specs.declared.ops.Bound.TheVariants.{Excluded, Included}
@@ -8,10 +8,10 @@ use Rattle.std.specs.declared.ops.Range.{Range}
 use Rattle.rangemap_core.specs.Ranges.{half_open, overlapped}
 use Rattle.rangemap_core.specs.engine.Places.{place_cmp}
 use Rattle.rangemap_core.specs.engine.PlacedKinds.{place_total}
-use Rattle.rangemap_core.specs.engine.Shape.{Shape, IsSpaced}
-use Rattle.rangemap_core.specs.engine.Stretch.{Every, IsLeftRest, IsRightRest}
+use Rattle.rangemap_core.specs.engine.Shape.{Shape, IsApart, IsSpaced, given, optional}
+use Rattle.rangemap_core.specs.engine.Stretch.{Every, IsLeftPart, IsRightPart}
 use Rattle.rangemap_core.proofs.ListLemmas.{Every-map, Every-append, Every-right, apart_from_all, IsSpaced-right}
-use Rattle.rangemap_core.proofs.InsertPartLemmas.{before_first, rest_before_uncut, rest_before_cut, rest_after_uncut, rest_after_cut}
+use Rattle.rangemap_core.proofs.InsertPartLemmas.{before_first, left_uncut, left_cut, right_uncut, right_cut}
 use Rattle.rangemap_core.proofs.PlaceOrderLemmas.{lt_le, le_trans, lt_le_trans}
 use Rattle.rangemap_tree.specs.Starts.{before, from, past, recut}
 use Rattle.rangemap_tree.specs.Sides.{shape, IsLeftCut, IsRightCut}
@@ -66,9 +66,15 @@ module _ {K V : Type 0} {cmp : K → K → Ordering} (o : IsTotalOrder cmp) (eq 
         subst (Every (λ (p : Range K × V). is_gt (cmp p.0.end z) ≡ false)) (sym is)
         (Every-append _ us (a ∷ []) (Every-map _ _ us (λ u k. le_trans o u.0.end a.0.start z k.before (le_trans o a.0.start a.0.end z (lt_le o a.0.start a.0.end (IsSpaced-right S places us (a ∷ from cmp y ps) sp).0) h)) (before_first S places e us (from cmp y ps) a sp)) (h, tt))
 
+    before_none : (xs : List (Range K × V)) → Every (λ (p : Range K × V). is_gt (cmp p.0.end r.start) ≡ false) xs → Every (λ (p : Range K × V). IsApart (optional S) (given p) (r, None)) xs
+    before_none xs h = Every-map _ _ xs (λ p k. record { before = k; differs_at_touch = λ _. refl }) h
+
+    none_before : (xs : List (Range K × V)) → Every (λ (p : Range K × V). is_gt (cmp r.end p.0.start) ≡ false) xs → Every (λ (p : Range K × V). IsApart (optional S) (r, None) (given p)) xs
+    none_before xs h = Every-map _ _ xs (λ p k. record { before = k; differs_at_touch = λ _. refl }) h
+
     pub left_not_cut : Every (λ (p : Range K × V). is_gt (cmp p.0.end r.start) ≡ false) (before cmp r.start ps) → IsLeftCut cmp eq ps r None
     left_not_cut h = record {
-      rest = subst (λ xs. IsLeftRest S xs (before cmp r.start ps) r) low.0 (rest_before_uncut S places e r (before cmp r.start ps) (from cmp r.start ps) (subst (IsSpaced S) (sym low.0) c) h low.2);
+      rest = subst (λ xs. IsLeftPart S xs (before cmp r.start ps) r r None) low.0 (left_uncut S places e r r None (before cmp r.start ps) (from cmp r.start ps) (subst (IsSpaced S) (sym low.0) c) (before_none (before cmp r.start ps) h) low.2 (tied_itself o r.start));
       cut_there = tt;
     }
 
@@ -83,13 +89,13 @@ module _ {K V : Type 0} {cmp : K → K → Ordering} (o : IsTotalOrder cmp) (eq 
         let w : ps ≡ us ++ a ∷ from cmp r.start ps = sym low.0 ∙ ap (λ xs. xs ++ from cmp r.start ps) is ∙ grouped us a (from cmp r.start ps) in
         let below : cmp a.0.start r.start ≡ Less = (Every-right (λ (p : Range K × V). cmp p.0.start r.start ≡ Less) us (a ∷ []) (subst (Every (λ (p : Range K × V). cmp p.0.start r.start ≡ Less)) is low.1)).0 in
         record {
-          rest = subst (λ ys. IsLeftRest S ps ys r) (sym (ap (recut (Some g)) is ∙ recut_last g us a)) (subst (λ xs. IsLeftRest S xs (us ++ (g, a.1) ∷ []) r) (sym w) (rest_before_cut S places e r us (from cmp r.start ps) a g a.1 (subst (IsSpaced S) w c) below (lt_le o r.start a.0.end reaches) g_low g_high (e.refl a.1)));
+          rest = subst (λ ys. IsLeftPart S ps ys r r None) (sym (ap (recut (Some g)) is ∙ recut_last g us a)) (subst (λ xs. IsLeftPart S xs (us ++ (g, a.1) ∷ []) r r None) (sym w) (left_cut S places e r r None us (from cmp r.start ps) a g a.1 (subst (IsSpaced S) w c) below (lt_le o r.start a.0.end reaches) refl (tied_itself o r.start) g_low g_high (e.refl a.1)));
           cut_there = (us, a, is, g_low);
         }
 
     pub right_uncut_by : (us : List (Range K × V)) (b : Range K × V) → before cmp r.end ps ≡ us ++ b ∷ [] → is_gt (cmp b.0.end r.end) ≡ false → IsRightCut cmp eq ps r None
     right_uncut_by us b is h = record {
-      rest = subst (λ xs. IsRightRest S xs (from cmp r.end ps) r) high.0 (rest_after_uncut S places e r (before cmp r.end ps) (from cmp r.end ps) (subst (IsSpaced S) (sym high.0) c) high.2 (ends_by_last r.end us b is high.0 r.end h));
+      rest = subst (λ xs. IsRightPart S xs (from cmp r.end ps) r r None) high.0 (right_uncut S places e r r None (before cmp r.end ps) (from cmp r.end ps) (subst (IsSpaced S) (sym high.0) c) (none_before (from cmp r.end ps) high.2) (ends_by_last r.end us b is high.0 r.end h) (tied_itself o r.end));
       new_there = tt;
     }
 
@@ -101,16 +107,16 @@ module _ {K V : Type 0} {cmp : K → K → Ordering} (o : IsTotalOrder cmp) (eq 
         let below : cmp b.0.start r.end ≡ Less = (Every-right (λ (p : Range K × V). cmp p.0.start r.end ≡ Less) us (b ∷ []) (subst (Every (λ (p : Range K × V). cmp p.0.start r.end ≡ Less)) is high.1)).0 in
         let beyond : Every (λ (p : Range K × V). cmp r.end p.0.start ≡ Less) (from cmp r.end ps) = Every-map _ _ (from cmp r.end ps) (λ p k. lt_le_trans o r.end b.0.end p.0.start reaches k.before) (apart_from_all S places b (from cmp r.end ps) tail) in
         record {
-          rest = subst (λ xs. IsRightRest S xs (q.1 ∷ from cmp r.end ps) r) (sym w) (rest_after_cut S places e r us (from cmp r.end ps) b q.1.0 q.1.1 sp reaches (lt_le o b.0.start r.end below) q_low q_high equal);
+          rest = subst (λ xs. IsRightPart S xs (q.1 ∷ from cmp r.end ps) r r None) (sym w) (right_cut S places e r r None us (from cmp r.end ps) b q.1.0 q.1.1 sp reaches (lt_le o b.0.start r.end below) refl (tied_itself o r.end) q_low q_high equal);
           new_there = (o.congr q.0 r.end q.1.0.start key ∙ (o.antisymm r.end q.1.0.start ∙ ap ordering_reverse q_low), key, ap (λ xs. before cmp r.end ps ++ xs) (ap (past cmp r.end) (sym high.0) ∙ past_of r.end (before cmp r.end ps) (from cmp r.end ps) high.1 beyond) ∙ high.0);
         }
 
     -- where the last that starts before the end ends by the start, nothing changes
-    pub untouched : Every (λ (p : Range K × V). is_gt (cmp p.0.end r.start) ≡ false) (before cmp r.end ps) → IsLeftRest S ps (before cmp r.end ps) r × IsRightRest S ps (from cmp r.end ps) r × (before cmp r.end ps ++ from cmp r.end ps ≡ ps)
+    pub untouched : Every (λ (p : Range K × V). is_gt (cmp p.0.end r.start) ≡ false) (before cmp r.end ps) → IsLeftPart S ps (before cmp r.end ps) r r None × IsRightPart S ps (from cmp r.end ps) r r None × (before cmp r.end ps ++ from cmp r.end ps ≡ ps)
     untouched h =
         let sp : IsSpaced S (before cmp r.end ps ++ from cmp r.end ps) = subst (IsSpaced S) (sym high.0) c in (
-          subst (λ xs. IsLeftRest S xs (before cmp r.end ps) r) high.0 (rest_before_uncut S places e r (before cmp r.end ps) (from cmp r.end ps) sp h (Every-map _ _ (from cmp r.end ps) (λ p k. lt_le o r.start p.0.start (lt_le_trans o r.start r.end p.0.start full k)) high_above)),
-          subst (λ xs. IsRightRest S xs (from cmp r.end ps) r) high.0 (rest_after_uncut S places e r (before cmp r.end ps) (from cmp r.end ps) sp high.2 (Every-map _ _ (before cmp r.end ps) (λ p k. le_trans o p.0.end r.start r.end k (lt_le o r.start r.end full)) h)),
+          subst (λ xs. IsLeftPart S xs (before cmp r.end ps) r r None) high.0 (left_uncut S places e r r None (before cmp r.end ps) (from cmp r.end ps) sp (before_none (before cmp r.end ps) h) (Every-map _ _ (from cmp r.end ps) (λ p k. lt_le o r.start p.0.start (lt_le_trans o r.start r.end p.0.start full k)) high_above) (tied_itself o r.start)),
+          subst (λ xs. IsRightPart S xs (from cmp r.end ps) r r None) high.0 (right_uncut S places e r r None (before cmp r.end ps) (from cmp r.end ps) sp (none_before (from cmp r.end ps) high.2) (Every-map _ _ (before cmp r.end ps) (λ p k. le_trans o p.0.end r.start r.end k (lt_le o r.start r.end full)) h) (tied_itself o r.end)),
           high.0,
         )
 

@@ -25,7 +25,7 @@ impl<K, V, A: Allocator> Model for IntoIter<K, V, A> {
 }
 
 impl<K, V, A: Allocator> IntoIter<K, V, A> {
-    /// Returns the pairs of a tree, if there is one, none of which was taken yet.
+    /// Returns the pairs of a tree, if there is one, before any was taken.
     pub(crate) fn over(pairs: Option<btree_map::IntoValues<K, (Range<K>, V), A>>) -> Self
         ensures { result ≡ unwrap_or pairs [] }
     {

@@ -15,8 +15,8 @@ use std::ops::{Bound, Range};
 ///
 /// # Errors
 ///
-/// As for `insert`. Where no stored range overlaps the given one, the call takes no memory,
-/// succeeds and changes nothing.
+/// As for `insert`. If no stored range overlaps the given one, the call takes no memory, succeeds and
+/// changes nothing.
 pub fn remove<K: Ord + Clone, V: Eq + Clone, A: Allocator + Clone>(
     pairs: &mut ByStart<K, V, A>,
     range: &Range<K>,

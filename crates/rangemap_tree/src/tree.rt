@@ -124,6 +124,8 @@ impl<K: Ord + Clone, V: Eq + Clone, A: Allocator + Clone> Store for Tree<K, V, A
 }
 
 impl<K: Ord + Clone, V: Eq + Clone, A: Allocator + Clone> StoreMut for Tree<K, V, A> {
+    ghost room = { λ _. 0 };
+
     fn empty(alloc: A) -> Self {
         Tree {
             pairs: ByStart::empty(alloc),

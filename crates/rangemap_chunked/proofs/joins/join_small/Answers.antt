@@ -23,7 +23,7 @@ returns-clause-whole g c =
     let to_is = ap (λ (ys : List (g.row.R.Denot × g.row.V.Denot)). set front at ys) (c.in-Ok.ensures.ok.0 ∙ (λ i. (here a [] ∙ sym (here [] [])) i ++ (next b [] ∙ sym (next [] [])) i)) in
     let from_is = ap (λ (ys : List (g.row.R.Denot × g.row.V.Denot)). set back 0 ys) c.in-Ok.ensures.ok.1 in
     joined_whole xs front back at m front_is back_is _ c.args.chunks.now.len all_is
-    (set front at c.append.new.self) (set back 0 c.append.new.other) c.cut.new.list.items to_is from_is c.cut.ensures
+    (set front at c.append.new.self) (set back 0 c.append.new.other) c.cut.new.list.items to_is from_is c.cut.ensures.items
 
 pub returns-clause-filled : goal.returns-clause-filled
 returns-clause-filled g c =
@@ -43,7 +43,7 @@ returns-clause-filled g c =
     let to_is = ap (λ (ys : List (g.row.R.Denot × g.row.V.Denot)). set front at ys) (c.in-Ok.ensures.ok.0 ∙ (λ i. (here a [] ∙ sym (here [] [])) i ++ (next b [] ∙ sym (next [] [])) i)) in
     let from_is = ap (λ (ys : List (g.row.R.Denot × g.row.V.Denot)). set back 0 ys) c.in-Ok.ensures.ok.1 in
     joined_filled xs front back at m front_is back_is _ c.args.chunks.now.len all_is
-    (set front at c.append.new.self) (set back 0 c.append.new.other) c.cut.new.list.items to_is from_is c.cut.ensures c.requires
+    (set front at c.append.new.self) (set back 0 c.append.new.other) c.cut.new.list.items to_is from_is c.cut.ensures.items c.requires
 
 pub returns-clause-joined : goal.returns-clause-joined
 returns-clause-joined g c = λ _.
@@ -63,7 +63,7 @@ returns-clause-joined g c = λ _.
     let to_is = ap (λ (ys : List (g.row.R.Denot × g.row.V.Denot)). set front at ys) (c.in-Ok.ensures.ok.0 ∙ (λ i. (here a [] ∙ sym (here [] [])) i ++ (next b [] ∙ sym (next [] [])) i)) in
     let from_is = ap (λ (ys : List (g.row.R.Denot × g.row.V.Denot)). set back 0 ys) c.in-Ok.ensures.ok.1 in
     joined_length xs front back at m front_is back_is _ c.args.chunks.now.len all_is
-    (set front at c.append.new.self) (set back 0 c.append.new.other) c.cut.new.list.items to_is from_is c.cut.ensures
+    (set front at c.append.new.self) (set back 0 c.append.new.other) c.cut.new.list.items to_is from_is c.cut.ensures.items
 
 pub returns-in_default-clause-whole : goal.returns-in_default-clause-whole
 returns-in_default-clause-whole g c =

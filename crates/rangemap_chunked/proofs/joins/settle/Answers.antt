@@ -5,7 +5,7 @@ use Rattle.rangemap_chunked.proofs.joins.settle.Goals as goal
 pub returns-then-len-eq0-clause-whole : goal.returns-then-len-eq0-clause-whole
 returns-then-len-eq0-clause-whole g c =
     let none : length c.index-chunk.result.now ≡ 0 = grind (arith, c.len.ensures, c.if-len-eq0.true) in
-    whole_without c.args.chunks.now.items c.cut.new.list.items c.args.at c.index-chunk.result.now c.requires.in_bounds c.index-chunk.ensures none c.cut.ensures
+    whole_without c.args.chunks.now.items c.cut.new.list.items c.args.at c.index-chunk.result.now c.requires.in_bounds c.index-chunk.ensures none c.cut.ensures.items
 
 pub split-requires-clause-filled : goal.split-requires-clause-filled
 split-requires-clause-filled g c =

@@ -109,8 +109,8 @@ over g c =
     ∙ ap (λ (ys : List (g.row.R.Denot × g.row.V.Denot)). set (set xs at new) last ys) left_is in
     let many = c.len-2.ensures ∙ ap length left_is in
     elim c.if-len-eq0.branch [
-      | then-len-eq0 w ↦ over_through xs at last order l new rest items c.cut.new.list.items items_is (sym many ∙ w.if-len-eq0.true) (c.cut.ensures ∙ ap (λ n. take (at + 1) items ++ drop n items) (w.kept_from-is ∙ past_last at c.args.places.end c.if-end-at.false))
-      | else-len-eq0 w ↦ over_up_to xs at last order l new rest items c.cut.new.list.items items_is (subst (λ n. 0 < n) many (positive c.len-2.result w.if-len-eq0.false)) (c.cut.ensures ∙ ap (λ n. take (at + 1) items ++ drop n items) w.kept_from-is)
+      | then-len-eq0 w ↦ over_through xs at last order l new rest items c.cut.new.list.items items_is (sym many ∙ w.if-len-eq0.true) (c.cut.ensures.items ∙ ap (λ n. take (at + 1) items ++ drop n items) (w.kept_from-is ∙ past_last at c.args.places.end c.if-end-at.false))
+      | else-len-eq0 w ↦ over_up_to xs at last order l new rest items c.cut.new.list.items items_is (subst (λ n. 0 < n) many (positive c.len-2.result w.if-len-eq0.false)) (c.cut.ensures.items ∙ ap (λ n. take (at + 1) items ++ drop n items) w.kept_from-is)
     ]
 
 -- what the change of the first chunk makes, of its pairs and the one of the last that it reaches

@@ -67,7 +67,7 @@ returns-else-is_before-2 g c =
       start_le_end = c.on.invariant.from;
       in_bounds = c.on.invariant.bound;
       begun = c.on.invariant.begun;
-      later = fails_from (starts_within (S p eq) c.args.query.now) xs (starts_parted (S p eq) (places p eq) g.met.V.Eq.laws xs (to_spaced p eq _ c.requires.canonical) c.args.query.now)
+      later = fails_from (starts_within (S p eq) c.args.query.now) xs (starts_parted (S p eq) (places p eq) xs (to_spaced p eq _ c.requires.canonical) c.args.query.now)
           at a here (λ d. get_or_default xs at d c.index-pairs-at.result here) (sym c.is_before-in-on.ensures ∙ c.if-is_before-2.false) at (omega arith);
     }
 

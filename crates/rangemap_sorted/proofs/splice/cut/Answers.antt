@@ -2,8 +2,8 @@ use Rattle.std.proofs.Common.{arith, ap, drop, length, length-drop, sym, take, t
 use Rattle.rangemap_sorted.proofs.SpliceLemmas.{closed_up}
 use Rattle.rangemap_sorted.proofs.splice.cut.Goals as goal
 
-pub returns-then-start-end : goal.returns-then-start-end
-returns-then-start-end g c =
+pub returns-then-start-end-clause-items : goal.returns-then-start-end-clause-items
+returns-then-start-end-clause-items g c =
     let xs = c.deref_mut.result.now in
     let start = c.args.places.start in
     let end = c.args.places.end in

@@ -57,4 +57,4 @@ returns-clause-ok g c =
     let first = next xs start end [] start xs none c.args.left one.result one.new.list.items one.ensures.next one.ensures.items in
     let second = next xs start end L one.result one.new.list.items first c.args.middle two.result two.new.list.items two.ensures.next two.ensures.items in
     let third = next xs start end (L ++ M) two.result two.new.list.items second c.args.right three.result three.new.list.items three.ensures.next three.ensures.items in
-    finished xs start end (L ++ M ++ R) three.result three.new.list.items third in_bounds (c.len.result - c.len-len.result) three.new.list.len _ c.cut.new.list.items (search rules) (omega arith) (tail_turned c.deref_mut.result.now three.new.list.items c.turn_right.new.list _ _ end three.new.list.len _ c.deref_mut.ensures.value (sym c.deref_mut.ensures.len ∙ ap length c.deref_mut.ensures.value) (omega arith) c.turn_right.ensures) c.cut.ensures ∙ ap (λ ys. take start ys ++ (L ++ M ++ R) ++ drop end ys) same ∙ ap (λ vs. take start c.args.list.now.items ++ vs ++ drop end c.args.list.now.items) (append_assoc L M R)
+    finished xs start end (L ++ M ++ R) three.result three.new.list.items third in_bounds (c.len.result - c.len-len.result) three.new.list.len _ c.cut.new.list.items (search rules) (omega arith) (tail_turned c.deref_mut.result.now three.new.list.items c.turn_right.new.list _ _ end three.new.list.len _ c.deref_mut.ensures.value (sym c.deref_mut.ensures.len ∙ ap length c.deref_mut.ensures.value) (omega arith) c.turn_right.ensures) c.cut.ensures.items ∙ ap (λ ys. take start ys ++ (L ++ M ++ R) ++ drop end ys) same ∙ ap (λ vs. take start c.args.list.now.items ++ vs ++ drop end c.args.list.now.items) (append_assoc L M R)

@@ -28,7 +28,7 @@ pub returns-clause-rest : goal.returns-clause-rest
 returns-clause-rest g c =
     let other = c.other.inside.pairs.items in
     let l : c.args.place < length other = subst (λ (xs : List (g.row.R.Denot × g.row.V.Denot)). c.args.place < length xs) (sym c.other.view_is) c.requires.in_bounds in
-    c.cut.ensures ∙ ap (drop c.args.place) c.remove.ensures.by_index.2 ∙ rest_of other c.args.place l ∙ ap (drop (c.args.place + 1)) c.other.view_is
+    c.cut.ensures.items ∙ ap (drop c.args.place) c.remove.ensures.by_index.2 ∙ rest_of other c.args.place l ∙ ap (drop (c.args.place + 1)) c.other.view_is
 
 pub returns-clause-growth : goal.returns-clause-growth
 returns-clause-growth g c =
