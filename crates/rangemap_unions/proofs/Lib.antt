@@ -1,10 +1,14 @@
 pub mod CanonicalSetLemmas
+pub mod EdgeLemmas
+pub mod EdgeStepLemmas
 pub mod InsertLemmas
 pub mod IntersectionLemmas
 pub mod ItemLemmas
+pub mod PartLemmas
 pub mod PlaceLemmas
 pub mod UnionLemmas
 pub mod SideLemmas
+pub mod StepLemmas
 pub use Rattle.rangemap_core.proofs.IncomingRangeLemmas
 pub use Rattle.rangemap_core.proofs.OperatorLemmas
 pub use Rattle.rangemap_core.proofs.SetLemmas

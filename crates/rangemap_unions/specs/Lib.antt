@@ -1,2 +1,4 @@
+pub mod Edges
 pub mod Items
 pub mod Merged
+pub mod Parts

@@ -11,12 +11,12 @@ use std::alloc::AllocError;
 ///
 /// # Requires
 ///
-/// The first range starts before the last one ends, or, of closed ranges, there, and a clone of a key
-/// compares equal to its original.
+/// The first range starts before the last one ends. Closed ranges may also start where the last one
+/// ends. A clone of a key compares equal to its original.
 ///
 /// # Errors
 ///
-/// A clone was refused, which those of numbers, characters and references never are.
+/// A clone was refused. Clones of numbers, characters and references never are.
 pub fn between<R: KeyRange>(first: &R, last: &R) -> Result<R, AllocError>
     requires in_order { R.places.order (R.places.start_place first.now) (R.places.end_place last.now) ≡ Less }
     requires faithful_keys { KeysCloneFaithfully R.Key.is_clone R.Key.cmp }

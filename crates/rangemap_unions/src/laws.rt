@@ -8,10 +8,10 @@ ghost use Rattle.rangemap_unions.specs.Items.{intersection_items, union_items};
 
 use rangemap_steps::StepFns;
 
-/// Of closed ranges, whichever steps say what a key is: the items of a union of two canonical lists
-/// are the hulls of both, and those of an intersection are the canonical list of the common points.
-/// `Union::new` and `Intersection::new` say which items these are. Users name it from `laws::sets` of
-/// `rangemap`.
+/// This law is about closed ranges, with any steps. The items of a union of two canonical lists are
+/// the hulls of both lists. The items of an intersection are the canonical list of the common keys.
+/// The contracts of `Union::new` and `Intersection::new` say which items these are. `laws::sets` of
+/// `rangemap` exports the law.
 pub fn closed_operations<T: Ord, StepFnsT: StepFns<T>>()
     ensures hulls { (left right : List (RangeInclusiveOf T))
         → IsCanonicalSet (closed StepFnsT.is_key T.cmp) left

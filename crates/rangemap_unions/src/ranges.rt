@@ -1,4 +1,5 @@
-//! The ranges of a set, one after another: what goes over pairs gives them, without the values.
+//! The iterators over the ranges of a set. Each wraps an iterator over pairs and leaves out the
+//! values.
 ghost use Rattle.std.specs.Prelude.{◌≡◌, length, IfSome, None as NoneWord, Some as SomeWord};
 ghost use Rattle.std.specs.Iterator.{UpTo, at_most};
 ghost use Rattle.std.specs.Iterator.SizeHint.{IsWithinCount};
@@ -30,7 +31,7 @@ impl<C: Cursor<Range: KeyRange>> Model for Ranges<C> {
 }
 
 impl<C: Cursor<Range: KeyRange>> Ranges<C> {
-    /// Returns the ranges of the pairs of a cursor, of which there are `len`.
+    /// Returns the ranges of the pairs of a cursor that has `len` left.
     ///
     /// # Requires
     ///

@@ -20,9 +20,9 @@ use std::marker::Model;
 /// The union of two lists of ranges: those of both, joined where they overlap, in order. Ranges
 /// that only touch stay apart.
 ///
-/// For closed ranges the contract of `Union::new` counts every value of the key type as a key, since
-/// it knows no steps. `laws::sets::closed_operations` of `rangemap` tells the same items by the steps' keys,
-/// and so does a set's own `union`.
+/// For closed ranges the contract of `Union::new` counts every value of the key type as a key, because
+/// it knows no steps. `laws::sets::closed_operations` of `rangemap` and a set's own `union` describe the
+/// same items by the steps of the keys.
 #[derive(Drop)]
 pub struct Union<C: Cursor<Range: KeyRange>> {
     sides: Sides<C>,
@@ -83,8 +83,8 @@ impl<C: Peek> Union<C> {
     ///
     /// # Errors
     ///
-    /// A clone was refused, which those of numbers, characters and references never are. Nothing
-    /// has changed then.
+    /// A clone was refused. Nothing has changed then. Clones of numbers, characters and references
+    /// are never refused.
     pub fn try_next(&mut self) -> Result<Option<C::Range>, AllocError>
         requires { KeysCloneFaithfully C.Range.Key.is_clone C.Range.Key.cmp }
         ensures ok { IfOk result (λ item. TakesRange C.Range.read self.old item self.new) }
@@ -108,13 +108,13 @@ impl<C: Peek> Iterator for Union<C> {
 
     ghost remaining = { λ s. at_most (length s) };
 
-    /// Returns the next range, made of clones. Where a clone was refused, which those of numbers,
-    /// characters and references never are, it says so once, as `Some(Err(AllocError))`, and has ended
-    /// then.
+    /// Returns the next range, made of clones. If a clone is refused, `next` returns
+    /// `Some(Err(AllocError))` once, and `None` from then on. Clones of numbers, characters and
+    /// references are never refused.
     fn next(&mut self) -> Option<Result<C::Range, AllocError>> {
         let item = self.try_next();
         if item.is_err() {
-            // A refusal is the last answer.
+            // Nothing follows a refusal.
             self.is_done = true;
         }
         item.transpose()

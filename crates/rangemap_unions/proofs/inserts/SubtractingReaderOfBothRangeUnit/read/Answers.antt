@@ -1,0 +1,11 @@
+use Rattle.rangemap_core.proofs.UnitValueLemmas.{added}
+use Rattle.rangemap_unions.proofs.InsertLemmas.{gathered_first, gathered_next}
+use Rattle.rangemap_unions.proofs.inserts.SubtractingReaderOfBothRangeUnit.read.Goals as goal
+
+pub loop-parts-init : goal.loop-parts-init
+loop-parts-init g c = gathered_first g.met.S.Kind.Kind.has_places _ _ _ c.requires.3 c.over-parts.ensures.without.points
+
+pub loop-parts-preserved : goal.loop-parts-preserved
+loop-parts-preserved g c =
+    gathered_next g.met.S.Kind.Kind.has_places g.met.S.Kind.Kind.has_places _ _ _ _ _ _ c.loop-parts.invariant (rw c.in-Some.is at c.in_ok-part.ensures.ok)
+    (added g.S.Kind.Kind.kind (g.S.Store.pairs c.loop-parts.rest) (g.S.Store.pairs c.insert.new.self) _ c.in_ok-insert.ensures.ok)
