@@ -1,3 +1,5 @@
+pub mod CoveredLemmas
 mod MeetLemmas
 pub mod ReplayLemmas
 mod NothingLemmas
+mod UpdateLemmas

@@ -1,6 +1,6 @@
 -- What calls on a list of containers make of the point functions that these stand for: those that every container has, and any that
 -- say it themselves.
-use Rattle.std.specs.Prelude.{◌≡◌, ℕ, ◌≤◌, ⊤, Bool, true, false, List, [], ◌∷◌, ◌++◌, length, Option, Some, None, slice_get, slice_set}
+use Rattle.std.specs.Prelude.{◌≡◌, ℕ, ◌≤◌, ⊤, Bool, true, false, List, [], ◌∷◌, ◌++◌, length, Option, Some, None, is_some, slice_get, slice_set}
 use Rattle.std.specs.List.{AllZip}
 use Rattle.rangemap_containers.specs.declared.calls.Change.{Change}
 use Rattle.rangemap_containers.specs.declared.calls.Change.TheVariants.{New, Insert, Remove, Clear, Clone}
@@ -13,6 +13,10 @@ Changes {K} {V} old at change new = (f : K → Option V) × (slice_get old at �
 -- f is defined at no point of the range
 abbrev pub IsUndefinedOn : {K X V : Type 0} → RangeKind K X → (K → Option V) → X → Type 0
 IsUndefinedOn {K} k f range = (x : K) → k.is_key x → k.holds range x ≡ true → f x ≡ None
+
+-- f is defined at each point of the range
+abbrev pub IsDefinedOn : {K X V : Type 0} → RangeKind K X → (K → Option V) → X → Type 0
+IsDefinedOn {K} k f range = (x : K) → k.is_key x → k.holds range x ≡ true → is_some (f x) ≡ true
 
 -- ---- one call on containers of the functions old: where the answer is true it was accepted, and they now have the functions new
 

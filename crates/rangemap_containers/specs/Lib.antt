@@ -1,1 +1,3 @@
+pub mod Covered
 pub mod Histories
+pub mod Updates

@@ -1,14 +1,15 @@
 //! What every container of the library does, for code that is written once for all of them.
 //!
-//! A container says what it is (its keys, its ranges, their kind, its values, its allocator) and
-//! makes its public calls. Contracts see it as the list of its pairs, in the words of
-//! `Ranges.antt` of `rangemap_core`; of a set the values are `()`. The laws, the replays, the program
-//! and the tests ask for no more.
+//! A container says what it is (its keys, its ranges, their kind, its values, its allocator) and makes
+//! its public calls. Contracts see it as the list of its pairs, in the words of `Ranges.antt` of
+//! `rangemap_core`; of a set the values are `()`. The laws, the replays, the program and the tests need
+//! no more.
 //!
-//! Where these ask for another call that every container has, it is added here, and in the file
-//! `container.rt` of the map and of the set.
-ghost use Rattle.std.specs.Prelude.{◌≡◌, ◌+◌, ◌-◌, ◌≤◌, List, [], IfOk, IfSome, IsOk, OnErr, OnOk, is_some, length, map, nat_eq, nat_lt, slice_get, true};
+//! To let code over any container make another call, add it here and in the file `container.rt` of the
+//! map and of the set.
+ghost use Rattle.std.specs.Prelude.{◌≡◌, ◌+◌, ◌-◌, ◌≤◌, ◌↔◌, List, [], IfOk, IfSome, IsOk, IsTrue, OnErr, OnOk, is_some, length, map, nat_eq, nat_lt, slice_get, true};
 ghost use Rattle.std.specs.Option.{option_copied, option_map};
+ghost use Rattle.rangemap_containers.specs.Histories.{IsDefinedOn};
 ghost use Rattle.rangemap_core.specs.Appends.{Appends, AppendsGaps};
 ghost use Rattle.rangemap_core.specs.Clones.{KeysCloneFaithfully, ValuesCloneFaithfully};
 ghost use Rattle.rangemap_core.specs.Ranges.{AreGaps, IsCanonOf, IsCanonical, IsNewest, covering, erase, overlapped, override, same_pairs, value_at};
@@ -19,21 +20,24 @@ use std::alloc::{AllocError, Allocator};
 
 mod any;
 mod appends;
+pub mod covered;
 mod inserts;
+mod updates;
 
 pub use any::IsAny;
 pub use appends::Appending;
 pub use inserts::insert_pairs;
+pub use updates::update;
 
-/// A container of disjoint ranges to values. Two containers are equal where their pairs are.
+/// A container of disjoint ranges with values. Two containers are equal if their pairs are.
 ///
-/// A method that bears the name of a public call makes that call, at its cost; of sets those that
-/// speak of values or pairs make `contains`, `get`, `first` and `last`. So code that is generic over
+/// A method that has the name of a public call makes that call, at its cost. A set makes `contains`,
+/// `get`, `first` and `last` for the methods that speak of values or pairs. So code that is generic over
 /// containers, as the replay and the laws, is proved of the calls that users make. The appends give
 /// clones of what `iter`, `overlapping` and `gaps` lend or make.
 ///
-/// `Drop` is no bound of it, as of no store: what only borrows a container needs none, and what may
-/// drop one asks for `Container + Drop`.
+/// `Drop` is no bound of it. Code that only borrows a container does not need it, and code that may drop
+/// one asks for `Container + Drop`.
 pub trait Container: PartialEq {
     /// A stored range.
     type Range: KeyRange;
@@ -41,7 +45,7 @@ pub trait Container: PartialEq {
     /// What a range is mapped to.
     type Value: Eq + Clone;
 
-    /// What the memory comes from.
+    /// The allocator.
     type Alloc: Allocator;
 
     /// The kind of the ranges.
@@ -67,8 +71,8 @@ pub trait Container: PartialEq {
     ///
     /// # Errors
     ///
-    /// Memory or a clone was refused, or the change might leave more ranges than the store can count: then
-    /// the container is as it was.
+    /// Memory or a clone was refused, or the change might leave more ranges than the store can count.
+    /// The container is then as it was.
     fn insert(&mut self, range: Self::Range, value: Self::Value) -> Result<(), AllocError>
         requires non_empty { Self.Kind.kind.IsNonEmpty range }
         requires faithful_keys { KeysCloneFaithfully Self.Range.Key.is_clone Self.Range.Key.cmp }
@@ -86,8 +90,8 @@ pub trait Container: PartialEq {
     ///
     /// # Errors
     ///
-    /// As for `insert`. Where no stored range overlaps the given one, the call takes no memory,
-    /// succeeds and changes nothing.
+    /// As for `insert`. If no stored range overlaps the given one, the call takes no memory, succeeds
+    /// and changes nothing.
     fn remove(&mut self, range: Self::Range) -> Result<(), AllocError>
         requires non_empty { Self.Kind.kind.IsNonEmpty range }
         requires faithful_keys { KeysCloneFaithfully Self.Range.Key.is_clone Self.Range.Key.cmp }
@@ -154,9 +158,13 @@ pub trait Container: PartialEq {
         ensures found { option_map (λ pair. (pair.0.now, pair.1.now)) result ≡ slice_get (pairs self.now) (length (pairs self.now) - 1) }
         ensures non_empty { IfSome result (λ pair. Self.Kind.kind.IsNonEmpty pair.0.now) };
 
-    /// Returns whether a stored range overlaps `range`, of which nothing is asked.
+    /// Returns whether a stored range overlaps `range`, which may be any range.
     fn overlaps(&self, range: &Self::Range) -> bool
         ensures { result ≡ nat_lt 0 (length (overlapped Self.Kind.kind (pairs self.now) range.now)) };
+
+    /// Returns whether every key of `range` has a value. That is true of a range without keys.
+    fn covers(&self, range: &Self::Range) -> bool
+        ensures { IsTrue result ↔ IsDefinedOn Self.Kind.kind (value_at Self.Kind.kind (pairs self.now)) range.now };
 
     /// Appends clones of all pairs, in order, so that they outlive the container. Their ranges may
     /// be stored again. It takes *O*(*n*).
@@ -167,7 +175,7 @@ pub trait Container: PartialEq {
     ///
     /// # Errors
     ///
-    /// A clone, or the growth of `out`, was refused: then `out` is as it was. Where there is nothing to
+    /// A clone, or the growth of `out`, was refused. `out` is then as it was. If there is nothing to
     /// append, the call takes no memory, succeeds and changes nothing.
     fn append_all<B: Allocator>(
         &self,
@@ -179,8 +187,8 @@ pub trait Container: PartialEq {
         ensures err { OnErr result (out.new.items ≡ out.old.items) }
         ensures of_nothing { pairs self.now ≡ [] → IsOk result × (out.new.items ≡ out.old.items) };
 
-    /// Appends clones of the pairs that overlap `range`, in order. Nothing is asked of `range`. It
-    /// takes *O*(log *n* + *k*), with *k* pairs appended.
+    /// Appends clones of the pairs that overlap `range`, in order. `range` may be any range. It takes
+    /// *O*(log *n* + *k*), with *k* pairs appended.
     ///
     /// # Requires
     ///
@@ -200,8 +208,8 @@ pub trait Container: PartialEq {
         ensures err { OnErr result (out.new.items ≡ out.old.items) }
         ensures of_nothing { overlapped Self.Kind.kind (pairs self.now) range.now ≡ [] → IsOk result × (out.new.items ≡ out.old.items) };
 
-    /// Appends the parts of `outer_range` that no stored range covers, in order. Nothing is asked
-    /// of `outer_range`. It takes *O*(log *n* + *k*), with *k* stored ranges that it overlaps.
+    /// Appends the parts of `outer_range` that no stored range covers, in order. `outer_range` may be
+    /// any range. It takes *O*(log *n* + *k*), with *k* stored ranges that it overlaps.
     ///
     /// # Requires
     ///
@@ -220,7 +228,7 @@ pub trait Container: PartialEq {
         ensures err { OnErr result (out.new.items ≡ out.old.items) }
         ensures of_nothing { AreGaps Self.Kind.kind (map (λ pair. pair.0) (pairs self.now)) outer_range.now [] → IsOk result × (out.new.items ≡ out.old.items) };
 
-    /// Containers are equal where their pairs are.
+    /// Containers are equal if their pairs are.
     ghost equal: { (left right : Self) → Self.eq left right ≡ same_pairs Self.Kind.kind Self.Value.eq (pairs left) (pairs right) };
 }
 
@@ -234,7 +242,7 @@ pub trait Container: PartialEq {
 ///
 /// # Errors
 ///
-/// The memory of the vector, or a clone of a key, was refused. Where there is no gap, the call takes no
+/// The memory of the vector, or a clone of a key, was refused. If there is no gap, the call takes no
 /// memory and succeeds.
 pub fn collect_gaps<M: Container, B: Allocator>(
     alloc: B,

@@ -1,9 +1,9 @@
 //! The run of any calls on a list of containers, written once for all of them and for every sort of
 //! call.
 //!
-//! A sort of call is a type with the trait `CallOn`: `Change` for every container, `Call` for maps
-//! and `SetCall` for sets, of which each stands beside the container that it is for. Each container's
-//! module gives users the runs under its own name.
+//! A sort of call is a type with the trait `CallOn`: `Change` for every container, `Call` for maps and
+//! `SetCall` for sets, each beside its container. Each container's module gives users the runs under its
+//! own name.
 ghost use Rattle.std.specs.Prelude.{◌≡◌, ◌+◌, ◌<◌, ◌≤◌, [], Bool, IfOk, List, OnErr, Option, vec_len, vec_capacity};
 ghost use Rattle.std.specs.List.{AllByRecursion};
 ghost use Rattle.rangemap_core.specs.Clones.{KeysCloneFaithfully, ValuesCloneFaithfully};
@@ -24,9 +24,9 @@ pub trait CallOn<M: Container>: Drop {
     /// What the call makes of the functions that the containers stand for, by its answer.
     ghost step: { List (M.Range.Key → Option M.Value) → Self → Bool → List (M.Range.Key → Option M.Value) → Type 0 };
 
-    /// Makes the call, and answers whether it was accepted. A container that it adds at the end has its
-    /// memory of `alloc`, but where it is made of containers in the list: then of a clone of the
-    /// allocator of the first one named. For it there is room in the list, so that the call alone can be
+    /// Makes the call, and returns whether it was accepted. A container that it adds at the end has its
+    /// memory of `alloc`. If it is made of containers in the list, it has its memory of a clone of the
+    /// allocator of the first one named. The list has room for it, so only the call itself can be
     /// refused.
     ///
     /// # Requires
@@ -43,25 +43,25 @@ pub trait CallOn<M: Container>: Drop {
         ensures capacity { vec_capacity containers.old ≤ vec_capacity containers.new };
 }
 
-/// Makes any list of calls, in order, on a list of containers, and answers of each whether it was
+/// Makes any list of calls, in order, on a list of containers, and returns for each whether it was
 /// accepted.
 ///
-/// Each container's module gives it under its own path, with its sorts of call: `map::replay` takes
-/// a `map::Call` or a `map::Change`. A `Change::New` makes its container by `new_with_step_fns`, and
-/// that of a `Call` by `new`. So over steps of another type than the key's there is `Change` alone,
-/// and `replay_with_step_fns` is a name for the replay of these. It takes what the calls take.
+/// Each container's module gives it under its own path, with its sorts of call: `map::replay` takes a
+/// `map::Call` or a `map::Change`. A `Change::New` makes its container by `new_with_step_fns`, and that
+/// of a `Call` by `new`. If the steps are those of another type, there is only `Change`, and
+/// `replay_with_step_fns` is a name for the replay of these calls. A replay costs what its calls cost.
 ///
-/// A call names a container by its place in the list; an operator of sets names two. A call that
-/// makes a container adds it at the end; where it is refused none is added. A call that names a
-/// place at which none is isn't made, and counts as refused.
+/// A call names a container by its place in the list; an operator of sets names two. A call that makes a
+/// container adds it at the end, unless the call is refused. A call that names a place without a
+/// container is not made, and counts as refused.
 ///
-/// The contract, in `MakesAll`, is what this function is for. Whatever point functions the
-/// containers stood for, they then stand for the functions that the accepted calls give by
-/// overriding and erasing, and by what the operators make of two; and each container's list is the
-/// canonical list of its function. A refused call changes no function, but that a refused `Extend`
-/// counts for some beginning of its items, which lacks one at least. A `New` is accepted; so is a
-/// `Clear`, a `Remove` of a range at no point of which the function is defined, and an `Extend` by
-/// nothing, where they name a container.
+/// The contract, in `MakesAll`, is what this function is for. Whatever point functions the containers
+/// stood for, they then stand for the functions that the accepted calls give by overriding and erasing,
+/// and by what the operators make of two; and each container's list is the canonical list of its
+/// function. A refused call changes no function, except that a refused `Extend` keeps some beginning of
+/// its items, without the last of them at least. A `New` is always accepted. If they name a container,
+/// so are a `Clear`, a `Remove` of a range on which the function is nowhere defined, and an `Extend` by
+/// nothing.
 ///
 /// # Requires
 ///

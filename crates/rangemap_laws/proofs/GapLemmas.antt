@@ -1,14 +1,15 @@
 -- The gaps that a map leaves in a range, and the keys that it covers, part the range.
-use Rattle.std.proofs.Common.{◌≡◌, ℕ, zero, suc, ◌<◌, Bool, true, false, not, ◌&&◌, ◌||◌, cond, List, [], ◌∷◌, map, length, get_or, Option, Some, Ordering, Less, Equal, Greater, is_le, true≢false, refl, sym, ap, ◌∙◌, arith}
+use Rattle.std.proofs.Common.{◌≡◌, ℕ, zero, suc, ◌<◌, Bool, false, not, ◌&&◌, ◌||◌, List, [], ◌∷◌, map, length, get_or, Option, Some, Less, sym, ap, ◌∙◌, arith}
 use Rattle.std.proofs.lemmas.Bool.Decides.{nat_tests}
 use Rattle.std.specs.Cmp.{IsTotalOrder}
 use Rattle.std.specs.Option.{is_some}
-use Rattle.std.specs.List.{find}
 use Rattle.rangemap_core.specs.engine.Endpoints.{IsPlaced, EndpointOf}
 use Rattle.rangemap_core.specs.Ranges.{RangeKind, IsCanonical, IsStorable, AreGaps, covering, covers, unit_eq, with_unit}
 use Rattle.rangemap_core.specs.engine.Places.{place_cmp}
 use Rattle.rangemap_core.specs.engine.PlacedKinds.{place_total}
 use Rattle.rangemap_core.specs.laws.Orders.{Less-Equal, lt_lt}
+use Rattle.rangemap_core.proofs.StoredKeyLemmas.{ends_before}
+use Rattle.rangemap_core.proofs.UnitValueLemmas.{covering_covers}
 use Rattle.rangemap_laws.specs.GapPartition.{IsPartition}
 
 apart_tests : (h c : Bool) → ((h && not c) && c) ≡ false
@@ -17,35 +18,17 @@ apart_tests h c = grind (arith, nat_tests)
 together_tests : (h c : Bool) → ((h && not c) || (h && c)) ≡ h
 together_tests h c = grind (arith, nat_tests)
 
--- a key is covered by the pairs where their ranges cover it
-pub covered_is : {K X V : Type 0} (k : RangeKind K X) (list : List (X × V)) (x : K) → covers k (map (λ p. p.0) list) x ≡ is_some (covering k list x)
-covered_is k [] x = refl
-covered_is k (a ∷ list) x = go (covered_is k list x) (k.holds a.0 x)
-  where
-    go : covers k (map (λ p. p.0) list) x ≡ is_some (covering k list x) → (b : Bool) → is_some (cond b (Some a.0) (find (λ r. k.holds r x) (map (λ p. p.0) list))) ≡ is_some (cond b (Some a) (covering k list x))
-    go rest true = refl
-    go rest false = rest
-
 module _ {K X : Type 0} {k : RangeKind K X} {end_place : X → Option K} {part : EndpointOf X → EndpointOf X → X} (p : IsPlaced k end_place part) where
   o : IsTotalOrder (place_cmp k.cmp)
   o = place_total p.total
 
-  -- of two neighbours the first ends before the second starts
-  below_next : (r s : X) (rest : List X) → IsCanonical k (unit_eq k) (with_unit k (r ∷ s ∷ rest)) → place_cmp k.cmp (end_place r) (Some (k.start s)) ≡ Less
-  below_next r s rest can = go (place_cmp k.cmp (end_place r) (Some (k.start s))) refl (p.before r s can.0 can.2.0 can.1.0)
-    where
-      go : (c : Ordering) → place_cmp k.cmp (end_place r) (Some (k.start s)) ≡ c → is_le (place_cmp k.cmp (end_place r) (Some (k.start s))) ≡ true → place_cmp k.cmp (end_place r) (Some (k.start s)) ≡ Less
-      go Less e l = e
-      go Equal e l = absurd (true≢false (can.1.1 (p.touches_from r s can.0 can.2.0 e)))
-      go Greater e l = absurd (true≢false (sym l ∙ ap is_le e))
-
   below_later : (r : X) (rest : List X) → IsCanonical k (unit_eq k) (with_unit k (r ∷ rest)) → (j : ℕ) (d : X) → j < length rest
       → (place_cmp k.cmp (end_place r) (Some (k.start (get_or rest j d))) ≡ Less) × IsStorable k (get_or rest j d)
   below_later r [] can j d l = absurd (omega arith)
-  below_later r (s ∷ rest) can zero d l = (below_next r s rest can, can.2.0)
+  below_later r (s ∷ rest) can zero d l = (ends_before p r s rest can, can.2.0)
   below_later r (s ∷ rest) can (suc j) d l =
       let later = below_later s rest can.2 j d (omega arith) in
-      (lt_lt o {a = end_place r} {b = Some (k.start s)} {c = Some (k.start (get_or rest j d))} (below_next r s rest can) (lt_lt o {a = Some (k.start s)} {b = end_place s} {c = Some (k.start (get_or rest j d))} (p.non_empty s can.2.0) later.0), later.1)
+      (lt_lt o {a = end_place r} {b = Some (k.start s)} {c = Some (k.start (get_or rest j d))} (ends_before p r s rest can) (lt_lt o {a = Some (k.start s)} {b = end_place s} {c = Some (k.start (get_or rest j d))} (p.non_empty s can.2.0) later.0), later.1)
 
   storable_at : (ranges : List X) → IsCanonical k (unit_eq k) (with_unit k ranges) → (i : ℕ) (d : X) → i < length ranges → IsStorable k (get_or ranges i d)
   storable_at [] can i d l = absurd (omega arith)
@@ -69,4 +52,4 @@ module _ {K X : Type 0} {k : RangeKind K X} {end_place : X → Option K} {part :
   }
     where
       points : (x : K) → k.is_key x → covers k gaps x ≡ (k.holds q x && not (is_some (covering k list x)))
-      points x key = g.points x key ∙ ap (λ c. k.holds q x && not c) (covered_is k list x)
+      points x key = g.points x key ∙ ap (λ c. k.holds q x && not c) (sym (covering_covers k list x))

@@ -1,5 +1,5 @@
 pub mod EqualityLemmas
 pub mod GapLemmas
+pub mod OverlapLemmas
 pub mod RunLemmas
-pub mod StoredKeyLemmas
 mod EndLemmas

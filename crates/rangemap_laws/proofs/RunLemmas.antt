@@ -13,7 +13,7 @@ use Rattle.rangemap_core.specs.Ranges.{RangeKind, Alike, IsCanonOf, IsCanonical,
 use Rattle.rangemap_core.proofs.AlikeLemmas.{Alike-turned, canon_along, erase-alike, override-alike}
 use Rattle.rangemap_core.proofs.EqualListLemmas.{from_same}
 use Rattle.rangemap_core.proofs.UniquenessLemmas.{alike_from_same, canon_unique, same_points}
-use Rattle.rangemap_laws.proofs.StoredKeyLemmas.{covering_holds}
+use Rattle.rangemap_core.proofs.StoredKeyLemmas.{covering_holds}
 use Rattle.rangemap_laws.specs.declared.commands.command.Answer.{Answer}
 use Rattle.rangemap_laws.specs.declared.commands.command.Answer.TheVariants as answer
 use Rattle.rangemap_laws.specs.declared.commands.command.Command.{Command}

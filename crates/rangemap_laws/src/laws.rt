@@ -1,12 +1,12 @@
 //! What holds of every container, as contracts that the check has proved.
 //!
-//! A function here that takes containers makes the calls that its law speaks of, and its contract
-//! says what they leave; one that takes nothing states a fact about lists of ranges. It serves
-//! every map and every set of the library: what they are to it is said by `Container`. No range that
-//! is inserted or removed is empty, and clones are faithful, as for `insert`.
+//! A function here that takes containers makes the calls that its law speaks of, and its contract says
+//! what they leave; one that takes nothing states a fact about lists of ranges. It serves every map and
+//! every set of the library, through the trait `Container`. No range that is inserted or removed is
+//! empty, and clones are faithful, as for `insert`.
 //!
-//! A law holds where all of its calls are accepted. Where one of several was refused, those before it
-//! were made; the clauses say that each container is as it was, or as one of its calls left it.
+//! A law holds if all of its calls are accepted. If one of several was refused, the calls before it were
+//! made. The clauses say that each container is then as it was, or as one of its calls left it.
 //!
 //! A contract speaks of what is held, not of how often or in which order it was written. So a law
 //! can't tell one insert from two equal ones, nor the order of two inserts that share no key; that
@@ -32,10 +32,10 @@ use rangemap_core::key_range::KeyRange;
 use rangemap_core::kind::Kind;
 use std::alloc::{AllocError, Allocator};
 
-/// Canonical lists are equal pair by pair exactly when their point functions are alike: those of
-/// half-open ranges over any order, and those of closed ranges over any order whose keys have
-/// neighbours, which is what the steps tell. So a point function has at most one canonical list, and
-/// which calls led to it can't be seen.
+/// Canonical lists are equal pair by pair exactly if their point functions are alike. This holds for
+/// half-open ranges over any order, and for closed ranges over any order whose steps tell the neighbours
+/// of keys. So a point function has at most one canonical list, which does not depend on the calls that
+/// led to it.
 pub fn lists_are_unique<Q: Kind<R>, R: KeyRange, V: Eq>()
     ensures { (left right : List (R × V))
         → IsCanonical Q.kind V.eq left
@@ -44,8 +44,8 @@ pub fn lists_are_unique<Q: Kind<R>, R: KeyRange, V: Eq>()
         ↔ Alike Q.kind V.eq (value_at Q.kind left) (value_at Q.kind right)) }
 {}
 
-/// Two containers are equal exactly when they give alike answers at every key. The answers are those of
-/// `==` and `!=`.
+/// Two containers are equal exactly if they give equal answers at every key. Returns what `==` and `!=`
+/// do.
 pub fn equal_exactly_when_alike<M: Container>(left: &M, right: &M) -> (bool, bool)
     ensures answer { result.0 ≡ M.eq left.now right.now }
     ensures other_answer { result.1 ≡ not result.0 }
@@ -79,8 +79,8 @@ pub fn insert_changes_its_range_alone<M: Container>(
     map.insert(range, value)
 }
 
-/// After a remove no key of the range is covered, and any other key is covered exactly as before,
-/// with an equal value. Where no stored range overlaps it, the remove succeeds and changes nothing.
+/// After a remove no key of the range is covered, and any other key is covered exactly as before, with
+/// an equal value. If no stored range overlaps it, the remove succeeds and changes nothing.
 ///
 /// # Errors
 ///

@@ -1,7 +1,7 @@
 //! Clones of pairs, put behind a vector of the caller's.
 //!
-//! What was put before a refusal is taken off again, so that a refused call leaves the vector as it
-//! was.
+//! Items that were appended before a refusal are removed again, so a refused call leaves the vector as
+//! it was.
 ghost use Rattle.std.specs.Prelude.{◌≡◌, OnErr, OnOk};
 ghost use Rattle.rangemap_core.specs.Appends.{AppendsOne};
 ghost use Rattle.rangemap_core.specs.Clones.{KeysCloneFaithfully, ValuesCloneFaithfully};
@@ -15,8 +15,8 @@ use rangemap_core::reader::Reader;
 use std::alloc::{AllocError, Allocator};
 use std::marker::PhantomData;
 
-/// Appends clones of the pairs that it reads to a vector. It answers `Err` where a clone, or the
-/// growth of the vector, was refused: then the vector is as it was. Of no pairs it takes no memory.
+/// Appends clones of the pairs that it reads to a vector. It returns `Err` if a clone or the growth of
+/// the vector was refused. The vector is then as it was. If there are no pairs, it takes no memory.
 pub struct Appending<Q, B>(PhantomData<(Q, B)>);
 
 impl<Q: Kind<R>, R: KeyRange, V: Eq + Clone, B: Allocator> Reader<R, V> for Appending<Q, B> {
@@ -51,8 +51,8 @@ impl<Q: Kind<R>, R: KeyRange, V: Eq + Clone, B: Allocator> Reader<R, V> for Appe
     }
 }
 
-// Appends a clone of a stored pair. Where a clone, or the growth of the vector, is refused, the vector
-// is as it was.
+// Appends a clone of a stored pair. If a clone or the growth of the vector is refused, the vector is as
+// it was.
 fn append_clone<Q: Kind<R>, R: KeyRange, V: Eq + Clone, B: Allocator>(
     range: &R,
     value: &V,

@@ -22,9 +22,9 @@ impl<M: Container> CallOn<M> for Change<M::Range, M::Value> {
                 None => false,
             },
             Change::Remove { at, range } => {
-                // That a removal which meets nothing is accepted is said here of keys that have no value, and
-                // of `remove` of stored ranges that do not overlap. The one follows from the other where
-                // the ends of the range are keys.
+                // A removal that meets nothing is accepted. This contract says so of keys without a
+                // value, and `remove` of stored ranges that do not overlap. The one follows from the
+                // other if the ends of the range are keys.
                 known_ends::<M::Kind, M::Range>(&range);
                 match containers.get_mut(at) {
                     Some(container) => container.remove(range).is_ok(),

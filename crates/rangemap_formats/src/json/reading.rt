@@ -49,7 +49,7 @@ pub(crate) trait ReadsParts<S: Store, E> {
 ///
 /// # Errors
 ///
-/// `NotAList` where the value is no list. Else entries are read in order, and in an entry the order is
+/// `NotAList` if the value is no list. Otherwise entries are read in order, and in an entry the order is
 /// shape, start, end, value, emptiness, with `Form::Canonical` then the order and the touch with the
 /// pair before, and last its insert. The first fault is the answer, and nothing is made then.
 pub fn read<S: StoreMut + Drop, E, R: ReadsParts<S, E>>(

@@ -1,4 +1,4 @@
-//! What a map answers to one command.
+//! What a map returns for one command.
 ghost use Rattle.rangemap_core.specs.Clones.{KeysCloneFaithfully, ValuesCloneFaithfully};
 ghost use Rattle.rangemap_laws.specs.Runs.{CommandStep, IsAllowed};
 ghost use Rattle.rangemap_laws.specs.declared.commands.command.Command.TheVariants as command_word;
@@ -10,7 +10,7 @@ use rangemap_core::key_range::KeyRange;
 use rangemap_core::pairs::clone_pair;
 use std::alloc::Allocator;
 
-/// Makes a command on a map, and answers with clones, in memory of clones of `alloc`.
+/// Makes a command on a map, and returns clones, in memory of clones of `alloc`.
 pub(super) fn answer<M: Container, A: Allocator + Clone>(
     alloc: &A,
     map: &mut M,
@@ -50,7 +50,7 @@ pub(super) fn answer<M: Container, A: Allocator + Clone>(
     }
 }
 
-// Answers a clone of the value of a key, if it has one.
+// Returns a clone of the value of a key, if it has one.
 fn get<M: Container, A: Allocator>(
     map: &M,
     key: &<M::Range as KeyRange>::Key,
@@ -64,7 +64,7 @@ fn get<M: Container, A: Allocator>(
     }
 }
 
-// Answers clones of the stored range that has a key and of its value, if there is one.
+// Returns clones of the stored range that has a key and of its value, if there is one.
 fn get_key_value<M: Container, A: Allocator>(
     map: &M,
     key: &<M::Range as KeyRange>::Key,

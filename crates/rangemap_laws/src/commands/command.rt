@@ -1,4 +1,4 @@
-//! Commands on a map, and what they answer, as values.
+//! Commands on a map, and what they return, as values.
 use std::alloc::Allocator;
 use std::vec::Vec;
 
@@ -23,7 +23,7 @@ pub enum Command<K, R, V> {
     Overlapping(R),
 }
 
-/// What a command answers that was accepted: clones of what it asked for.
+/// What an accepted command returns: clones of what it asked for.
 #[derive(Debug, Drop)]
 pub enum Answer<R, V, A: Allocator> {
     /// The map was changed.

@@ -10,16 +10,16 @@ use rangemap_containers::container::Container;
 use rangemap_core::key_range::KeyRange;
 use std::alloc::{AllocError, Allocator};
 
-/// What came of a command: its answer, or that it was refused.
+/// What a command returned, or that it was refused.
 pub type Outcome<R, V, A> = Result<Answer<R, V, A>, AllocError>;
 
-/// Runs the commands on a map, in order, and answers each. It takes what the calls take.
+/// Runs the commands on a map, in order, and returns what each gives. It costs what the calls cost.
 ///
-/// The contract, in `Ran`, says of each command what it answers, up to equality, and what it makes
-/// of the map's pairs, in words of the map's point function. A command that is refused changes
-/// nothing, and those after it are run; `Clear` and `Len` are never refused, nor is a `Remove` that
-/// meets nothing, or a `Get` or `GetKeyValue` of a key that no range has. What two equal maps of
-/// half-open ranges answer, `laws::runs` says: it can't be seen what they are made of.
+/// The contract, in `Ran`, says what each command returns, up to equality, and what it makes of the
+/// map's pairs, in words of the map's point function. A refused command changes nothing, and the
+/// commands after it are run. `Clear` and `Len` are never refused, nor is a `Remove` that meets nothing,
+/// or a `Get` or `GetKeyValue` of a key that no range has. `laws::runs` says that two equal maps of
+/// half-open ranges return the same, whatever they are made of.
 ///
 /// # Requires
 ///
@@ -27,7 +27,7 @@ pub type Outcome<R, V, A> = Result<Answer<R, V, A>, AllocError>;
 ///
 /// # Errors
 ///
-/// The memory for the answers, or a clone of `alloc`, was refused. Then no command was run.
+/// The memory for the results, or a clone of `alloc`, was refused. Then no command was run.
 ///
 /// # Examples
 ///

@@ -7,8 +7,8 @@ use rangemap_containers::container::Container;
 use std::cmp::Ordering;
 use std::hash::{Hash, Hasher};
 
-/// Equality agrees with order: two containers are equal exactly where neither is less. The answers
-/// are those of `==` and `cmp`.
+/// Equality agrees with order: two containers are equal exactly if neither is less. Returns what `==`
+/// and `cmp` do.
 pub fn equality_agrees_with_order<M: Container + Ord>(left: &M, right: &M) -> (bool, Ordering)
     ensures equal { result.0 ≡ same_pairs M.Kind.kind M.Value.eq (M.pairs left.now) (M.pairs right.now) }
     ensures order { result.1 ≡ M.cmp left.now right.now }
@@ -17,7 +17,7 @@ pub fn equality_agrees_with_order<M: Container + Ord>(left: &M, right: &M) -> (b
     (left == right, left.cmp(right))
 }
 
-/// Equal containers hash alike: fed to two hashers in one state, they leave these in one state.
+/// Equal containers hash alike: two hashers in the same state are in the same state after they were fed.
 pub fn equal_containers_hash_alike<M: Container + Hash, H: Hasher>(
     left: &M,
     right: &M,

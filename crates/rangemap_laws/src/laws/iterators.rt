@@ -1,12 +1,12 @@
 //! Every iterator of the library ends, and stays ended.
 //!
-//! Each function but the first makes the calls that its law speaks of, and answers what these
-//! answered. An item leaves fewer to come; none is answered only where none is to come, and from
-//! then on.
+//! Each function except the first makes the calls that its law speaks of, and returns what they
+//! returned. Each item leaves fewer to come. A call returns none only if none is to come, and from then
+//! on.
 //!
-//! They serve any iterator: what is still to come is any count to which its calls keep
-//! (`AllGoToEnd`, `AllTryToEnd`). That the calls of the library's iterators keep to the number of
-//! their items, `items_go_to_the_end` says of what their contracts say.
+//! They serve any iterator: what is still to come is any count to which its calls keep (`AllGoToEnd`,
+//! `AllTryToEnd`). `items_go_to_the_end` says that the contracts of the library's iterators keep to the
+//! number of their items.
 ghost use Rattle.std.specs.Prelude.{◌≡◌, ◌≢◌, ◌<◌, ℕ, [], IfNone, IfOk, IsNone, List, None as NoneWord, Ok as OkWord, OnErr, OnSome, Option as OptionOf, Result as ResultOf, length};
 ghost use Rattle.std.specs.Fn.{FnOnceReturnsAtMut};
 ghost use Rattle.std.specs.Map.Iter.{TakesFirst, TakesLast};
@@ -20,10 +20,9 @@ use rangemap_core::kind::Kind;
 use std::alloc::AllocError;
 use std::iter::{DoubleEndedIterator, Iterator};
 
-/// What the contract of an iterator of the library says of a call goes to the end. `next` and
-/// `next_back` of one that lends or hands over what is stored take the first and the last item.
-/// `next` of gaps, of unions and of intersections gives a range, and `try_next` takes one, or is
-/// refused.
+/// By its contract, a call of an iterator of the library comes closer to the end. `next` and `next_back`
+/// of one that lends or hands over what is stored take the first and the last item. `next` of gaps, of
+/// unions and of intersections gives a range, and `try_next` takes one, or is refused.
 pub fn items_go_to_the_end<Q: Kind<R>, R: KeyRange, ItemT, ShownT>()
     ensures first { (shows : ItemT → ShownT) (before : List ShownT) (answer : OptionOf ItemT) (after : List ShownT)
         → TakesFirst shows before answer after
@@ -41,8 +40,8 @@ pub fn items_go_to_the_end<Q: Kind<R>, R: KeyRange, ItemT, ShownT>()
         → TriesToEnd length before answer after }
 {}
 
-/// After `next` answered none it answers none again, and nothing has changed. An item leaves fewer
-/// to come, so the iterator ends.
+/// After `next` returned none it returns none again, and nothing has changed. An item leaves fewer to
+/// come, so the iterator ends.
 pub fn next_stays_ended<I: Iterator>(iter: &mut I) -> (Option<I::Item>, Option<I::Item>)
     requires ready { (it : I) → I.can_next it }
     ensures calls { (between : I) × I.next_gives iter.old result.0 between × I.next_gives between result.1 iter.new }
@@ -54,7 +53,7 @@ pub fn next_stays_ended<I: Iterator>(iter: &mut I) -> (Option<I::Item>, Option<I
     (first, again)
 }
 
-/// After `next` answered none `next_back` answers none, and nothing has changed.
+/// After `next` returned none, `next_back` returns none, and nothing has changed.
 pub fn next_ends_both_ends<I: DoubleEndedIterator>(
     iter: &mut I,
 ) -> (Option<I::Item>, Option<I::Item>)
@@ -68,8 +67,8 @@ pub fn next_ends_both_ends<I: DoubleEndedIterator>(
     (front, back)
 }
 
-/// After `next_back` answered none it answers none again, so does `next`, and nothing has changed.
-/// An item leaves fewer to come, so the iterator ends.
+/// After `next_back` returned none it returns none again, so does `next`, and nothing has changed. An
+/// item leaves fewer to come, so the iterator ends.
 pub fn next_back_ends_both_ends<I: DoubleEndedIterator>(
     iter: &mut I,
 ) -> (Option<I::Item>, Option<I::Item>, Option<I::Item>)
@@ -84,7 +83,7 @@ pub fn next_back_ends_both_ends<I: DoubleEndedIterator>(
     (first, again, front)
 }
 
-/// After `next` answered none `try_next` answers none, so does `next` again, and nothing has changed.
+/// After `next` returned none, `try_next` returns none, so does `next` again, and nothing has changed.
 /// An item leaves fewer to come, so the iterator ends. `try_next` is the iterator's own call.
 pub fn next_ends_tries<I: Iterator, T, F: Fn(&mut I) -> Result<Option<T>, AllocError>>(
     iter: &mut I,
@@ -106,8 +105,8 @@ pub fn next_ends_tries<I: Iterator, T, F: Fn(&mut I) -> Result<Option<T>, AllocE
     (item, tried, last)
 }
 
-/// After `try_next` answered none it answers none again, so does `next`, and nothing has changed.
-/// An item leaves fewer to come, so the iterator ends. `try_next` is the iterator's own call.
+/// After `try_next` returned none it returns none again, so does `next`, and nothing has changed. An
+/// item leaves fewer to come, so the iterator ends. `try_next` is the iterator's own call.
 pub fn try_next_ends_tries<I: Iterator, T, F: Fn(&mut I) -> Result<Option<T>, AllocError>>(
     iter: &mut I,
     try_next: F,

@@ -1,4 +1,4 @@
-//! What commands answer can't tell what a map is made of.
+//! What commands return does not depend on what a map is made of.
 ghost use Rattle.std.specs.Prelude.{IsOk, IsTrue, List, Result as ResultOf};
 ghost use Rattle.std.specs.List.{AllByRecursion, AllZip};
 ghost use Rattle.std.specs.declared.alloc.AllocError.{AllocError as Refusal};
@@ -11,8 +11,8 @@ ghost use Rattle.rangemap_laws.specs.Runs.{CommandStep, IsSameResult, Ran};
 use std::alloc::Allocator;
 
 /// Two maps of half-open ranges that are equal, on which the same commands were run and all accepted,
-/// gave answers that are equal one by one, and are equal again. What each map is made of doesn't
-/// matter: this speaks of no map, but of what the contract of `tree_map::run` says of any.
+/// gave equal answers, one by one, and are equal again. What each map is made of doesn't matter, because
+/// this law speaks only of what the contract of `tree_map::run` says.
 pub fn accepted_runs_answer_alike<K: Ord, V: Eq, A: Allocator, B: Allocator>()
     ensures { (one other one_after other_after : List (RangeOf K × V))
         → (commands : List (CommandOf K (RangeOf K) V))

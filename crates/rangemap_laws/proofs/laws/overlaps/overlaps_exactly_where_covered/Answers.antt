@@ -2,7 +2,7 @@ use Rattle.std.proofs.Common.{IsTrue, length, nat_lt, subst, sym}
 use Rattle.std.specs.Prelude.{◌↔◌}
 use Rattle.rangemap_core.specs.Ranges.{IsStorable, overlapped, value_at}
 use Rattle.rangemap_laws.specs.DefinedIn.{IsDefinedIn}
-use Rattle.rangemap_laws.proofs.StoredKeyLemmas.{defined_by_overlaps, none_meets_where_undefined, overlaps_some, undefined_where_none_meets}
+use Rattle.rangemap_laws.proofs.OverlapLemmas.{defined_by_overlaps, none_meets_where_undefined, overlaps_some, undefined_where_none_meets}
 use Rattle.rangemap_laws.proofs.laws.overlaps.overlaps_exactly_where_covered.Goals as goal
 
 pub returns : goal.returns
