@@ -1,9 +1,10 @@
 //! The map, over any store.
-ghost use Rattle.std.specs.Prelude.{◌≡◌, [], ◌-◌, length, slice_get, is_some, map, nat_eq, nat_lt, IfSome};
+ghost use Rattle.std.specs.Prelude.{◌≡◌, ◌↔◌, [], ◌-◌, IsTrue, length, slice_get, is_some, map, nat_eq, nat_lt, IfSome};
 ghost use Rattle.std.specs.Option.{option_copied, option_map};
+ghost use Rattle.rangemap_containers.specs.Histories.{IsDefinedOn};
 ghost use Rattle.rangemap_core.specs.Ranges.{AreGaps, IsCanonical, covering, overlapped, value_at};
 
-use rangemap_containers::container::IsAny;
+use rangemap_containers::container::{IsAny, covered};
 use rangemap_core::gaps::{Gaps, gaps_of};
 use rangemap_core::key_range::KeyRange;
 use rangemap_core::kind::Kind;
@@ -18,33 +19,36 @@ mod compare;
 mod container;
 mod json;
 mod text;
+pub mod with_room;
 
 /// A map of disjoint ranges to values, which joins ranges that touch and have equal values.
 ///
-/// `S` keeps the pairs: a sorted vector, a tree, chunks. Of *n* stored ranges, *k* meet the range
-/// that a call is given. What a change costs is told by the store, `SortedVec`, `Tree` or `Chunks`;
-/// all have this in common:
+/// `S` keeps the pairs: a sorted vector, a tree or chunks. Below, *n* is the number of stored
+/// ranges, and *k* the number of those that overlap the range that a call is given. What a change
+/// costs depends on the store: see `SortedVec`, `Tree` and `Chunks`. All stores have this in
+/// common:
 ///
 /// | Call | Time | Memory |
 /// |---|---|---|
 /// | `new`, `new_with_step_fns`, `known`, `allocator`, `len`, `is_empty` | *O*(1) | none |
 /// | lookups, `first_range_value`, `last_range_value`, `overlaps` | *O*(log *n*) at most | none |
 /// | `iter`, `into_iter` | *O*(log *n*) at most, and *O*(*n*) for all items | none |
+/// | `covers` | *O*(log *n* + *k*) at most: it looks no further than the first key without a value | none |
 /// | `overlapping` | *O*(log *n*), and *O*(*k*) for all items | none |
 /// | `gaps` | *O*(log *n*), and *O*(*k*) for all items | clones for a gap |
 /// | `insert`, `remove` | by the store | growth, clones |
 /// | `clear` | by the store | none |
 /// | `extend`, `from_iter`, `from`, `from_value` | that of an `insert` for each item | growth, clones |
 /// | `clone` | *O*(*n*) | growth, clones |
-/// | `==` | *O*(*n*), *O*(1) where the numbers differ | none |
+/// | `==` | *O*(*n*), or *O*(1) if the maps have different numbers of ranges | none |
 /// | `cmp` | *O*(min(*n*, *m*)), *m* of the other map | none |
 /// | `hash`, `{:?}` | *O*(*n*) | none |
 /// | `to_value` | *O*(*n*) | that of the value |
 #[derive(Drop)]
 pub struct Map<S: Store> {
     stored: S,
-    // Names what keys, values and allocator may borrow, which the checker asks of a struct and `S` alone
-    // does not.
+    // Names what keys, values and allocator may borrow. The checker wants a struct to name it, and `S`
+    // alone does not.
     borrows: PhantomData<(S::Range, S::Value, S::Alloc)>,
 }
 
@@ -60,7 +64,7 @@ impl<S: StoreMut> Map<S>
 where
     S::Kind: Kind<S::Range, Steps = <S::Range as KeyRange>::Key>,
 {
-    /// Returns the empty map, whose memory will come from `alloc`.
+    /// Returns the empty map. Its memory will come from `alloc`.
     pub fn new(alloc: S::Alloc) -> Self
         ensures { result ≡ [] }
     {
@@ -69,10 +73,10 @@ where
 }
 
 impl<S: StoreMut> Map<S> {
-    /// Returns the empty map over the steps of its kind, whose memory will come from `alloc`.
+    /// Returns the empty map. Its memory will come from `alloc`.
     ///
-    /// Over closed ranges the kind is `Closed<StepFnsT>`, and the steps are those of `StepFnsT`. Half-open
-    /// ranges have none, and `new` makes their map.
+    /// For closed ranges call this if `StepFnsT` is not the key type: then there is no `new`. In
+    /// all other cases it does what `new` does.
     pub fn new_with_step_fns(alloc: S::Alloc) -> Self
         ensures { result ≡ [] }
     {
@@ -162,6 +166,25 @@ impl<S: Store> Map<S> {
         self.stored.known();
         self.stored.read_overlapping::<IsAny>(range, &mut ())
     }
+
+    /// Returns whether every key of `range` has a value. It takes no memory.
+    ///
+    /// `range` may be empty or reversed. Then it has no key, and the result is true. (`overlaps`
+    /// may be true for such a range too, because it only compares the ends.) Only the two ends of a
+    /// closed range are read, even if it was iterated.
+    ///
+    /// # Examples
+    ///
+    /// ```text
+    /// let map = RangeMap::from(alloc, [(0..2, 'a'), (2..4, 'b'), (8..9, 'c')])?;
+    /// map.covers(&(1..4)) // true
+    /// map.covers(&(3..9)) // false
+    /// ```
+    pub fn covers(&self, range: &S::Range) -> bool
+        ensures { IsTrue result ↔ IsDefinedOn S.Kind.kind (value_at S.Kind.kind self.now) range.now }
+    {
+        covered::covers(&self.stored, range)
+    }
 }
 
 impl<'a, S: Lends<'a>> Map<S>
@@ -178,12 +201,13 @@ where
         PairIter::over(self.stored.iter(), self.stored.len())
     }
 
-    /// Returns the pairs that end after the start of `range` and start before its end, of closed ranges
-    /// also those that end or start just there, in order.
+    /// Returns the pairs whose ranges overlap `range`, in order. A half-open range overlaps it if
+    /// it ends after the start of `range` and starts before the end of `range`. A closed range may
+    /// also end at that start, or start at that end.
     ///
-    /// Nothing is asked of `range`. An empty one strictly inside a stored range meets it, and so
-    /// does a reversed one both of whose ends lie strictly inside; of closed ranges a reversed one
-    /// meets it also where its ends are the stored ones.
+    /// `range` may be empty or reversed. An empty range strictly inside a stored range overlaps it, and
+    /// so does a reversed range if both its ends lie strictly inside. A reversed closed range also
+    /// overlaps a stored range if its ends are the stored ends.
     ///
     /// # Examples
     ///
@@ -201,10 +225,10 @@ where
 
     /// Returns the parts of `outer_range` that no stored range covers, in order.
     ///
-    /// Between two stored ranges that touch there is none. Nothing is asked of `outer_range`: one
-    /// whose start lies behind its end has no gaps, nor has a half-open one whose start is its end.
-    /// A closed one that was iterated counts by its two ends. A gap is made when it is asked for, of
-    /// clones or of steps from the neighbours; a clone may be refused.
+    /// Two stored ranges that touch have no gap between. `outer_range` may be empty or reversed,
+    /// and then has no gaps. Only the two ends of a closed range are read, even if it was iterated.
+    /// Each gap is made when you ask for it, of clones or of steps from its neighbours. A clone may
+    /// be refused.
     ///
     /// # Examples
     ///

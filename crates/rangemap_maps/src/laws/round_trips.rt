@@ -1,4 +1,4 @@
-//! What is made again of what a map hands over: of its pairs, and of its JSON form.
+//! Laws: a map that is rebuilt from its pairs, or from its JSON form, is equal to the first one.
 //!
 //! The store of the map that is made is a type parameter of its own, so that the body can't hand
 //! back the map that it was given. Clones are faithful, as for `insert`, and the functions of the
@@ -49,9 +49,9 @@ pub struct Functions<WK, WV, RK, RV> {
 }
 
 impl<WK, WV, RK, RV> Functions<WK, WV, RK, RV> {
-    /// Reading what was written gives an equal map: writes the map and reads the value again, in either
-    /// form, where the readers give back keys and values equal to those that the writers were given.
-    /// Returns the value and the map.
+    /// Writes the map, reads the value again in the given form, and returns the value and the new
+    /// map. The law says that the new map is equal to the old one. It requires that the readers
+    /// return keys and values equal to those that the writers got.
     ///
     /// # Errors
     ///
@@ -97,7 +97,7 @@ impl<WK, WV, RK, RV> Functions<WK, WV, RK, RV> {
         let value = map.to_value(json_alloc, write_key, write_value)?;
         match Map::from_value(alloc, form, &value, read_key, read_value) {
             Ok(again) => Ok((value, again)),
-            // Two matches, since one would not tell the proof that the error is another one.
+            // Two matches, because one would not show the proof that the error is another one.
             Err(error) => match error {
                 ReadError::OutOfMemory => Err(WriteError::OutOfMemory),
                 _ => unreachable!(),

@@ -12,20 +12,20 @@ use std::alloc::AllocError;
 impl<S: StoreMut> Map<S> {
     /// Gives every key of `range` the `value`, whatever it had before.
     ///
-    /// What stays of stored ranges to the left and right of it keeps a value equal to its own.
-    /// Stored ranges that it overlaps or touches and that have an equal value become one range with
-    /// it, which carries the new value. The map grows by at most two ranges.
+    /// What is left of stored ranges on either side of it keeps a value equal to its own. Stored ranges
+    /// with an equal value that it overlaps or touches become one range with it. That range carries the
+    /// new value. The map grows by at most two ranges.
     ///
     /// # Requires
     ///
-    /// The range is not empty: `start < end` of `a..b`, `start <= end` of `a..=b`, which was not
-    /// iterated to its end. A clone of a key or value compares equal to its original, which holds
-    /// for std's types.
+    /// The range is not empty: `start < end` for `a..b`, `start <= end` for `a..=b`. A closed range was
+    /// not iterated to its end. A clone of a key or value compares equal to its original. This holds for
+    /// std's types.
     ///
     /// # Errors
     ///
     /// The growth of the map, or a clone of a key, of a value or of the allocator, was refused, or the
-    /// change might leave more ranges than the store can count: then the map is as it was, and the range
+    /// change might leave more ranges than the store can count. The map is then as it was, and the range
     /// and the value are dropped.
     ///
     /// # Examples
@@ -52,8 +52,8 @@ impl<S: StoreMut> Map<S> {
 
     /// Takes every key of `range` out.
     ///
-    /// Stored ranges that are partly covered are cut; one that reaches past both ends becomes two,
-    /// so the map grows by at most one range.
+    /// A stored range that is covered in part is cut. One that reaches past both ends becomes two, so
+    /// the map grows by at most one range.
     ///
     /// # Requires
     ///
@@ -61,8 +61,8 @@ impl<S: StoreMut> Map<S> {
     ///
     /// # Errors
     ///
-    /// As for `insert`. Where no stored range overlaps the given one, the call takes no memory,
-    /// succeeds and changes nothing.
+    /// As for `insert`. If no stored range overlaps the given one, the call takes no memory, succeeds
+    /// and changes nothing.
     ///
     /// # Examples
     ///

@@ -22,7 +22,7 @@ where
     ///
     /// # Requires
     ///
-    /// A clone of a key or value compares equal to its original, which holds for std's types.
+    /// A clone of a key or value compares equal to its original. This holds for std's types.
     ///
     /// # Errors
     ///
@@ -48,14 +48,15 @@ where
     /// Inserts the items of `iter`, in the order in which they come, each as `insert` does.
     ///
     /// In a vector and in chunks, items that come in order, behind all that is stored, move no stored
-    /// pair but where a vector grows or a chunk is cut. Where many come in another order, sort them first.
+    /// pair, unless a vector grows or a chunk is cut. If many items come in another order, sort them
+    /// first.
     ///
     /// # Requires
     ///
-    /// The iterator ends, no range that it gives is empty, and clones are faithful, as for
-    /// `insert`. The check sees this of a chain over numbers without further words. Of an array or
-    /// a vector it asks for one answer, here for an array of two pairs with `u32` keys, with a
-    /// `refl` for each pair:
+    /// The iterator ends. No range that it gives is empty. A clone of a key or value compares equal
+    /// to its original. The check proves this by itself for a chain of iterators over numbers, as
+    /// in the first call below. For an array or a vector you write one line of proof, with a `refl`
+    /// for each pair, as for the second call:
     ///
     /// ```text
     /// map.extend((0..100u32).map(|i| (10 * i..10 * i + 5, 'a')))?;
@@ -65,16 +66,16 @@ where
     ///     listed (half_open nat_cmp) array_into_iter_items h.2 it _ h.0 (refl, (refl, tt))
     /// ```
     ///
-    /// In a generic function the answer takes one argument more, first: `g c it h`.
+    /// In a generic function the line takes one more argument, the first: `g c it h`.
     ///
-    /// `listed` stands in `Rattle.rangemap.proofs.IncomingLemmas`. Of a vector it takes
-    /// `into_iter_items` and `h.3`; an iterator that owns the pairs of a map is answered by `owned`
-    /// and `canonical_non_empty`, which stand beside it.
+    /// `listed` is in `Rattle.rangemap.proofs.IncomingLemmas`. For a vector write `into_iter_items`
+    /// and `h.3` instead of `array_into_iter_items` and `h.2`. For an iterator that owns the pairs
+    /// of a map use `owned` and `canonical_non_empty` of the same file.
     ///
     /// # Errors
     ///
-    /// An insert was refused, as there. The items before that one are inserted and stay; it and
-    /// those after it are dropped. Where no item comes, the call succeeds and changes nothing.
+    /// An insert was refused. The items before the refused one stay inserted. The refused item and those
+    /// after it are dropped. If no item comes, the call succeeds and changes nothing.
     pub fn extend<I: IntoIterator<Item = (S::Range, S::Value)>>(
         &mut self,
         iter: I,
@@ -104,11 +105,11 @@ where
     ///
     /// # Requires
     ///
-    /// As for `extend`; the check may ask for the same answer.
+    /// As for `extend`. You may have to write the same line of proof.
     ///
     /// # Errors
     ///
-    /// An insert was refused; nothing is made then.
+    /// An insert was refused. Nothing is made then.
     pub fn from_iter<I: IntoIterator<Item = (S::Range, S::Value)>>(
         alloc: S::Alloc,
         iter: I,
@@ -132,8 +133,7 @@ where
     ///
     /// # Errors
     ///
-    /// An insert was refused, or the memory through which the array is read, or a clone of `alloc`;
-    /// nothing is made then.
+    /// An insert, the memory to read the array, or a clone of `alloc` was refused. Nothing is made then.
     ///
     /// # Examples
     ///
@@ -170,7 +170,7 @@ where
 
     ghost into_iter_gives = { λ map it. (it ≡ map) × IsCanonical S.Kind.kind S.Value.eq map };
 
-    /// Returns a double-ended iterator over the stored pairs, in order. Those that are not taken are
+    /// Returns a double-ended iterator over the stored pairs, in order. Items that are not taken are
     /// dropped with it.
     fn into_iter(self) -> PairIter<S::IntoIter> {
         let len = self.stored.len();

@@ -59,9 +59,8 @@ impl<S: Store<Value: Ord>> Ord for Map<S> {
 
     ghost matches_eq = { pairs_cmp_ties S.Kind.kind S.Value.cmp S.Value.matches_eq };
 
-    /// Compares the maps by the first two pairs that differ: by their starts, where these are equal
-    /// by their ends, and where those are too by their values. A map that has only the first pairs
-    /// of the other is less.
+    /// Compares the maps by the first two pairs that differ: by their starts, then by their ends, then
+    /// by their values. A map that has only the first pairs of the other is less.
     fn cmp(&self, other: &Self) -> Ordering {
         compare(&self.stored, &other.stored)
     }

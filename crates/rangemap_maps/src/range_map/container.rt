@@ -1,6 +1,6 @@
-//! The map as one of the library's containers: each method but the appends is the map's own call, since
-//! `self.insert(..)` is the call of `Map`, which comes before that of a trait. The appends hand its
-//! store's pairs and gaps on.
+//! The map as one of the library's containers: each method except the appends is the map's own call,
+//! because `self.insert(..)` means the call of `Map` before that of a trait. The appends pass on the
+//! pairs and gaps of the store.
 
 use super::Map;
 use rangemap_containers::container::{Appending, Container};
@@ -80,6 +80,10 @@ where
 
     fn overlaps(&self, range: &S::Range) -> bool {
         self.overlaps(range)
+    }
+
+    fn covers(&self, range: &S::Range) -> bool {
+        self.covers(range)
     }
 
     #[tactic(auto, using(rangemap_core::proofs::StoredLemmas::all_storable))]

@@ -28,8 +28,8 @@ where
     ///
     /// # Errors
     ///
-    /// `Caller` has what a function answered that refused a part, the first one refused.
-    /// `OutOfMemory` says that memory for the value was refused.
+    /// `Caller` has the error that the caller's function returned for the first part that it
+    /// refused. `OutOfMemory` says that memory for the value was refused.
     ///
     /// # Examples
     ///
@@ -63,10 +63,10 @@ where
     /// Returns the map that a value of the JSON form stands for: the pairs that the caller's
     /// functions read of its entries, inserted in order, in memory of `alloc`.
     ///
-    /// With `Form::Any` entries may overlap and stand in any order. With `Form::Canonical` the pairs
-    /// that are read are a canonical list, which the map then holds. Where the functions read each
-    /// time, up to equality, what they may read of a part, a value whose parts may all be read, as
-    /// pairs that the form accepts, is refused for want of memory alone.
+    /// With `Form::Any` entries may overlap and stand in any order. With `Form::Canonical` the
+    /// pairs must be a canonical list; otherwise the call returns an error. Suppose that the
+    /// functions read a part to equal results each time. Then a value that is valid in the chosen
+    /// form is refused only if memory runs out.
     ///
     /// # Requires
     ///
@@ -74,12 +74,20 @@ where
     ///
     /// # Errors
     ///
-    /// `NotAList` where the value is no list. Else entries are read in order, and in an entry the order
-    /// is shape (`BadEntry`), start and end (`BadKey`), value (`BadValue`), emptiness (`EmptyRange`), with
-    /// `Form::Canonical` then the order (`OutOfOrder`) and the touch (`Uncoalesced`) with the pair before,
-    /// and last its insert (`OutOfMemory`). The first fault is the answer, and nothing is made then. A
-    /// half-open range is empty where its start is not less than its end, a closed one where it is
-    /// greater.
+    /// The call returns the first fault, and no map. `NotAList` says that the value is no list.
+    /// Otherwise the entries are read one after another, and each is tested in this order:
+    ///
+    /// 1. its shape (`BadEntry`),
+    /// 2. its start and end (`BadKey`),
+    /// 3. its value (`BadValue`),
+    /// 4. that its range is not empty (`EmptyRange`),
+    /// 5. with `Form::Canonical`, that it lies behind the entry before it (`OutOfOrder`),
+    /// 6. with `Form::Canonical`, that it does not touch that entry with an equal value
+    ///    (`Uncoalesced`),
+    /// 7. its insert (`OutOfMemory`).
+    ///
+    /// A half-open range is empty if its start is not less than its end, a closed one if its start
+    /// is greater.
     ///
     /// # Examples
     ///

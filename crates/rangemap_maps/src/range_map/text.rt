@@ -16,8 +16,8 @@ where
 
     ghost debug_output = { map_text S.Kind.kind S.Range.dots S.Range.Key.debug_output S.Value.debug_output };
 
-    /// Writes the pairs as `{0..100: "abc", 200..300: "ghi"}`, and `{}` where there are none. Under
-    /// `{:#?}` each has a line of its own, and nothing is promised of that text.
+    /// Writes the pairs as `{0..100: "abc", 200..300: "ghi"}`, and `{}` if there are none. `{:#?}` gives
+    /// each a line of its own, and nothing is promised about that text.
     fn fmt<W: fmt::Write>(&self, f: &mut Formatter<W>) -> fmt::Result {
         write::<RangeAndValue<S::Kind>, S, W>(&self.stored, f)
     }
