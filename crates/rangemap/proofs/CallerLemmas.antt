@@ -9,7 +9,8 @@ use Rattle.rangemap_core.specs.Ranges.{RangeKind, Alike, AreGaps, IsCanonOf, IsC
 use Rattle.rangemap_core.specs.engine.Endpoints.{IsPlaced, EndpointOf}
 use Rattle.rangemap_core.proofs.AlikeLemmas.{Alike-itself}
 use Rattle.rangemap_core.proofs.UniquenessLemmas.{alike_from_same, canon_unique, equal_pairs}
-use Rattle.rangemap_laws.proofs.StoredKeyLemmas.{covers_where_valued, holds_start}
+use Rattle.rangemap_core.proofs.StoredKeyLemmas.{holds_start}
+use Rattle.rangemap_core.proofs.UnitValueLemmas.{value_covers}
 
 -- ---- values
 
@@ -82,7 +83,7 @@ gap_keys {K} {X} {V} k list q gaps are = record {
 }
   where
     points : (x : K) → k.is_key x → covers k gaps x ≡ (k.holds q x && not (is_some (value_at k list x)))
-    points x key = are.points x key ∙ ap (λ c. k.holds q x && not c) (covers_where_valued k list x)
+    points x key = are.points x key ∙ ap (λ c. k.holds q x && not c) (sym (value_covers k list x))
 
     is_none : (m : Option V) → not (is_some m) ≡ true → m ≡ None
     is_none None h = refl

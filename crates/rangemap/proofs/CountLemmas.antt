@@ -4,6 +4,7 @@ use Rattle.std.specs.List.{filter}
 use Rattle.std.proofs.lemmas.List.Sums.{count_by-le-length, length-filter, sum_by-cons}
 use Rattle.std.proofs.lemmas.Map.Iter.{iter_end, iter_turn}
 use Rattle.rangemap_core.specs.Ranges.{RangeKind, overlapped}
+use Rattle.rangemap_core.specs.Sets.{met}
 use Rattle.rangemap.proofs.Loops.{LendsAgain}
 
 count_by-map : {A B : Type 0} (p : B → Bool) (f : A → B) (xs : List A) → count_by p (map f xs) ≡ count_by (λ x. p (f x)) xs
@@ -16,6 +17,9 @@ filter_shorter p xs = omega (arith, length-filter p xs, count_by-le-length p xs)
 -- what a query overlaps is no more than what is stored
 pub overlapped_shorter : {K X V : Type 0} (k : RangeKind K X) (list : List (X × V)) (q : X) → length (overlapped k list q) ≤ length list
 overlapped_shorter k list q = filter_shorter _ list
+
+pub met_shorter : {K X : Type 0} (k : RangeKind K X) (set : List X) (q : X) → length (met k set q) ≤ length set
+met_shorter k set q = filter_shorter _ set
 
 module _ {Item A : Type 0} {show : Item → A} {given : List A} {items : List Item} {result : Option Item} (lends : LendsAgain show given items result) where
   -- at the end the items are all that is given

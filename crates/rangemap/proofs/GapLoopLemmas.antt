@@ -20,7 +20,7 @@ use Rattle.rangemap_core.proofs.SameRangeLemmas.{same_gaps}
 use Rattle.rangemap_core.proofs.UniquenessLemmas.{same_points}
 use Rattle.rangemap.proofs.Loops.{AsksForGaps}
 use Rattle.rangemap.proofs.CallerLemmas.{gap_keys}
-use Rattle.rangemap_laws.proofs.StoredKeyLemmas.{covering_holds, changes_behind, below_end_place, from_start, holds_between, holds_start, none_before}
+use Rattle.rangemap_core.proofs.StoredKeyLemmas.{covering_holds, changes_behind, below_end_place, from_start, holds_between, holds_start, none_before}
 
 -- ---- one gap for a stretch of keys
 

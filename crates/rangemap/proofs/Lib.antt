@@ -13,6 +13,10 @@ pub mod SetCallerLemmas
 pub mod LoopLemmas
 pub mod SetLoopLemmas
 pub mod CountLemmas
+pub mod FirstGapLemmas
+pub mod OverlapLemmas
+pub mod SetChangeLemmas
+pub mod SetMetLemmas
 pub mod JsonLemmas
 pub mod TextKeys
 pub mod JoinedLemmas

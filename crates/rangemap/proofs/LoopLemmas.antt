@@ -16,10 +16,10 @@ use Rattle.std.specs.declared.alloc.AllocError.{AllocError}
 use Rattle.rangemap_core.specs.MadeRanges.{GivesRange, IsSame}
 use Rattle.rangemap_core.specs.Ranges.{RangeKind, AreGaps, IsCanonical, IsStorable, closed, covers, half_open, overlapped, value_at, with_unit}
 use Rattle.rangemap_core.specs.engine.Endpoints.{IsPlaced, EndpointOf}
-use Rattle.rangemap_core.specs.Sets.{AreCommon, AreHulls, CoverEither, IsCanonicalSet, IsHull}
+use Rattle.rangemap_core.specs.Sets.{AreCommon, AreHulls, AreWithout, CoverEither, IsCanonicalSet, IsHull}
 use Rattle.rangemap_core.proofs.UniquenessLemmas.{value_cons}
 use Rattle.rangemap_unions.proofs.UnitValueLemmas.{ranges_with}
-use Rattle.rangemap_laws.proofs.StoredKeyLemmas.{meets_where_shared}
+use Rattle.rangemap_core.proofs.StoredKeyLemmas.{meets_where_shared}
 use Rattle.rangemap.proofs.NumberKinds.{NumberKind}
 use Rattle.rangemap.proofs.NumberLemmas.{IsInOne, IsStretch, last_gap, next_gap}
 use Rattle.rangemap.proofs.Loops.{AsksAgain, AsksForGaps, LendsPairs, LendsRanges}
@@ -197,6 +197,10 @@ module _ {K X : Type 0} {k : RangeKind K X} (exact : IsExact k) (ps qs all : Lis
   -- of an intersection
   pub common_collected : AreCommon k ps qs all → AsksAgain k all items result → items ≡ map Ok collected → result ≡ None → AreCommon k ps qs collected
   common_collected are asks alike none = subst (AreCommon k ps qs) (ranges_collected exact (canonical_full k all are.canonical) asks alike none) are
+
+  -- of a difference
+  pub without_collected : AreWithout k ps qs all → AsksAgain k all items result → items ≡ map Ok collected → result ≡ None → AreWithout k ps qs collected
+  without_collected are asks alike none = subst (AreWithout k ps qs) (ranges_collected exact (canonical_full k all are.canonical) asks alike none) are
 
 -- ---- a loop that searches the gaps of a set, as `next_gap` and `last_gap` of `NumberLemmas`
 

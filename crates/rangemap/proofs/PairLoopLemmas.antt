@@ -13,7 +13,7 @@ use Rattle.rangemap_core.specs.engine.Endpoints.{IsPlaced, EndpointOf}
 use Rattle.rangemap_core.specs.engine.PlacedKinds.{place_total}
 use Rattle.rangemap_core.specs.laws.Orders.{lt_le}
 use Rattle.rangemap.proofs.Loops.{LendsPairs}
-use Rattle.rangemap_laws.proofs.StoredKeyLemmas.{below_end_place, none_before, shared_where_meets}
+use Rattle.rangemap_core.proofs.StoredKeyLemmas.{below_end_place, none_before, shared_where_meets}
 
 -- The pair is one of the list: its range may be stored, and each key of it has its value.
 pub record IsStored {K X V : Type 0} (k : RangeKind K X) (list : List (X × V)) (a : X × V) : Type 0 where

@@ -17,7 +17,7 @@ use Rattle.rangemap_unions.proofs.UnitValueLemmas.{adds_last, covers_one, ranges
 use Rattle.rangemap.specs.CharLaws.{IsChar, char_after, char_before, char_follows, char_precedes}
 use Rattle.rangemap_core.specs.laws.UnitPairs.{same_with_unit}
 use Rattle.rangemap.proofs.CallerLemmas.{same_function}
-use Rattle.rangemap_laws.proofs.StoredKeyLemmas.{holds_start}
+use Rattle.rangemap_core.proofs.StoredKeyLemmas.{holds_start}
 use Rattle.rangemap.proofs.GapLoopLemmas.{gaps_collected}
 use Rattle.rangemap.proofs.Loops.{AsksForGaps}
 use Rattle.rangemap.proofs.NumberKinds.{NumberKind}

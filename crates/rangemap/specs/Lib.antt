@@ -14,11 +14,13 @@ pub use Rattle.rangemap_core.specs.operations.Places
 pub use Rattle.rangemap_unions.specs.Items
 pub use Rattle.rangemap_formats.specs.Faults
 pub use Rattle.rangemap_formats.specs.Json
+pub use Rattle.rangemap_formats.specs.declared.json.Form
 pub use Rattle.rangemap_formats.specs.Texts
 pub use Rattle.rangemap_steps.specs.Steps
 pub use Rattle.rangemap_steps.specs.StepLaws
 pub use Rattle.rangemap_steps.specs.CharLaws
 pub mod Histories
+pub use Rattle.rangemap_containers.specs.Updates
 pub mod SetHistories
 pub use Rattle.rangemap_laws.specs.DefinedIn
 pub use Rattle.rangemap_laws.specs.GapPartition

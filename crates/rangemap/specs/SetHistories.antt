@@ -1,10 +1,10 @@
 -- What calls on a list of sets make of the point functions that the sets stand for.
 use Rattle.std.specs.Prelude.{◌≡◌, ℕ, ◌<◌, ◌≤◌, ⊤, ◌⊎◌, Bool, true, false, List, ◌∷◌, [], ◌++◌, length, take, Option, Some, slice_get}
 use Rattle.rangemap_containers.specs.Histories.{ChangeStep, Changes}
-use Rattle.rangemap_core.specs.Operators.{common, either}
+use Rattle.rangemap_core.specs.Operators.{common, either, one_only, without}
 use Rattle.rangemap_containers.specs.declared.calls.Change.TheVariants.{New as MakeEmpty, Insert as InsertPair, Remove as RemoveRange, Clear as ClearMap, Clone as CloneMap}
 use Rattle.rangemap.specs.declared.range_set.calls.SetCall.{SetCall}
-use Rattle.rangemap.specs.declared.range_set.calls.SetCall.TheVariants.{New, Insert, Remove, Clear, Clone, FromIter, Extend, Union, Intersection}
+use Rattle.rangemap.specs.declared.range_set.calls.SetCall.TheVariants.{New, Insert, Remove, Clear, Clone, FromIter, Extend, Union, Intersection, Difference, SymmetricDifference}
 use Rattle.rangemap_core.specs.Ranges.{RangeKind, nothing, override_all, with_unit}
 use Rattle.rangemap_core.specs.Sets.{AreNonEmptyRanges}
 
@@ -26,6 +26,8 @@ module _ {K X A : Type 0} (k : RangeKind K X) where
   SetHasNonEmptyRanges (Extend at ranges) = AreNonEmptyRanges k ranges.items
   SetHasNonEmptyRanges (Union left right) = ⊤
   SetHasNonEmptyRanges (Intersection left right) = ⊤
+  SetHasNonEmptyRanges (Difference left right) = ⊤
+  SetHasNonEmptyRanges (SymmetricDifference left right) = ⊤
 
   -- A call that every container has makes what `Change` makes with the value that says nothing. The others take ranges, or are
   -- operators.
@@ -44,3 +46,7 @@ module _ {K X A : Type 0} (k : RangeKind K X) where
   SetStep old (Union left right) false new = new ≡ old
   SetStep old (Intersection left right) true new = Joins common old left right new
   SetStep old (Intersection left right) false new = new ≡ old
+  SetStep old (Difference left right) true new = Joins without old left right new
+  SetStep old (Difference left right) false new = new ≡ old
+  SetStep old (SymmetricDifference left right) true new = Joins one_only old left right new
+  SetStep old (SymmetricDifference left right) false new = new ≡ old

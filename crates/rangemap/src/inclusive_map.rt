@@ -12,11 +12,11 @@ use std::alloc::Global;
 use std::ops::RangeInclusive;
 use std::{slice, vec};
 
-/// A map of disjoint closed ranges, `a..=b`, to values, which joins ranges that touch and have equal
-/// values: those that touch have no key between. `StepFnsT` is the type whose steps tell that,
-/// mostly `K` itself. It keeps them in one sorted vector.
+/// A map of disjoint closed ranges, `a..=b`, to values. It joins ranges that touch and have equal
+/// values. Closed ranges touch if no key lies between them, which the steps of `StepFnsT` tell.
+/// `StepFnsT` is mostly `K` itself. The ranges are kept in one sorted vector.
 ///
-/// `new`, `from`, `from_iter`, `extend`, `into_iter`, `to_value`, `from_value` and `{:?}` exist where
+/// `new`, `from`, `from_iter`, `extend`, `into_iter`, `to_value`, `from_value` and `{:?}` exist only if
 /// `StepFnsT` is `K`. The range of an `insert` or a `remove` is not empty,
 /// `range.start() <= range.end()`, and was not iterated to its end.
 ///
@@ -29,8 +29,8 @@ use std::{slice, vec};
 /// map.insert(200..=255, 3)?;
 /// ```
 ///
-/// Of keys that are `u8` the map has 2 at 3 to 6 then, 1 at the others up to 10, and 3 from 200 on,
-/// 255 too.
+/// The keys are `u8`. The map then has `0..=2` with 1, `3..=6` with 2, `7..=10` with 1 and
+/// `200..=255` with 3.
 ///
 /// # Calls
 ///
@@ -57,6 +57,7 @@ use std::{slice, vec};
 /// into_iter(self) -> IntoIter<K, V, A>
 /// overlapping<'a>(&'a self, range: &'a RangeInclusive<K>) -> Overlapping<'a, K, V>
 /// overlaps(&self, range: &RangeInclusive<K>) -> bool
+/// covers(&self, range: &RangeInclusive<K>) -> bool
 /// gaps<'a>(&'a self, outer_range: &'a RangeInclusive<K>) -> Gaps<'a, K, V, StepFnsT>
 /// to_value<E, WK: Fn(&K) -> Result<Value, E>, WV: Fn(&V) -> Result<Value, E>>(
 ///     &self, alloc: Global, write_key: WK, write_value: WV) -> Result<Value, WriteError<E>>
@@ -64,7 +65,7 @@ use std::{slice, vec};
 ///     alloc: A, form: Form, value: &Value, read_key: RK, read_value: RV) -> Result<Self, ReadError<E>>
 /// ```
 ///
-/// Each is described, with its contract, at `Map`; with `==`, the orders, `Hash` and `{:?}` beside.
+/// `Map` describes each call with its contract, and `==`, the orders, `Hash` and `{:?}`.
 pub type RangeInclusiveMap<K, V, StepFnsT = K, A = Global> = Map<
     SortedVec<Closed<StepFnsT>, RangeInclusive<K>, V, A>,
 >;
@@ -89,8 +90,8 @@ pub type Gaps<'a, K, V, StepFnsT = K> = gaps::Gaps<
     overlapping::Overlapping<'a, RangeInclusive<K>, V>,
 >;
 
-/// A call that makes a map or changes the one at a place of a list.
+/// One call of a `replay`. It makes a map, or changes the map at a place of the list.
 pub type Call<K, V, A = Global> = map_calls::Call<RangeInclusive<K>, V, A>;
 
-/// A call that a map over any steps has: those of `Call` but the two that take pairs.
+/// A call that a map over any steps has: every call of `Call` except the two that take pairs.
 pub type Change<K, V> = calls::Change<RangeInclusive<K>, V>;

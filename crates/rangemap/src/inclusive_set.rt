@@ -12,12 +12,12 @@ use std::alloc::Global;
 use std::ops::RangeInclusive;
 use std::{slice, vec};
 
-/// A set of keys in disjoint closed ranges, `a..=b`, which joins ranges that overlap or touch: those
-/// that touch have no key between. `StepFnsT` is the type whose steps tell that, mostly `T` itself. It
-/// keeps them in one sorted vector.
+/// A set of keys in disjoint closed ranges, `a..=b`. It joins ranges that overlap or touch. Closed
+/// ranges touch if no key lies between them, which the steps of `StepFnsT` tell. `StepFnsT` is
+/// mostly `T` itself. The ranges are kept in one sorted vector.
 ///
-/// `new`, `from`, `from_iter`, `extend`, `into_iter`, `|`, `&`, `to_value`, `from_value` and `{:?}`
-/// exist where `StepFnsT` is `T`. The range of an `insert` or a `remove` is not empty,
+/// `new`, `from`, `from_iter`, `extend`, `into_iter`, `|`, `&`, `-`, `^`, `to_value`, `from_value` and
+/// `{:?}` exist only if `StepFnsT` is `T`. The range of an `insert` or a `remove` is not empty,
 /// `range.start() <= range.end()`, and was not iterated to its end.
 ///
 /// # Examples
@@ -55,17 +55,24 @@ use std::{slice, vec};
 /// into_iter(self) -> IntoIter<T, A>
 /// overlapping<'a>(&'a self, range: &'a RangeInclusive<T>) -> Overlapping<'a, T>
 /// overlaps(&self, range: &RangeInclusive<T>) -> bool
+/// covers(&self, range: &RangeInclusive<T>) -> bool
+/// is_subset(&self, other: &Self) -> bool
+/// is_superset(&self, other: &Self) -> bool
+/// is_disjoint(&self, other: &Self) -> bool
 /// gaps<'a>(&'a self, outer_range: &'a RangeInclusive<T>) -> Gaps<'a, T, StepFnsT>
 /// union<'a>(&'a self, other: &'a Self) -> Union<'a, T>
 /// intersection<'a>(&'a self, other: &'a Self) -> Intersection<'a, T>
-/// &left | &right, &left & &right -> Result<Self, AllocError>
+/// difference<'a>(&'a self, other: &'a Self) -> Difference<'a, T, StepFnsT>
+/// symmetric_difference<'a>(&'a self, other: &'a Self) -> SymmetricDifference<'a, T, StepFnsT>
+/// &left | &right, &left & &right, &left - &right, &left ^ &right
+///     -> Result<Self, AllocError>
 /// to_value<E, WK: Fn(&T) -> Result<Value, E>>(
 ///     &self, alloc: Global, write_key: WK) -> Result<Value, WriteError<E>>
 /// from_value<E, RK: Fn(&Value) -> Result<T, E>>(
 ///     alloc: A, form: Form, value: &Value, read_key: RK) -> Result<Self, ReadError<E>>
 /// ```
 ///
-/// Each is described, with its contract, at `Set`; with `==`, the orders, `Hash` and `{:?}` beside.
+/// `Set` describes each call with its contract, and `==`, the orders, `Hash` and `{:?}`.
 pub type RangeInclusiveSet<T, StepFnsT = T, A = Global> = Set<
     SortedVec<Closed<StepFnsT>, RangeInclusive<T>, (), A>,
 >;
@@ -92,20 +99,33 @@ pub type Gaps<'a, T, StepFnsT = T> = gaps::Gaps<
 
 /// The ranges of two sets, joined where they overlap, in order.
 ///
-/// `Union::new` knows no steps, and takes every value of the type for a key: by the steps of a set
-/// its items are told by the set's `union`, and by `laws::sets::closed_operations`.
+/// `Union::new` knows no steps and takes every value of the type for a key. A set's `union` and
+/// `laws::sets::closed_operations` describe its items by the steps of the set.
 pub type Union<'a, T> = unions::Union<slice::Iter<'a, (RangeInclusive<T>, ())>>;
 
 /// The parts that two sets have in common, in order.
 ///
-/// `Intersection::new` knows no steps, and takes every value of the type for a key: by the steps of
-/// a set its items are told by the set's `intersection`, by `&`, and by
-/// `laws::sets::closed_operations`.
+/// `Intersection::new` knows no steps and takes every value of the type for a key. A set's
+/// `intersection`, `&` and `laws::sets::closed_operations` describe its items by the steps of the set.
 pub type Intersection<'a, T> = unions::Intersection<slice::Iter<'a, (RangeInclusive<T>, ())>>;
 
-/// A call that makes a set or changes the one at a place of a list.
+/// The parts of one set's ranges that another set leaves free, in order.
+pub type Difference<'a, T, StepFnsT = T> = unions::Difference<
+    Closed<StepFnsT>,
+    RangeInclusive<T>,
+    slice::Iter<'a, (RangeInclusive<T>, ())>,
+>;
+
+/// The parts that exactly one of two sets has, in order.
+pub type SymmetricDifference<'a, T, StepFnsT = T> = unions::SymmetricDifference<
+    Closed<StepFnsT>,
+    RangeInclusive<T>,
+    slice::Iter<'a, (RangeInclusive<T>, ())>,
+>;
+
+/// One call of a `replay`. It makes a set, or changes the set at a place of the list.
 pub type Call<T, A = Global> = SetCall<RangeInclusive<T>, A>;
 
-/// A call that a set over any steps has: those of `Call` but the two that take ranges and the
+/// A call that a set over any steps has: every call of `Call` except the two that take ranges and the
 /// operators.
 pub type Change<T> = calls::Change<RangeInclusive<T>, ()>;

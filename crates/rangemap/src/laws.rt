@@ -1,8 +1,9 @@
 //! What holds of every container, as contracts that the check has proved.
 //!
-//! `rangemap_laws` has most of them, and says how they are to be read. Those of maps alone stand in
-//! `rangemap_maps`, beside the map. The others stand here: `set_round_trips` has what is made again of
-//! what a set hands over, `sets` the laws of `|` and `&`, and `texts` those of debug texts.
+//! `rangemap_laws` has most of them, and says how to read them. The laws of maps alone stand in
+//! `rangemap_maps`, beside the map. The others stand here: `set_round_trips` rebuilds a set from its
+//! ranges and from its JSON form, `sets` has the laws of `|`, `&`, `-` and `^`, and `texts` the laws of
+//! debug texts.
 
 pub mod set_round_trips;
 pub mod sets;

@@ -1,8 +1,9 @@
-//! Maps and sets whose keys are stored as ranges, with every function proved.
+//! Maps and sets whose keys are stored as ranges. Each function is proved to keep its contract.
 //!
-//! A map keeps whole ranges of keys with one value each, a set whole ranges of keys. Ranges that
-//! touch and have equal values are one, so two containers are equal exactly where they answer alike,
-//! however they came about. It is the Rust crate `rangemap` 1.8.0 in Rattle.
+//! A map stores ranges of keys, each with one value. A set stores ranges of keys. Ranges that touch
+//! and have equal values become one. So two containers are equal exactly if they give every key an
+//! equal value, whatever calls built them. The library is a port of the Rust crate `rangemap`
+//! 1.8.0.
 //!
 //! # Examples
 //!
@@ -31,15 +32,17 @@
 //! | `chunked::RangeMap`, `chunked::RangeSet`, `chunked::RangeInclusiveMap`, `chunked::RangeInclusiveSet` | as those above, in many sorted vectors, for more than about a thousand ranges that change at random places |
 //! | `tree_map::RangeMap`, `tree_set::RangeSet` | as `RangeMap`, in a B-tree |
 //!
-//! Each container is an alias of `map::Map` or `set::Set`, where its calls are described with
-//! their contracts. `container` has what code over any container asks of it; `laws` says what holds of
-//! every one; `replay`, in the module of each container, makes any list of calls.
+//! Each container is an alias of `map::Map` or `set::Set`, where its calls are described with their
+//! contracts. `container` has the trait for code that works on any container. `laws` has what holds
+//! for every container. `replay`, in the module of each container, makes any list of calls.
 //!
-//! # Beside the Rust crate
+//! `with_room` has maps in a sorted vector that are made with room for a number of ranges. Their
+//! changes are proved to succeed if there is room.
 //!
-//! The allocator is handed to `new`, what takes memory answers a `Result`, and that a range is not
-//! empty is a condition on the caller. All that differs stands in docs/DIFFERENCES.md, with a program
-//! there and here.
+//! # Differences from the Rust crate
+//!
+//! `new` takes the allocator, calls that take memory return a `Result`, and the caller must give a range
+//! that is not empty. docs/DIFFERENCES.md has all differences, and a program in both forms.
 #![tactic(auto)]
 
 pub mod chunked;
@@ -54,6 +57,7 @@ mod segments;
 pub mod set;
 pub mod tree_map;
 pub mod tree_set;
+pub mod with_room;
 
 pub use inclusive_map::RangeInclusiveMap;
 pub use inclusive_set::RangeInclusiveSet;

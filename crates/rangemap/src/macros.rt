@@ -1,6 +1,7 @@
-//! The macros that make a container of a list.
+//! The macros that create a container from a list.
 
-/// Creates a `RangeMap` of a list of ranges and values, as `RangeMap::from` of the same pairs.
+/// Creates a `RangeMap` from a list of ranges and values, as `RangeMap::from` does from these
+/// pairs.
 ///
 /// The allocator comes first. The list may be empty, and may end in a comma.
 ///
@@ -24,8 +25,8 @@ macro_rules! range_map {
     };
 }
 
-/// Creates a `RangeInclusiveMap` of a list of ranges and values, as `RangeInclusiveMap::from` of the
-/// same pairs. The list is written as that of `range_map!`.
+/// Creates a `RangeInclusiveMap` from a list of ranges and values, as `RangeInclusiveMap::from`
+/// does from these pairs. The list is written as in `range_map!`.
 ///
 /// # Requires
 ///
@@ -47,8 +48,8 @@ macro_rules! range_inclusive_map {
     };
 }
 
-/// Creates a `RangeSet` of a list of ranges, as `RangeSet::from` of the same ranges. The allocator
-/// comes first. The list may be empty, and may end in a comma.
+/// Creates a `RangeSet` from a list of ranges, as `RangeSet::from` does. The allocator comes first.
+/// The list may be empty, and may end in a comma.
 ///
 /// # Requires
 ///
@@ -70,8 +71,8 @@ macro_rules! range_set {
     };
 }
 
-/// Creates a `RangeInclusiveSet` of a list of ranges, as `RangeInclusiveSet::from` of the same
-/// ranges. The list is written as that of `range_set!`.
+/// Creates a `RangeInclusiveSet` from a list of ranges, as `RangeInclusiveSet::from` does. The list
+/// is written as in `range_set!`.
 ///
 /// # Requires
 ///

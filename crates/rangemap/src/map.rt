@@ -24,7 +24,7 @@ use std::{slice, vec};
 /// rota.insert(3..6, "Bob")?;
 /// ```
 ///
-/// The map has `0..3` with `"Ann"`, `3..6` with `"Bob"` and `6..9` with `"Ann"` then.
+/// The map then has `0..3` with `"Ann"`, `3..6` with `"Bob"` and `6..9` with `"Ann"`.
 ///
 /// # Calls
 ///
@@ -51,6 +51,7 @@ use std::{slice, vec};
 /// into_iter(self) -> IntoIter<K, V, A>
 /// overlapping<'a>(&'a self, range: &'a Range<K>) -> Overlapping<'a, K, V>
 /// overlaps(&self, range: &Range<K>) -> bool
+/// covers(&self, range: &Range<K>) -> bool
 /// gaps<'a>(&'a self, outer_range: &'a Range<K>) -> Gaps<'a, K, V>
 /// to_value<E, WK: Fn(&K) -> Result<Value, E>, WV: Fn(&V) -> Result<Value, E>>(
 ///     &self, alloc: Global, write_key: WK, write_value: WV) -> Result<Value, WriteError<E>>
@@ -58,7 +59,7 @@ use std::{slice, vec};
 ///     alloc: A, form: Form, value: &Value, read_key: RK, read_value: RV) -> Result<Self, ReadError<E>>
 /// ```
 ///
-/// Each is described, with its contract, at `Map`; with `==`, the orders, `Hash` and `{:?}` beside.
+/// `Map` describes each call with its contract, and `==`, the orders, `Hash` and `{:?}`.
 pub type RangeMap<K, V, A = Global> = Map<SortedVec<HalfOpen, Range<K>, V, A>>;
 
 /// The pairs of a map, in order and from both ends.
@@ -79,8 +80,8 @@ pub type Gaps<'a, K, V> = gaps::Gaps<
     overlapping::Overlapping<'a, Range<K>, V>,
 >;
 
-/// A call that makes a map or changes the one at a place of a list.
+/// One call of a `replay`. It makes a map, or changes the map at a place of the list.
 pub type Call<K, V, A = Global> = map_calls::Call<Range<K>, V, A>;
 
-/// A call that every map has, as a `Call` holds it.
+/// One of the calls that every map has. `Call::Change` holds it.
 pub type Change<K, V> = calls::Change<Range<K>, V>;

@@ -16,6 +16,7 @@ pub mod calls;
 mod changes;
 mod collect;
 mod compare;
+mod compared;
 mod container;
 mod json;
 mod operators;
@@ -25,18 +26,23 @@ pub use operators::Operator;
 
 /// A set of keys in disjoint ranges, which joins ranges that overlap or touch.
 ///
-/// `S` keeps the ranges: a sorted vector, a tree, chunks. A call costs what the map's of its name
-/// does, as the page of `Map` says; `get`, `contains`, `first` and `last` are lookups. Of *n* stored
-/// ranges, and *m* of another set, those that only sets have:
+/// `S` keeps the ranges: a sorted vector, a tree or chunks. A call costs as much as the call of the
+/// same name of `Map`, whose page has a table; `get`, `contains`, `first` and `last` cost as much
+/// as a lookup. These calls exist only for sets, or cost less there (*n* ranges are stored here,
+/// *m* in the other set):
 ///
 /// | Call | Time |
 /// |---|---|
-/// | all items of `union` and `intersection` | *O*(*n* + *m*) |
-/// | `\|`, `&` | *O*((*n* + *m*) log (*n* + *m*)): an `insert` at the end for each item |
+/// | `covers` | *O*(log *n*): of the ranges that overlap, it takes at most two |
+/// | `is_subset` | *O*(*n* log *m*) at most: a lookup in the other set for each range |
+/// | `is_superset` | *O*(*m* log *n*) at most: a lookup for each range of the other set |
+/// | `is_disjoint` | at most a lookup in the set with more ranges for each range of the other |
+/// | all items of `union`, `intersection`, `difference` and `symmetric_difference` | *O*(*n* + *m*) |
+/// | `\|`, `&`, `-`, `^` | *O*((*n* + *m*) log (*n* + *m*)): an `insert` at the end for each item |
 ///
 /// Memory is taken by `insert`, `remove`, `clone`, `extend`, `from`, `from_iter`, `from_value`,
-/// `to_value`, `|` and `&` alone, and by the clones of keys in the items of `gaps`, `union` and
-/// `intersection`.
+/// `to_value`, `|`, `&`, `-` and `^` alone, and by the clones of keys in the items of `gaps`, `union`,
+/// `intersection`, `difference` and `symmetric_difference`.
 #[derive(Drop)]
 pub struct Set<S: Store<Value = ()>> {
     stored: S,
@@ -57,7 +63,7 @@ impl<S: StoreMut<Value = ()>> Set<S>
 where
     S::Kind: Kind<S::Range, Steps = <S::Range as KeyRange>::Key>,
 {
-    /// Returns the empty set, whose memory will come from `alloc`.
+    /// Returns the empty set. Its memory will come from `alloc`.
     pub fn new(alloc: S::Alloc) -> Self
         ensures { result ≡ [] }
     {
@@ -66,10 +72,10 @@ where
 }
 
 impl<S: StoreMut<Value = ()>> Set<S> {
-    /// Returns the empty set over the steps of its kind, whose memory will come from `alloc`.
+    /// Returns the empty set. Its memory will come from `alloc`.
     ///
-    /// Over closed ranges the kind is `Closed<StepFnsT>`, and the steps are those of `StepFnsT`. Half-open
-    /// ranges have none, and `new` makes their set.
+    /// For closed ranges call this if `StepFnsT` is not the key type: then there is no `new`. In
+    /// all other cases it does what `new` does.
     pub fn new_with_step_fns(alloc: S::Alloc) -> Self
         ensures { result ≡ [] }
     {
@@ -170,12 +176,13 @@ where
         Ranges::over(self.stored.iter(), self.stored.len())
     }
 
-    /// Returns the stored ranges that end after the start of `range` and start before its end, and
-    /// of closed ranges also those that end or start just there, in order, from both ends.
+    /// Returns the stored ranges that overlap `range`, in order, from both ends. A half-open range
+    /// overlaps it if it ends after the start of `range` and starts before the end of `range`. A
+    /// closed range may also end at that start, or start at that end.
     ///
-    /// Nothing is asked of `range`. An empty one strictly inside a stored range meets it, and so
-    /// does a reversed one both of whose ends lie strictly inside; of closed ranges a reversed one
-    /// meets it also where its ends are the stored ones.
+    /// `range` may be empty or reversed. An empty range strictly inside a stored range overlaps it, and
+    /// so does a reversed range if both its ends lie strictly inside. A reversed closed range also
+    /// overlaps a stored range if its ends are the stored ends.
     ///
     /// # Examples
     ///
@@ -192,11 +199,11 @@ where
         OverlappingRanges::over(self.stored.overlapping(range))
     }
 
-    /// Returns the parts of `outer_range` that no stored range covers, in order. Nothing is asked
-    /// of `outer_range`: one whose start lies behind its end has no gaps, nor has a half-open one
-    /// whose start is its end. A closed one that was iterated counts by its two ends.
+    /// Returns the parts of `outer_range` that no stored range covers, in order. `outer_range` may
+    /// be empty or reversed, and then has no gaps. Only the two ends of a closed range are read,
+    /// even if it was iterated.
     ///
-    /// An item is made when it is asked for, of clones or of steps from the neighbours; a clone may be
+    /// Each item is made when you ask for it, of clones or of steps from its neighbours. A clone may be
     /// refused.
     ///
     /// # Examples

@@ -1,4 +1,4 @@
-//! What the keys of a query are, one stretch after another.
+//! The parts of a query, in order, each with its value or with none.
 ghost use Rattle.std.specs.Prelude.{◌&&◌, if◌then◌else◌, IfOk, OnOk, Some as SomeWord};
 ghost use Rattle.rangemap_core.specs.Clones.{KeysCloneFaithfully, ValuesCloneFaithfully};
 ghost use Rattle.rangemap_core.specs.Ranges.{IsCanonOf, value_at};
@@ -14,13 +14,13 @@ use rangemap_sorted::SortedVec;
 use std::alloc::{AllocError, Allocator};
 use std::iter::IntoIterator;
 
-/// Returns the keys of `query` as a map of their own, in memory of `alloc`: each stretch of them
-/// with its value, or with none; of a set the value is `()`.
+/// Returns a map that divides `query` into parts, in memory of `alloc`. A part has `Some(value)` if
+/// its keys have this value in the container, and `None` if they have none there. The value of a
+/// set is `()`.
 ///
-/// The stretches are those of the pairs that overlap the query, cut to it, and its gaps. Together
-/// they have exactly its keys, so each touches the next. Nothing is asked of the query: one whose
-/// start lies behind its end has no stretch, nor has a half-open one whose start is its end. A closed
-/// one that was iterated counts by its two ends.
+/// The parts are the pairs that overlap the query, cut to it, and the gaps of the query. Together
+/// they have exactly its keys, so each touches the next. The query may be empty or reversed, and
+/// then has no parts. Only the two ends of a closed query are read, even if it was iterated.
 ///
 /// It takes *O*(log *n* + *k* log *k*), with *k* stored ranges that the query overlaps. Memory of
 /// `alloc` is for clones of these pairs, and for the answer. For each pair up to eight keys and one
@@ -65,8 +65,8 @@ pub fn segments<M: Container, B: Allocator + Clone>(
     Ok(all)
 }
 
-// Gives the keys that the query and the range share the value. Where memory or a clone is refused,
-// nothing is promised of the map.
+// Gives the keys that the query and the range share the value. If memory or a clone is refused, nothing
+// is promised about the map.
 fn insert_shared<S: StoreMut>(
     map: &mut Map<S>,
     query: &S::Range,

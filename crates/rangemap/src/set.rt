@@ -27,8 +27,7 @@ use std::{slice, vec};
 /// }
 /// ```
 ///
-/// Then `set` has the keys that it had, and those of the ranges; what overlaps or touches is one
-/// range.
+/// Then `set` has its old keys and the keys of the ranges. Ranges that overlap or touch have become one.
 ///
 /// # Calls
 ///
@@ -54,17 +53,24 @@ use std::{slice, vec};
 /// into_iter(self) -> IntoIter<T, A>
 /// overlapping<'a>(&'a self, range: &'a Range<T>) -> Overlapping<'a, T>
 /// overlaps(&self, range: &Range<T>) -> bool
+/// covers(&self, range: &Range<T>) -> bool
+/// is_subset(&self, other: &Self) -> bool
+/// is_superset(&self, other: &Self) -> bool
+/// is_disjoint(&self, other: &Self) -> bool
 /// gaps<'a>(&'a self, outer_range: &'a Range<T>) -> Gaps<'a, T>
 /// union<'a>(&'a self, other: &'a Self) -> Union<'a, T>
 /// intersection<'a>(&'a self, other: &'a Self) -> Intersection<'a, T>
-/// &left | &right, &left & &right -> Result<Self, AllocError>
+/// difference<'a>(&'a self, other: &'a Self) -> Difference<'a, T>
+/// symmetric_difference<'a>(&'a self, other: &'a Self) -> SymmetricDifference<'a, T>
+/// &left | &right, &left & &right, &left - &right, &left ^ &right
+///     -> Result<Self, AllocError>
 /// to_value<E, WK: Fn(&T) -> Result<Value, E>>(
 ///     &self, alloc: Global, write_key: WK) -> Result<Value, WriteError<E>>
 /// from_value<E, RK: Fn(&Value) -> Result<T, E>>(
 ///     alloc: A, form: Form, value: &Value, read_key: RK) -> Result<Self, ReadError<E>>
 /// ```
 ///
-/// Each is described, with its contract, at `Set`; with `==`, the orders, `Hash` and `{:?}` beside.
+/// `Set` describes each call with its contract, and `==`, the orders, `Hash` and `{:?}`.
 pub type RangeSet<T, A = Global> = Set<SortedVec<HalfOpen, Range<T>, (), A>>;
 
 /// The ranges of a set, in order and from both ends.
@@ -91,8 +97,22 @@ pub type Union<'a, T> = unions::Union<slice::Iter<'a, (Range<T>, ())>>;
 /// The parts that two sets have in common, in order.
 pub type Intersection<'a, T> = unions::Intersection<slice::Iter<'a, (Range<T>, ())>>;
 
+/// The parts of one set's ranges that another set leaves free, in order.
+pub type Difference<'a, T> = unions::Difference<
+    HalfOpen,
+    Range<T>,
+    slice::Iter<'a, (Range<T>, ())>,
+>;
+
+/// The parts that exactly one of two sets has, in order.
+pub type SymmetricDifference<'a, T> = unions::SymmetricDifference<
+    HalfOpen,
+    Range<T>,
+    slice::Iter<'a, (Range<T>, ())>,
+>;
+
 /// A call that every container has. A set's `Call` has each by its own name, without the value.
 pub type Change<T> = calls::Change<Range<T>, ()>;
 
-/// A call that makes a set or changes the one at a place of a list.
+/// One call of a `replay`. It makes a set, or changes the set at a place of the list.
 pub type Call<T, A = Global> = SetCall<Range<T>, A>;

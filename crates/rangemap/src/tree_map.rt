@@ -58,6 +58,7 @@ use std::ops::Range;
 /// into_iter(self) -> IntoIter<K, V, A>
 /// overlapping<'a>(&'a self, range: &'a Range<K>) -> Overlapping<'a, K, V>
 /// overlaps(&self, range: &Range<K>) -> bool
+/// covers(&self, range: &Range<K>) -> bool
 /// gaps<'a>(&'a self, outer_range: &'a Range<K>) -> Gaps<'a, K, V>
 /// to_value<E, WK: Fn(&K) -> Result<Value, E>, WV: Fn(&V) -> Result<Value, E>>(
 ///     &self, alloc: Global, write_key: WK, write_value: WV) -> Result<Value, WriteError<E>>
@@ -65,7 +66,7 @@ use std::ops::Range;
 ///     alloc: A, form: Form, value: &Value, read_key: RK, read_value: RV) -> Result<Self, ReadError<E>>
 /// ```
 ///
-/// Each is described, with its contract, at `Map`; with `==`, the orders, `Hash` and `{:?}` beside.
+/// `Map` describes each call with its contract, and `==`, the orders, `Hash` and `{:?}`.
 pub type RangeMap<K, V, A = Global> = Map<Tree<K, V, A>>;
 
 /// The pairs of a map, in order and from both ends.
@@ -80,8 +81,8 @@ pub type Overlapping<'a, K, V> = OverlappingPairs<Pairs<'a, K, V>>;
 /// The parts of a range that a map does not cover, in order.
 pub type Gaps<'a, K, V> = gaps::Gaps<'a, HalfOpen, Range<K>, Pairs<'a, K, V>>;
 
-/// A call that makes a map or changes the one at a place of a list.
+/// One call of a `replay`. It makes a map, or changes the map at a place of the list.
 pub type Call<K, V, A = Global> = map_calls::Call<Range<K>, V, A>;
 
-/// A call that every map has, as a `Call` holds it.
+/// One of the calls that every map has. `Call::Change` holds it.
 pub type Change<K, V> = calls::Change<Range<K>, V>;

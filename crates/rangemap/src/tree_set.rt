@@ -50,17 +50,24 @@ use std::ops::Range;
 /// into_iter(self) -> IntoIter<T, A>
 /// overlapping<'a>(&'a self, range: &'a Range<T>) -> Overlapping<'a, T>
 /// overlaps(&self, range: &Range<T>) -> bool
+/// covers(&self, range: &Range<T>) -> bool
+/// is_subset(&self, other: &Self) -> bool
+/// is_superset(&self, other: &Self) -> bool
+/// is_disjoint(&self, other: &Self) -> bool
 /// gaps<'a>(&'a self, outer_range: &'a Range<T>) -> Gaps<'a, T>
 /// union<'a>(&'a self, other: &'a Self) -> Union<'a, T>
 /// intersection<'a>(&'a self, other: &'a Self) -> Intersection<'a, T>
-/// &left | &right, &left & &right -> Result<Self, AllocError>
+/// difference<'a>(&'a self, other: &'a Self) -> Difference<'a, T>
+/// symmetric_difference<'a>(&'a self, other: &'a Self) -> SymmetricDifference<'a, T>
+/// &left | &right, &left & &right, &left - &right, &left ^ &right
+///     -> Result<Self, AllocError>
 /// to_value<E, WK: Fn(&T) -> Result<Value, E>>(
 ///     &self, alloc: Global, write_key: WK) -> Result<Value, WriteError<E>>
 /// from_value<E, RK: Fn(&Value) -> Result<T, E>>(
 ///     alloc: A, form: Form, value: &Value, read_key: RK) -> Result<Self, ReadError<E>>
 /// ```
 ///
-/// Each is described, with its contract, at `Set`; with `==`, the orders, `Hash` and `{:?}` beside.
+/// `Set` describes each call with its contract, and `==`, the orders, `Hash` and `{:?}`.
 pub type RangeSet<T, A = Global> = Set<Tree<T, (), A>>;
 
 /// The ranges of a set, in order and from both ends.
@@ -81,8 +88,18 @@ pub type Union<'a, T> = unions::Union<Pairs<'a, T, ()>>;
 /// The parts that two sets have in common, in order.
 pub type Intersection<'a, T> = unions::Intersection<Pairs<'a, T, ()>>;
 
+/// The parts of one set's ranges that another set leaves free, in order.
+pub type Difference<'a, T> = unions::Difference<HalfOpen, Range<T>, Pairs<'a, T, ()>>;
+
+/// The parts that exactly one of two sets has, in order.
+pub type SymmetricDifference<'a, T> = unions::SymmetricDifference<
+    HalfOpen,
+    Range<T>,
+    Pairs<'a, T, ()>,
+>;
+
 /// A call that every container has. A set's `Call` has each by its own name, without the value.
 pub type Change<T> = calls::Change<Range<T>, ()>;
 
-/// A call that makes a set or changes the one at a place of a list.
+/// One call of a `replay`. It makes a set, or changes the set at a place of the list.
 pub type Call<T, A = Global> = SetCall<Range<T>, A>;

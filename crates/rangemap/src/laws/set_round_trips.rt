@@ -1,4 +1,4 @@
-//! What is made again of what a set hands over: of its ranges, and of its JSON form.
+//! Laws: a set that is rebuilt from its ranges, or from its JSON form, is equal to the first one.
 //!
 //! The store of the set that is made is a type parameter of its own, so that the body can't hand
 //! back the set that it was given. Clones are faithful, as for `insert`, and the functions of the
@@ -45,9 +45,9 @@ pub struct Functions<WK, RK> {
 }
 
 impl<WK, RK> Functions<WK, RK> {
-    /// Reading what was written gives an equal set: writes the set and reads the value again, in either
-    /// form, where the reader gives back keys that tie with those that the writer was given. Returns
-    /// the value and the set.
+    /// Writes the set, reads the value again in the given form, and returns the value and the new
+    /// set. The law says that the new set is equal to the old one. It requires that the reader
+    /// returns keys equal to those that the writer got.
     ///
     /// # Errors
     ///
@@ -85,7 +85,7 @@ impl<WK, RK> Functions<WK, RK> {
         let value = set.to_value(json_alloc, write_key)?;
         match Set::from_value(alloc, form, &value, read_key) {
             Ok(again) => Ok((value, again)),
-            // Two matches, since one would not tell the proof that the error is another one.
+            // Two matches, because one would not show the proof that the error is another one.
             Err(error) => match error {
                 ReadError::OutOfMemory => Err(WriteError::OutOfMemory),
                 _ => unreachable!(),

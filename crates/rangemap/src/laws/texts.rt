@@ -1,7 +1,7 @@
 //! The debug texts of maps and sets over some types of keys and values, whole.
 //!
-//! The laws of numbers and of ASCII texts stand at types of keys: over any store of such ranges
-//! the proof of such a function fails at its callers.
+//! The laws of numbers and of ASCII texts stand at types of keys: over any store of such ranges, the
+//! callers of such a function cannot be proved.
 ghost use Rattle.std.specs.Prelude.{◌≡◌, codes, decimal, string_bytes, true, IfOk};
 ghost use Rattle.std.specs.Char.{is_ascii};
 ghost use Rattle.std.specs.Fmt.{signed_decimal};

@@ -1,18 +1,18 @@
 //! Calls on a list of sets, as values, each made by the public call of the set at its place.
-ghost use Rattle.std.specs.Prelude.{◌+◌, ◌<◌, ◌≤◌, vec_len, vec_capacity};
+ghost use Rattle.std.specs.Prelude.{◌+◌, ◌<◌, ◌≤◌, IfOk, vec_len, vec_capacity};
 ghost use Rattle.rangemap.specs.Clones.{KeysCloneFaithfully};
 ghost use Rattle.rangemap.specs.Histories.{Makes};
-ghost use Rattle.rangemap.specs.Joined.{joining};
-ghost use Rattle.rangemap.specs.Ranges.{unit_eq, with_unit};
+ghost use Rattle.rangemap.specs.Joined.{joining, made_by};
+ghost use Rattle.rangemap.specs.Ranges.{IsCanonOfPoints, covers, unit_eq, with_unit};
 ghost use Rattle.rangemap.specs.SetHistories.{SetStep};
 
-use super::{Operator, Set};
+use super::Set;
 use rangemap_containers::calls::Change;
 use rangemap_containers::replay::{CallOn, push_made};
 use rangemap_core::key_range::KeyRange;
 use rangemap_core::kind::Kind;
 use rangemap_core::store::StoreMut;
-use std::alloc::Allocator;
+use std::alloc::{AllocError, Allocator};
 use std::vec::Vec;
 
 /// A call that makes a set or changes one, over ranges of type `R`. It names a set by its place in
@@ -39,6 +39,10 @@ pub enum SetCall<R, A: Allocator> {
     Union { left: usize, right: usize },
     /// Makes the set of the keys of both of two sets.
     Intersection { left: usize, right: usize },
+    /// Makes the set of the keys that the left one of two sets has and the right one lacks.
+    Difference { left: usize, right: usize },
+    /// Makes the set of the keys that exactly one of two sets has.
+    SymmetricDifference { left: usize, right: usize },
 }
 
 impl<S: StoreMut<Value = ()> + Drop> CallOn<Set<S>> for SetCall<S::Range, S::Alloc>
@@ -69,17 +73,52 @@ where
                 Some(set) => set.extend(ranges).is_ok(),
                 None => false,
             },
-            SetCall::Union { left, right } => push_joined(Operator::Union, sets, left, right),
+            SetCall::Union { left, right } => push_joined(Join::Union, sets, left, right),
             SetCall::Intersection { left, right } => {
-                push_joined(Operator::Intersection, sets, left, right)
+                push_joined(Join::Intersection, sets, left, right)
             }
+            SetCall::Difference { left, right } => push_joined(Join::Difference, sets, left, right),
+            SetCall::SymmetricDifference { left, right } => {
+                push_joined(Join::SymmetricDifference, sets, left, right)
+            }
+        }
+    }
+}
+
+// One of the four operators, as a call makes it.
+#[derive(Clone, Copy)]
+enum Join {
+    Union,
+    Intersection,
+    Difference,
+    SymmetricDifference,
+}
+
+impl Join {
+    // Returns the set that the operator makes of the two.
+    fn apply<S: StoreMut<Value = ()> + Drop>(
+        self,
+        left: &Set<S>,
+        right: &Set<S>,
+    ) -> Result<Set<S>, AllocError>
+    where
+        S::Kind: Kind<S::Range, Steps = <S::Range as KeyRange>::Key>,
+        S::Alloc: Clone,
+        requires faithful_keys { KeysCloneFaithfully S.Range.Key.is_clone S.Range.Key.cmp }
+        ensures { IfOk result (IsCanonOfPoints S.Kind.kind (made_by self (covers S.Kind.kind left.now) (covers S.Kind.kind right.now))) }
+    {
+        match self {
+            Join::Union => left | right,
+            Join::Intersection => left & right,
+            Join::Difference => left - right,
+            Join::SymmetricDifference => left ^ right,
         }
     }
 }
 
 // Pushes what the operator makes of two sets, for which there is room. Returns whether it was made.
 fn push_joined<S: StoreMut<Value = ()> + Drop>(
-    operator: Operator,
+    join: Join,
     sets: &mut Vec<Set<S>, S::Alloc>,
     left: usize,
     right: usize,
@@ -89,7 +128,7 @@ where
     S::Kind: Kind<S::Range, Steps = <S::Range as KeyRange>::Key>,
     requires room { vec_len sets.old < vec_capacity sets.old }
     requires faithful_keys { KeysCloneFaithfully S.Range.Key.is_clone S.Range.Key.cmp }
-    ensures made { Makes S.Kind.kind (unit_eq S.Kind.kind) (with_unit S.Kind.kind) (SetStep {A = S.Alloc} S.Kind.kind) sets.old.items (joining operator left right) result sets.new.items }
+    ensures made { Makes S.Kind.kind (unit_eq S.Kind.kind) (with_unit S.Kind.kind) (SetStep {A = S.Alloc} S.Kind.kind) sets.old.items (joining join left right) result sets.new.items }
     ensures len { vec_len sets.new ≤ vec_len sets.old + 1 }
     ensures capacity { vec_capacity sets.old ≤ vec_capacity sets.new }
 {
@@ -99,6 +138,6 @@ where
     let Some(second) = sets.get(right) else {
         return false;
     };
-    let made = operator.apply(first, second);
+    let made = join.apply(first, second);
     push_made(sets, made)
 }

@@ -21,7 +21,7 @@ impl<S: StoreMut<Value = ()>> Set<S> {
     /// # Errors
     ///
     /// The growth of the set, or a clone of a key or of the allocator, was refused, or the change might
-    /// leave more ranges than the store can count: then the set is as it was, and the range is dropped.
+    /// leave more ranges than the store can count. The set is then as it was, and the range is dropped.
     ///
     /// # Examples
     ///
@@ -40,8 +40,8 @@ impl<S: StoreMut<Value = ()>> Set<S> {
         self.stored.insert(range, ())
     }
 
-    /// Takes every key of `range` out. A stored range that it covers in part is cut, and one that
-    /// reaches past both its ends becomes two, so the set grows by at most one range.
+    /// Takes every key of `range` out. A stored range that is covered in part is cut. One that reaches
+    /// past both ends becomes two, so the set grows by at most one range.
     ///
     /// # Requires
     ///
@@ -49,8 +49,8 @@ impl<S: StoreMut<Value = ()>> Set<S> {
     ///
     /// # Errors
     ///
-    /// As for `insert`. Where no stored range overlaps the given one, the call takes no memory,
-    /// succeeds and changes nothing.
+    /// As for `insert`. If no stored range overlaps the given one, the call takes no memory, succeeds
+    /// and changes nothing.
     ///
     /// # Examples
     ///

@@ -48,14 +48,15 @@ where
     /// Inserts the items of `iter`, in the order in which they come, each as `insert` does.
     ///
     /// In a vector and in chunks, items that come in order, behind all that is stored, move no stored
-    /// range but where a vector grows or a chunk is cut. Where many come in another order, sort them first.
+    /// range, unless a vector grows or a chunk is cut. If many items come in another order, sort them
+    /// first.
     ///
     /// # Requires
     ///
-    /// The iterator ends, each range that it gives is one that `insert` takes, and a clone of a key
-    /// compares equal to its original. The check sees this of a chain over numbers without further
-    /// words. Of an array or a vector it asks for one answer, here for an array of two ranges with
-    /// `u32` keys, with a `refl` for each range:
+    /// The iterator ends. No range that it gives is empty. A clone of a key compares equal to its
+    /// original. The check proves this by itself for a chain of iterators over numbers. For an
+    /// array or a vector you write one line of proof, with a `refl` for each range, as for this
+    /// call:
     ///
     /// ```text
     /// set.extend([0..5, 7..9])?;
@@ -64,14 +65,14 @@ where
     ///     listed (half_open nat_cmp) array_into_iter_items h.2 it _ h.0 (refl, (refl, tt))
     /// ```
     ///
-    /// `listed` stands in `Rattle.rangemap.proofs.IncomingRangeLemmas`. Of a vector it takes
-    /// `into_iter_items` and `h.3`; an iterator that owns the ranges of a set is answered by `owned`
-    /// of `SetRoundTripLemmas`.
+    /// `listed` is in `Rattle.rangemap.proofs.IncomingRangeLemmas`. For a vector write
+    /// `into_iter_items` and `h.3` instead of `array_into_iter_items` and `h.2`. For an iterator
+    /// that owns the ranges of a set use `owned` of `SetRoundTripLemmas`.
     ///
     /// # Errors
     ///
-    /// An insert was refused, as there. The items before that one are inserted and stay; it and those
-    /// after it are dropped. Where no item comes, the call succeeds and changes nothing.
+    /// An insert was refused. The items before the refused one stay inserted. The refused item and those
+    /// after it are dropped. If no item comes, the call succeeds and changes nothing.
     pub fn extend<I: IntoIterator<Item = S::Range>>(&mut self, iter: I) -> Result<(), AllocError>
         requires ends { IsFiniteIterable I.into_iter_gives I.IntoIter.can_next I.IntoIter.remaining iter }
         requires non_empty { (it : I.IntoIter) → I.into_iter_gives iter it → GivesNonEmptyRanges S.Kind.kind I.IntoIter.next_gives it }
@@ -101,7 +102,7 @@ where
     ///
     /// # Errors
     ///
-    /// An insert was refused; nothing is made then.
+    /// An insert was refused. Nothing is made then.
     pub fn from_iter<I: IntoIterator<Item = S::Range>>(
         alloc: S::Alloc,
         iter: I,
@@ -124,8 +125,7 @@ where
     ///
     /// # Errors
     ///
-    /// An insert was refused, or the memory through which the array is read, or a clone of `alloc`;
-    /// nothing is made then.
+    /// An insert, the memory to read the array, or a clone of `alloc` was refused. Nothing is made then.
     pub fn from<const N: usize>(alloc: S::Alloc, value: [S::Range; N]) -> Result<Self, AllocError>
     where
         S::Alloc: Clone,
@@ -151,7 +151,7 @@ where
 
     ghost into_iter_gives = { λ set it. (it ≡ set) × IsCanonicalSet S.Kind.kind set };
 
-    /// Returns a double-ended iterator over the stored ranges, in order. Those that are not taken are
+    /// Returns a double-ended iterator over the stored ranges, in order. Items that are not taken are
     /// dropped with it.
     fn into_iter(self) -> Ranges<S::IntoIter> {
         let len = self.stored.len();

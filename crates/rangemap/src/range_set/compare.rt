@@ -59,8 +59,8 @@ impl<S: Store<Value = ()>> Ord for Set<S> {
 
     ghost matches_eq = { ranges_cmp_ties S.Kind.kind };
 
-    /// Compares the sets by the first two ranges that differ: by their starts, and where these are
-    /// equal by their ends. A set that has only the first ranges of the other is less.
+    /// Compares the sets by the first two ranges that differ: by their starts, then by their ends. A set
+    /// that has only the first ranges of the other is less.
     fn cmp(&self, other: &Self) -> Ordering {
         compare(&self.stored, &other.stored)
     }

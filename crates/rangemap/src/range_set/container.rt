@@ -1,8 +1,8 @@
 //! The set as one of the library's containers.
 //!
-//! What a map tells of values and pairs is made of `get`, `contains`, `first` and `last`; the appends
-//! hand the pairs and gaps of its store on. All other methods are the set's own calls: `self.insert(..)`
-//! is the call of `Set`, which comes before that of a trait.
+//! The methods that speak of values and pairs are made of `get`, `contains`, `first` and `last`. The
+//! appends pass on the pairs and gaps of the store. All other methods are the set's own calls, because
+//! `self.insert(..)` means the call of `Set` before that of a trait.
 ghost use Rattle.rangemap.specs.Ranges.{overlapped, with_unit};
 
 use super::Set;
@@ -85,6 +85,10 @@ where
 
     fn overlaps(&self, range: &S::Range) -> bool {
         self.overlaps(range)
+    }
+
+    fn covers(&self, range: &S::Range) -> bool {
+        self.covers(range)
     }
 
     #[tactic(auto, using(rangemap_core::proofs::StoredLemmas::all_storable))]

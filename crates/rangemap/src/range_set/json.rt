@@ -29,8 +29,8 @@ where
     ///
     /// # Errors
     ///
-    /// `Caller` has what the function answered that refused a key, the first one refused.
-    /// `OutOfMemory` says that memory for the value was refused.
+    /// `Caller` has the error of the function for the first key that it refused. `OutOfMemory` says that
+    /// memory for the value was refused.
     ///
     /// # Examples
     ///
@@ -59,10 +59,10 @@ where
     /// Returns the set that a value of the JSON form stands for: the ranges that the caller's
     /// function reads of its entries, inserted in order, in memory of `alloc`.
     ///
-    /// With `Form::Any` entries may overlap, touch and stand in any order. With `Form::Canonical` the
-    /// ranges that are read are a canonical list, which the set then holds. Where the function reads
-    /// each time, up to equality, what it may read of a part, a value whose parts may all be read, as
-    /// ranges that the form accepts, is refused for want of memory alone.
+    /// With `Form::Any` entries may overlap, touch and stand in any order. With `Form::Canonical`
+    /// the ranges must be a canonical list; otherwise the call returns an error. Suppose that the
+    /// function reads a part to equal results each time. Then a value that is valid in the chosen
+    /// form is refused only if memory runs out.
     ///
     /// # Requires
     ///
@@ -71,11 +71,18 @@ where
     ///
     /// # Errors
     ///
-    /// `NotAList` where the value is no list. Else entries are read in order, and in an entry the order
-    /// is shape (`BadEntry`), start and end (`BadKey`), emptiness (`EmptyRange`), with `Form::Canonical`
-    /// then the order (`OutOfOrder`) and the touch (`Uncoalesced`) with the range before, and last its
-    /// insert (`OutOfMemory`). The first fault is the answer, and nothing is made then. A half-open range
-    /// is empty where its start is not less than its end, a closed one where it is greater.
+    /// The call returns the first fault, and no set. `NotAList` says that the value is no list.
+    /// Otherwise the entries are read one after another, and each is tested in this order:
+    ///
+    /// 1. its shape (`BadEntry`),
+    /// 2. its start and end (`BadKey`),
+    /// 3. that its range is not empty (`EmptyRange`),
+    /// 4. with `Form::Canonical`, that it lies behind the entry before it (`OutOfOrder`),
+    /// 5. with `Form::Canonical`, that it does not touch that entry (`Uncoalesced`),
+    /// 6. its insert (`OutOfMemory`).
+    ///
+    /// A half-open range is empty if its start is not less than its end, a closed one if its start
+    /// is greater.
     ///
     /// # Examples
     ///

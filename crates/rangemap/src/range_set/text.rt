@@ -16,8 +16,8 @@ where
 
     ghost debug_output = { set_text S.Kind.kind S.Range.dots S.Range.Key.debug_output };
 
-    /// Writes the ranges as `{0..100, 200..300}` or `{0..=100, 200..=300}`, and `{}` where there are
-    /// none. Under `{:#?}` each has a line of its own, and nothing is promised of that text.
+    /// Writes the ranges as `{0..100, 200..300}` or `{0..=100, 200..=300}`, and `{}` if there are none.
+    /// `{:#?}` gives each a line of its own, and nothing is promised about that text.
     fn fmt<W: fmt::Write>(&self, f: &mut Formatter<W>) -> fmt::Result {
         write::<RangeAlone<S::Kind>, S, W>(&self.stored, f)
     }

@@ -77,5 +77,11 @@ returns-in-Clone-clause-made g c = rw c.in-Clone.is c.make-in-Clone.ensures.made
 pub returns-in-Union-clause-made : goal.returns-in-Union-clause-made
 returns-in-Union-clause-made g c = rw c.in-Union.is c.push_joined.ensures.made
 
+pub returns-in-Intersection-clause-made : goal.returns-in-Intersection-clause-made
+returns-in-Intersection-clause-made g c = rw c.in-Intersection.is c.push_joined-in-Intersection.ensures.made
+
+pub returns-in-Difference-clause-made : goal.returns-in-Difference-clause-made
+returns-in-Difference-clause-made g c = rw c.in-Difference.is c.push_joined-in-Difference.ensures.made
+
 pub returns-clause-made : goal.returns-clause-made
-returns-clause-made g c = rw c.in-Intersection.is c.push_joined-in-Intersection.ensures.made
+returns-clause-made g c = rw c.in-SymmetricDifference.is c.push_joined-in-SymmetricDifference.ensures.made

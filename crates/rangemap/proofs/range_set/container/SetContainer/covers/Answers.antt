@@ -1,0 +1,14 @@
+use Rattle.std.proofs.Common.{◌↔◌, IsTrue, subst, sym}
+use Rattle.rangemap_core.specs.Ranges.{with_unit}
+use Rattle.rangemap_core.specs.Sets.{AreCovered}
+use Rattle.rangemap_containers.proofs.CoveredLemmas.{defined_where_covered}
+use Rattle.rangemap_unions.proofs.UnitValueLemmas.{ranges_with}
+use Rattle.rangemap.proofs.range_set.container.SetContainer.covers.Goals as goal
+
+pub returns : goal.returns
+returns g c =
+    let k = g.S.Kind.Kind.kind in
+    let list = c.args.self.now in
+    let q = c.args.range.now in
+    defined_where_covered k (with_unit k list) q c.covers.result
+    (subst (λ rs. IsTrue c.covers.result ↔ AreCovered k (k.holds q) rs) (sym (ranges_with k list)) c.covers.ensures)

@@ -1,0 +1,81 @@
+//! The map over half-open ranges that keeps them in chunks, and the run of any calls that make or
+//! change such maps.
+
+use rangemap_chunked::{Chunks, SIZE, into_iter, iter};
+use rangemap_containers::calls;
+pub use rangemap_containers::replay::replay;
+use rangemap_core::gaps;
+use rangemap_core::half_open::HalfOpen;
+use rangemap_core::pair_iter::{OverlappingPairs, PairIter};
+pub use rangemap_maps::range_map::Map;
+use rangemap_maps::range_map::calls as map_calls;
+use std::alloc::Global;
+use std::ops::Range;
+
+/// A map of disjoint half-open ranges, `a..b`, to values, which joins ranges that touch and have
+/// equal values. It keeps them in chunks, each a sorted vector.
+///
+/// The range of an `insert` or a `remove` is not empty: `range.start < range.end`.
+///
+/// # Examples
+///
+/// As for `map::RangeMap`, with `use rangemap::chunked::map::RangeMap`.
+///
+/// # Calls
+///
+/// ```text
+/// new(alloc: A) -> Self
+/// new_with_step_fns(alloc: A) -> Self
+/// from<const N: usize>(alloc: A, value: [(Range<K>, V); N]) -> Result<Self, AllocError>
+/// from_iter<I: IntoIterator<Item = (Range<K>, V)>>(alloc: A, iter: I) -> Result<Self, AllocError>
+/// insert(&mut self, range: Range<K>, value: V) -> Result<(), AllocError>
+/// remove(&mut self, range: Range<K>) -> Result<(), AllocError>
+/// extend<I: IntoIterator<Item = (Range<K>, V)>>(&mut self, iter: I) -> Result<(), AllocError>
+/// clear(&mut self)
+/// clone(&self) -> Result<Self, AllocError>
+/// get(&self, key: &K) -> Option<&V>
+/// get_key_value(&self, key: &K) -> Option<(&Range<K>, &V)>
+/// contains_key(&self, key: &K) -> bool
+/// first_range_value(&self) -> Option<(&Range<K>, &V)>
+/// last_range_value(&self) -> Option<(&Range<K>, &V)>
+/// len(&self) -> usize
+/// is_empty(&self) -> bool
+/// known(&self)
+/// allocator(&self) -> &A
+/// iter(&self) -> Iter<'_, K, V, A>
+/// into_iter(self) -> IntoIter<K, V, A>
+/// overlapping<'a>(&'a self, range: &'a Range<K>) -> Overlapping<'a, K, V, A>
+/// overlaps(&self, range: &Range<K>) -> bool
+/// covers(&self, range: &Range<K>) -> bool
+/// gaps<'a>(&'a self, outer_range: &'a Range<K>) -> Gaps<'a, K, V, A>
+/// to_value<E, WK: Fn(&K) -> Result<Value, E>, WV: Fn(&V) -> Result<Value, E>>(
+///     &self, alloc: Global, write_key: WK, write_value: WV) -> Result<Value, WriteError<E>>
+/// from_value<E, RK: Fn(&Value) -> Result<K, E>, RV: Fn(&Value) -> Result<V, E>>(
+///     alloc: A, form: Form, value: &Value, read_key: RK, read_value: RV) -> Result<Self, ReadError<E>>
+/// ```
+///
+/// `Map` describes each call with its contract, and `==`, the orders, `Hash` and `{:?}`.
+pub type RangeMap<K, V, A = Global> = Map<Chunks<HalfOpen, Range<K>, V, A, SIZE>>;
+
+/// The pairs of a map, in order and from both ends.
+pub type Iter<'a, K, V, A = Global> = PairIter<iter::Iter<'a, Range<K>, V, A>>;
+
+/// The pairs that a map hands over, in order and from both ends.
+pub type IntoIter<K, V, A = Global> = PairIter<into_iter::IntoIter<Range<K>, V, A>>;
+
+/// The pairs of a map that overlap a range, in order and from both ends.
+pub type Overlapping<'a, K, V, A = Global> = OverlappingPairs<iter::Iter<'a, Range<K>, V, A>>;
+
+/// The parts of a range that a map does not cover, in order.
+pub type Gaps<'a, K, V, A = Global> = gaps::Gaps<
+    'a,
+    HalfOpen,
+    Range<K>,
+    iter::Iter<'a, Range<K>, V, A>,
+>;
+
+/// A call that makes a map or changes the one at a place of a list.
+pub type Call<K, V, A = Global> = map_calls::Call<Range<K>, V, A>;
+
+/// A call that every map has, as a `Call` holds it.
+pub type Change<K, V> = calls::Change<Range<K>, V>;
