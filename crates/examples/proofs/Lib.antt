@@ -2,6 +2,7 @@ mod ArrayLemmas
 mod ChangeLemmas
 mod CidrLemmas
 mod ExtentLemmas
+mod InterruptLemmas
 mod MemoryLemmas
 mod RingLemmas
 mod WindowLemmas

@@ -2,6 +2,7 @@ pub mod BlockList
 pub mod CharClass
 pub mod Desk
 pub mod Extents
+pub mod Interrupts
 pub mod MemoryMap
 pub mod Planner
 pub mod Received

@@ -1,8 +1,8 @@
-//! The snippets of README.md and docs/CALLING.md, whole, and a caller of each other lemma that the
-//! page names.
+//! Snippets of README.md and docs/PROVING.md, whole, and a caller of each other lemma that
+//! docs/LEMMAS.md names.
 //!
-//! Where a function answers a `Result`, it is `Err` where memory or a clone was refused. What a
-//! function asks of its caller, and what then holds, its clauses say.
+//! A function that returns a `Result` returns `Err` if memory or a clone was refused. Its clauses say
+//! what it requires and what then holds.
 ghost use Rattle.std.specs.Prelude.{◌≡◌, ◌≢◌, ◌+◌, ◌<◌, ◌≤◌, ◌^◌, ◌&&◌, ◌||◌, ℕ, IfNone, IfOk, IfSome, OnErr, OnOk, map, nat_le, nat_lt, Some, None, false, true};
 ghost use Rattle.std.specs.Ordering.{nan_last_cmp, nat_cmp};
 ghost use Rattle.std.specs.String.{string_cmp};
@@ -13,6 +13,9 @@ use rangemap::{RangeInclusiveMap, RangeInclusiveSet, RangeMap, RangeSet, tree_ma
 use std::alloc::{AllocError, Global};
 use std::cmp::OrderedFloat;
 use std::ops::Range;
+
+pub mod queries;
+pub mod set_algebra;
 
 /// Puts a person on for the hours from `from` up to `to`.
 pub fn assign(

@@ -2,7 +2,7 @@
 //! as JSON.
 ghost use Rattle.std.specs.Ordering.{nat_cmp};
 ghost use Rattle.std.specs.Prelude.{◌<◌, ◌^◌, ◌≡◌, ◌↔◌, ◌≤◌, IfErr, IfOk, IsTrue, count_by, nat_eq, true, ℕ};
-ghost use Rattle.rangemap.specs.Json.{IsForm, IsReading, RefusesToRead, map_reader, map_writer};
+ghost use Rattle.rangemap.specs.Json.{IsForm, IsReading, IsRefusedForMemoryAlone, RefusesToRead, map_reader, map_writer};
 ghost use Rattle.rangemap.specs.Ranges.{half_open, overlapped};
 ghost use Rattle.examples.specs.Desk.{is_closed, reads_number, writes_number};
 
@@ -74,11 +74,7 @@ pub fn to_json(alloc: Global, sheet: &RangeMap<u32, u32>) -> Result<Value, Write
     ensures form { IfOk result (IsForm (half_open nat_cmp) (map_writer writes_number writes_number) sheet.now) }
     ensures refused { IfErr result (λ error. error ≡ WriteError.OutOfMemory) }
 {
-    sheet.to_value(
-        alloc,
-        |hour| write_number(hour),
-        |guest| write_number(guest),
-    )
+    sheet.to_value(alloc, write_number, write_number)
 }
 
 /// Returns the bookings that a JSON value holds, whose entries are in order and joined.
@@ -90,12 +86,7 @@ pub fn to_json(alloc: Global, sheet: &RangeMap<u32, u32>) -> Result<Value, Write
 pub fn from_json(alloc: Global, value: &Value) -> Result<RangeMap<u32, u32>, ReadError<NotANumber>>
     ensures reading { IfOk result (IsReading (half_open nat_cmp) (map_reader reads_number reads_number) nat_eq Form.Canonical value.now) }
     ensures refused { IfErr result (RefusesToRead (half_open nat_cmp) (map_reader reads_number reads_number) nat_eq Form.Canonical value.now) }
+    ensures exact { IfErr result (IsRefusedForMemoryAlone (half_open nat_cmp) (map_reader reads_number reads_number) nat_eq Form.Canonical value.now) }
 {
-    RangeMap::from_value(
-        alloc,
-        Form::Canonical,
-        value,
-        |hour| read_number(hour),
-        |guest| read_number(guest),
-    )
+    RangeMap::from_value(alloc, Form::Canonical, value, read_number, read_number)
 }

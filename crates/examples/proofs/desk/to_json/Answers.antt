@@ -5,7 +5,7 @@ use Rattle.rangemap.specs.Ranges.{half_open}
 use Rattle.rangemap.proofs.JsonLemmas.{form_weaker, written_unless_no_memory}
 use Rattle.examples.proofs.desk.to_json.Goals as goal
 
--- the closures write numbers
+-- the functions write numbers
 pub returns-clause-form : goal.returns-clause-form
 returns-clause-form c = IfOk-weaker c.to_value.result _ _ (λ value form. form_weaker (half_open nat_cmp) (λ hour answer says. search (rules, says.shows)) (λ guest answer says. search (rules, says.shows)) form) c.to_value.ensures.ok
 
