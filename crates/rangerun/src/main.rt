@@ -4,8 +4,10 @@
 //! reads the next line. It stops at the first fault, which it prints on standard error.
 #![tactic(auto)]
 
+use rangerun_library::serve;
+use std::io;
 use std::process::ExitCode;
 
 fn main(rt: HostRuntime) -> ExitCode {
-    rangerun_library::serve(&rt)
+    ExitCode::from(serve(&rt, rt.reader(), io::writer(&rt), rt.stderr()))
 }

@@ -2,10 +2,11 @@
 
 use crate::range::NumberRange;
 use crate::value::{Stored, write_key, write_text};
+use rangemap::WriteError;
+use rangemap::chunked::{RangeInclusiveMap, RangeInclusiveSet, RangeMap, RangeSet};
 use rangemap::container::Container;
 use rangemap::map::Map;
 use rangemap::set::Set;
-use rangemap::{RangeInclusiveMap, RangeInclusiveSet, RangeMap, RangeSet, WriteError};
 use rangemap_core::key_range::KeyRange;
 use rangemap_core::kind::Kind;
 use rangemap_core::store::StoreMut;

@@ -1,8 +1,9 @@
 //! What the program `rangerun` does: the commands of its lines, carried out over a map, a set or a
 //! calendar of ranges.
 //!
-//! `run` goes over any reader and writer, so that tests see all of it; `serve` hands it what the
-//! system gives.
+//! `serve` takes the arguments and the streams that the system hands to the program, or others that a
+//! test hands to it. `run` takes the arguments as texts, and `run_in` an allocator too, which a test can
+//! let refuse.
 #![tactic(auto)]
 
 mod answer;

@@ -5,21 +5,26 @@ ghost use Rattle.rangerun_library.specs.Faults.{fault_number, status_of};
 
 use crate::fault::{Cause, Fault};
 use crate::session::run;
-use std::io::{self, ErrorKind, Write};
-use std::{env, process};
+use std::env::{self, Env};
+use std::io::{self, ErrorKind, Read, Write};
 
-/// Runs the program over standard input and output, tells of a fault on standard error, and returns
-/// the exit status.
-pub fn serve(rt: &HostRuntime) -> process::ExitCode {
+/// Runs the program with the arguments and the memory of `rt` over an input and an output, tells of a
+/// fault on `errors`, and returns the exit status.
+pub fn serve<S: AllocGlobal + Env, R: Read + Drop, W: Write + Drop, E: Write + Drop>(
+    rt: &S,
+    input: R,
+    output: W,
+    errors: E,
+) -> u8 {
     let ended = match arguments(rt) {
-        Ok(args) => run(rt.alloc(), &args, rt.reader(), io::writer(rt)),
+        Ok(args) => run(rt.alloc(), &args, input, output),
         Err(error) => Err(arguments_fault(&error)),
     };
-    process::ExitCode::from(report(ended, rt.stderr()))
+    report(ended, errors)
 }
 
 // The words after the program's name.
-fn arguments(rt: &HostRuntime) -> io::Result<Vec<String>> {
+fn arguments<S: AllocGlobal + Env>(rt: &S) -> io::Result<Vec<String>> {
     Ok(env::args(rt)?.skip(1).collect(rt.alloc())?)
 }
 

@@ -23,30 +23,63 @@ pub fn run<R: Read + Drop, W: Write + Drop>(
     input: R,
     output: W,
 ) -> Result<(), Fault> {
-    run_in(alloc, alloc, args, input, output)
+    run_kind::<
+        Global,
+        HalfOpenMap<Global>,
+        ClosedMap<Global>,
+        HalfOpenSet<Global>,
+        ClosedSet<Global>,
+        R,
+        W,
+    >(alloc, alloc, args, input, output)
 }
 
 /// Does what `run` does in memory of `alloc`, but for that of JSON values: only a `Global` gives it,
 /// and it comes from `json_alloc`.
 ///
+/// The allocator is lent: a container holds its handle, and is to be of a size that fits into memory,
+/// which nobody knows of one that holds an allocator of any size.
+///
 /// # Errors
 ///
 /// As of `run`.
-pub fn run_in<A: Allocator + Copy, R: Read + Drop, W: Write + Drop>(
-    alloc: A,
+pub fn run_in<'a, A: Allocator, R: Read + Drop, W: Write + Drop>(
+    alloc: &'a A,
     json_alloc: Global,
     args: &[String],
     input: R,
     output: W,
 ) -> Result<(), Fault> {
+    run_kind::<
+        &'a A,
+        HalfOpenMap<&'a A>,
+        ClosedMap<&'a A>,
+        HalfOpenSet<&'a A>,
+        ClosedSet<&'a A>,
+        R,
+        W,
+    >(alloc, json_alloc, args, input, output)
+}
+
+// Does what `run_in` does, with the containers that are made in memory of an allocator `A`: the maps
+// over half-open ranges and over closed ones, and the sets.
+fn run_kind<
+    A: Allocator + Copy,
+    HalfOpenMap: Runnable<A>,
+    ClosedMap: Runnable<A>,
+    HalfOpenSet: Runnable<A>,
+    ClosedSet: Runnable<A>,
+    R: Read + Drop,
+    W: Write + Drop,
+>(alloc: A, json_alloc: Global, args: &[String], input: R, output: W) -> Result<(), Fault> {
     let [kind] = args else {
         return Err(Cause::Arguments.at(0));
     };
     match kind.as_str() {
-        "map" => <HalfOpenMap<A> as Runnable<A>>::run(alloc, json_alloc, input, output),
-        "imap" => <ClosedMap<A> as Runnable<A>>::run(alloc, json_alloc, input, output),
-        "set" => <HalfOpenSet<A> as Runnable<A>>::run(alloc, json_alloc, input, output),
-        "iset" => <ClosedSet<A> as Runnable<A>>::run(alloc, json_alloc, input, output),
+        "map" => HalfOpenMap::run(alloc, json_alloc, input, output),
+        "imap" => ClosedMap::run(alloc, json_alloc, input, output),
+        "set" => HalfOpenSet::run(alloc, json_alloc, input, output),
+        "iset" => ClosedSet::run(alloc, json_alloc, input, output),
         "cal" => <Calendar<A> as Runnable<A>>::run(alloc, json_alloc, input, output),
         _ => Err(Cause::Arguments.at(0)),
     }
