@@ -4,7 +4,7 @@
 
 use rangemap::{
     RangeInclusiveMap, RangeInclusiveSet, RangeMap, RangeSet, StepLite, chunked, inclusive_map,
-    inclusive_set, map, set, tree_map, tree_set,
+    inclusive_set, map, set, tree_map, tree_set, with_room,
 };
 use std::alloc::Global;
 use std::iter::IntoIterator;
@@ -18,11 +18,21 @@ pub fn maps<K: StepLite + Clone, V: Eq + Clone>(
 ) -> (
     map::RangeMap<K, V, Global>,
     tree_map::RangeMap<K, V, Global>,
-    chunked::RangeMap<K, V, Global>,
+    chunked::map::RangeMap<K, V, Global>,
     inclusive_map::RangeInclusiveMap<K, V, K, Global>,
-    chunked::RangeInclusiveMap<K, V, K, Global>,
+    chunked::inclusive_map::RangeInclusiveMap<K, V, K, Global>,
 ) {
     (map, tree, chunks, closed_map, closed_chunks)
+}
+
+pub fn maps_with_room<K: StepLite + Clone, V: Eq + Clone>(
+    map: with_room::RangeMap<K, V>,
+    closed_map: with_room::RangeInclusiveMap<K, V>,
+) -> (
+    with_room::RangeMap<K, V, Global>,
+    with_room::RangeInclusiveMap<K, V, K, Global>,
+) {
+    (map, closed_map)
 }
 
 pub fn sets<T: StepLite + Clone>(
@@ -34,9 +44,9 @@ pub fn sets<T: StepLite + Clone>(
 ) -> (
     set::RangeSet<T, Global>,
     tree_set::RangeSet<T, Global>,
-    chunked::RangeSet<T, Global>,
+    chunked::set::RangeSet<T, Global>,
     inclusive_set::RangeInclusiveSet<T, T, Global>,
-    chunked::RangeInclusiveSet<T, T, Global>,
+    chunked::inclusive_set::RangeInclusiveSet<T, T, Global>,
 ) {
     (set, tree, chunks, closed_set, closed_chunks)
 }
@@ -50,9 +60,9 @@ pub fn given_by_maps<K: StepLite + Clone, V: Eq + Clone>(
 ) -> (
     map::IntoIter<K, V>,
     tree_map::IntoIter<K, V>,
-    chunked::IntoIter<K, V>,
+    chunked::map::IntoIter<K, V>,
     inclusive_map::IntoIter<K, V, Global>,
-    chunked::InclusiveIntoIter<K, V, Global>,
+    chunked::inclusive_map::IntoIter<K, V, Global>,
 ) {
     (by_map, by_tree, by_chunks, by_closed_map, by_closed_chunks)
 }
@@ -66,9 +76,9 @@ pub fn given_by_sets<T: StepLite + Clone>(
 ) -> (
     set::IntoIter<T>,
     tree_set::IntoIter<T>,
-    chunked::SetIntoIter<T>,
+    chunked::set::IntoIter<T>,
     inclusive_set::IntoIter<T, Global>,
-    chunked::InclusiveSetIntoIter<T, Global>,
+    chunked::inclusive_set::IntoIter<T, Global>,
 ) {
     (by_set, by_tree, by_chunks, by_closed_set, by_closed_chunks)
 }
@@ -83,8 +93,8 @@ pub fn lent_by_sets<'a, T: StepLite + Clone>(
     set::Iter<'a, T>,
     inclusive_set::Iter<'a, T>,
     tree_set::Iter<'a, T>,
-    chunked::SetIter<'a, T>,
-    chunked::InclusiveSetIter<'a, T>,
+    chunked::set::Iter<'a, T>,
+    chunked::inclusive_set::Iter<'a, T>,
 ) {
     (by_set, by_closed_set, by_tree, by_chunks, by_closed_chunks)
 }
@@ -92,20 +102,20 @@ pub fn lent_by_sets<'a, T: StepLite + Clone>(
 /// What all parameters of an alias with defaults are, of what maps give over any allocator.
 pub fn of_maps<'a, K: StepLite + Clone, V: Eq + Clone>(
     gaps: inclusive_map::Gaps<'a, K, V>,
-    iter: chunked::Iter<'a, K, V>,
-    overlapping: chunked::Overlapping<'a, K, V>,
-    gaps_in_chunks: chunked::Gaps<'a, K, V>,
-    closed_iter: chunked::InclusiveIter<'a, K, V>,
-    closed_overlapping: chunked::InclusiveOverlapping<'a, K, V>,
-    closed_gaps: chunked::InclusiveGaps<'a, K, V>,
+    iter: chunked::map::Iter<'a, K, V>,
+    overlapping: chunked::map::Overlapping<'a, K, V>,
+    gaps_in_chunks: chunked::map::Gaps<'a, K, V>,
+    closed_iter: chunked::inclusive_map::Iter<'a, K, V>,
+    closed_overlapping: chunked::inclusive_map::Overlapping<'a, K, V>,
+    closed_gaps: chunked::inclusive_map::Gaps<'a, K, V>,
 ) -> (
     inclusive_map::Gaps<'a, K, V, K>,
-    chunked::Iter<'a, K, V, Global>,
-    chunked::Overlapping<'a, K, V, Global>,
-    chunked::Gaps<'a, K, V, Global>,
-    chunked::InclusiveIter<'a, K, V, Global>,
-    chunked::InclusiveOverlapping<'a, K, V, Global>,
-    chunked::InclusiveGaps<'a, K, V, K, Global>,
+    chunked::map::Iter<'a, K, V, Global>,
+    chunked::map::Overlapping<'a, K, V, Global>,
+    chunked::map::Gaps<'a, K, V, Global>,
+    chunked::inclusive_map::Iter<'a, K, V, Global>,
+    chunked::inclusive_map::Overlapping<'a, K, V, Global>,
+    chunked::inclusive_map::Gaps<'a, K, V, K, Global>,
 ) {
     (
         gaps,
@@ -121,28 +131,31 @@ pub fn of_maps<'a, K: StepLite + Clone, V: Eq + Clone>(
 /// The same of what sets give.
 pub fn of_sets<'a, T: StepLite + Clone>(
     gaps: inclusive_set::Gaps<'a, T>,
-    overlapping: chunked::SetOverlapping<'a, T>,
-    gaps_in_chunks: chunked::SetGaps<'a, T>,
-    both: (chunked::Union<'a, T>, chunked::Intersection<'a, T>),
-    closed_overlapping: chunked::InclusiveSetOverlapping<'a, T>,
-    closed_gaps: chunked::InclusiveSetGaps<'a, T>,
+    overlapping: chunked::set::Overlapping<'a, T>,
+    gaps_in_chunks: chunked::set::Gaps<'a, T>,
+    both: (
+        chunked::set::Union<'a, T>,
+        chunked::set::Intersection<'a, T>,
+    ),
+    closed_overlapping: chunked::inclusive_set::Overlapping<'a, T>,
+    closed_gaps: chunked::inclusive_set::Gaps<'a, T>,
     closed_both: (
-        chunked::InclusiveUnion<'a, T>,
-        chunked::InclusiveIntersection<'a, T>,
+        chunked::inclusive_set::Union<'a, T>,
+        chunked::inclusive_set::Intersection<'a, T>,
     ),
 ) -> (
     inclusive_set::Gaps<'a, T, T>,
-    chunked::SetOverlapping<'a, T, Global>,
-    chunked::SetGaps<'a, T, Global>,
+    chunked::set::Overlapping<'a, T, Global>,
+    chunked::set::Gaps<'a, T, Global>,
     (
-        chunked::Union<'a, T, Global>,
-        chunked::Intersection<'a, T, Global>,
+        chunked::set::Union<'a, T, Global>,
+        chunked::set::Intersection<'a, T, Global>,
     ),
-    chunked::InclusiveSetOverlapping<'a, T, Global>,
-    chunked::InclusiveSetGaps<'a, T, T, Global>,
+    chunked::inclusive_set::Overlapping<'a, T, Global>,
+    chunked::inclusive_set::Gaps<'a, T, T, Global>,
     (
-        chunked::InclusiveUnion<'a, T, Global>,
-        chunked::InclusiveIntersection<'a, T, Global>,
+        chunked::inclusive_set::Union<'a, T, Global>,
+        chunked::inclusive_set::Intersection<'a, T, Global>,
     ),
 ) {
     (
@@ -153,5 +166,31 @@ pub fn of_sets<'a, T: StepLite + Clone>(
         closed_overlapping,
         closed_gaps,
         closed_both,
+    )
+}
+
+/// The same of the differences of sets.
+pub fn differences<'a, T: StepLite + Clone>(
+    of_closed: inclusive_set::Difference<'a, T>,
+    of_chunks: chunked::set::Difference<'a, T>,
+    of_closed_chunks: chunked::inclusive_set::Difference<'a, T>,
+    both_of_closed: inclusive_set::SymmetricDifference<'a, T>,
+    both_of_chunks: chunked::set::SymmetricDifference<'a, T>,
+    both_of_closed_chunks: chunked::inclusive_set::SymmetricDifference<'a, T>,
+) -> (
+    inclusive_set::Difference<'a, T, T>,
+    chunked::set::Difference<'a, T, Global>,
+    chunked::inclusive_set::Difference<'a, T, T, Global>,
+    inclusive_set::SymmetricDifference<'a, T, T>,
+    chunked::set::SymmetricDifference<'a, T, Global>,
+    chunked::inclusive_set::SymmetricDifference<'a, T, T, Global>,
+) {
+    (
+        of_closed,
+        of_chunks,
+        of_closed_chunks,
+        both_of_closed,
+        both_of_chunks,
+        both_of_closed_chunks,
     )
 }

@@ -8,6 +8,7 @@
 //! structs, whose calls these are, so the others are named as types: `aliases` has what they are made
 //! of, `items` what they give. Every call is made at two types of keys: `texts` at those that own memory,
 //! `wide_maps` and `wide_sets` at closed ones of 64 bits. `widths` has what calls promise at given keys.
+//! `with_room` names the calls of maps with room, and makes some at closed keys of 64 bits.
 //! What a refused call answers is dropped, since at each `?` the check asks how all that is held then is
 //! dropped. Laws, replays and what code over any container names are re-exports (`names`), which cost
 //! nothing to prove.
@@ -25,3 +26,4 @@ mod two;
 mod wide_maps;
 mod wide_sets;
 mod widths;
+mod with_room;

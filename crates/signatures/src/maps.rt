@@ -28,6 +28,7 @@ pub fn ask<'a, K: Ord + Clone, V: Eq + Clone, A: Allocator>(
     let _: usize = map.len();
     let _: bool = map.is_empty();
     let _: bool = map.overlaps(range);
+    let _: bool = map.covers(range);
     let _: &'a A = map.allocator();
     map.known();
 }

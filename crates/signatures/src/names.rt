@@ -8,7 +8,9 @@ use std::ops::Range;
 
 // the structs behind the aliases, under the name that each container's module gives them, and what
 // containers have in common
-pub use rangemap::container::{Container as AnyContainer, collect_gaps, insert_pairs, segments};
+pub use rangemap::container::{
+    Container as AnyContainer, collect_gaps, insert_pairs, segments, update,
+};
 pub use rangemap::inclusive_map::Map as MapOfClosedRanges;
 pub use rangemap::inclusive_set::Set as SetOfClosedRanges;
 pub use rangemap::map::Map;
@@ -16,6 +18,7 @@ pub use rangemap::range_set::{Operator as OperatorOfSets, Set as SetOverAnyStore
 pub use rangemap::set::Set;
 pub use rangemap::tree_map::Map as MapInTree;
 pub use rangemap::tree_set::Set as SetInTree;
+pub use rangemap::with_room::MapWithRoom;
 
 // one function, under the name that each container's module gives it, and the calls that it makes
 pub use rangemap::inclusive_map::{
@@ -38,10 +41,26 @@ pub use rangemap::tree_set::{
 };
 
 // all of these in chunks
+pub use rangemap::chunked::inclusive_map::{
+    Call as CallOfClosedMapsInChunks, Change as ChangeOfClosedMapsInChunks,
+    Map as MapOfClosedRangesInChunks, replay as replay_of_closed_maps_in_chunks,
+    replay_with_step_fns as replay_of_maps_in_chunks_by_step_fns,
+};
+pub use rangemap::chunked::inclusive_set::{
+    Call as CallOfClosedSetsInChunks, Change as ChangeOfClosedSetsInChunks,
+    Set as SetOfClosedRangesInChunks, replay as replay_of_closed_sets_in_chunks,
+    replay_with_step_fns as replay_of_sets_in_chunks_by_step_fns,
+};
+pub use rangemap::chunked::map::{
+    Call as CallOfMapsInChunks, Change as ChangeOfMapsInChunks, Map as MapInChunks,
+    replay as replay_of_maps_in_chunks,
+};
+pub use rangemap::chunked::set::{
+    Call as CallOfSetsInChunks, Change as ChangeOfSetsInChunks, Set as SetInChunks,
+    replay as replay_of_sets_in_chunks,
+};
 pub use rangemap::chunked::{
-    Call as CallOfChunks, Change as ChangeOfChunks, InclusiveCall, InclusiveChange,
-    InclusiveSetCall, InclusiveSetChange, Map as MapInChunks, Set as SetInChunks,
-    SetCall as CallOfSetsInChunks, SetChange as ChangeOfSetsInChunks, replay as replay_of_chunks,
+    Map as MapOfChunks, Set as SetOfChunks, replay as replay_of_chunks,
     replay_with_step_fns as replay_of_chunks_by_step_fns,
 };
 
@@ -54,14 +73,18 @@ pub use rangemap::laws::iterators::{
     items_go_to_the_end, next_back_ends_both_ends, next_ends_both_ends, next_ends_tries,
     next_stays_ended, try_next_ends_tries,
 };
-pub use rangemap::laws::overlaps::overlaps_exactly_where_covered;
+pub use rangemap::laws::overlaps::{
+    covers_exactly_where_no_gap_lies, covers_only_where_overlaps, overlaps_exactly_where_covered,
+};
 pub use rangemap::laws::round_trips::{Functions, from_iter_of_into_iter_is_equal};
 pub use rangemap::laws::runs::accepted_runs_answer_alike;
 pub use rangemap::laws::set_round_trips::{
     Functions as FunctionsOfSets, from_iter_of_into_iter_is_equal as from_iter_of_a_set_is_equal,
 };
 pub use rangemap::laws::sets::{
-    Operator, absorbs, associates, closed_operations, commutes, distributes, is_idempotent,
+    Operator, absorbs, associates, cancels, closed_operations, commutes, distributes,
+    is_either_without_common, is_idempotent, is_subset_exactly_where_nothing_is_left, makes_up,
+    turns_over,
 };
 pub use rangemap::laws::texts::{
     ascii_text, set_texts_are_joined, signed_text, texts_are_joined, unsigned_set_text,

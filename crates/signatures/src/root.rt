@@ -78,8 +78,8 @@ pub fn overlapping_and_gaps<
 
 // Takes nothing: only that the bounds hold is asked.
 pub fn are_iterators<T: Drop, U: Iterator<Item = T> + Drop, X: Iterator<Item = T> + Drop>(
-    _union: U,
-    _intersection: X,
+    _one: U,
+    _other: X,
 ) {}
 
 fn is_eq<C: Eq>(_container: &C) {}

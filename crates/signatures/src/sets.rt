@@ -5,7 +5,10 @@ ghost use Rattle.rangemap.specs.Ranges.{half_open};
 ghost use Rattle.rangemap.specs.Sets.{AreNonEmptyRanges, GivesNonEmptyRanges};
 
 use crate::root;
-use rangemap::set::{Gaps, Intersection, IntoIter, Iter, Overlapping, RangeSet, Union};
+use rangemap::set::{
+    Difference, Gaps, Intersection, IntoIter, Iter, Overlapping, RangeSet, SymmetricDifference,
+    Union,
+};
 use rangemap::{Form, ReadError, WriteError};
 use serde_json::Value;
 use std::alloc::{AllocError, Allocator, Global};
@@ -24,6 +27,10 @@ pub fn ask<'a, T: Ord + Clone, A: Allocator>(set: &'a RangeSet<T, A>, value: &T,
     let _: &'a A = set.allocator();
     set.known();
     let _: bool = set.overlaps(range);
+    let _: bool = set.covers(range);
+    let _: bool = set.is_subset(set);
+    let _: bool = set.is_superset(set);
+    let _: bool = set.is_disjoint(set);
 }
 
 pub fn lend<'a, T: Ord + Clone, A: Allocator>(set: &'a RangeSet<T, A>, range: &'a Range<T>)
@@ -47,10 +54,15 @@ pub fn put_together<'a, T: Ord + Clone, A: Allocator>(
     let _: Result<Option<Range<T>>, AllocError> = union.try_next();
     let mut intersection: Intersection<'a, T> = set.intersection(other);
     let _: Result<Option<Range<T>>, AllocError> = intersection.try_next();
+    let mut difference: Difference<'a, T> = set.difference(other);
+    let _: Result<Option<Range<T>>, AllocError> = difference.try_next();
+    let mut in_one: SymmetricDifference<'a, T> = set.symmetric_difference(other);
+    let _: Result<Option<Range<T>>, AllocError> = in_one.try_next();
     root::are_iterators::<Result<Range<T>, AllocError>, _, _>(union, intersection);
+    root::are_iterators::<Result<Range<T>, AllocError>, _, _>(difference, in_one);
 }
 
-// the same two of what sets lend, for which `set.into_iter()` is another word
+// the first two of what sets lend, for which `set.into_iter()` is another word
 pub fn put_iterators_together<'a, T: Ord + Clone, A: Allocator>(
     set: &'a RangeSet<T, A>,
     other: &'a RangeSet<T, A>,
@@ -74,6 +86,8 @@ pub fn from<T: Ord + Clone, A: Allocator + Clone, const N: usize>(
     let _: Result<RangeSet<T, A>, AllocError> = set.clone();
     let _: Result<RangeSet<T, A>, AllocError> = set | other;
     let _: Result<RangeSet<T, A>, AllocError> = set & other;
+    let _: Result<RangeSet<T, A>, AllocError> = set - other;
+    let _: Result<RangeSet<T, A>, AllocError> = set ^ other;
 }
 
 pub fn empty<T: Ord + Clone, A: Allocator>(alloc: A, other: A) -> (RangeSet<T, A>, RangeSet<T, A>) {

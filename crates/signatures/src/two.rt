@@ -36,6 +36,14 @@ pub struct OfVector<'a> {
         inclusive_set::Intersection<'a, u64>,
         inclusive_set::Intersection<'a, i64>,
     ),
+    pub differences: (
+        inclusive_set::Difference<'a, u64>,
+        inclusive_set::Difference<'a, i64>,
+    ),
+    pub in_one: (
+        inclusive_set::SymmetricDifference<'a, u64>,
+        inclusive_set::SymmetricDifference<'a, i64>,
+    ),
 }
 
 pub fn pass_vector<'a>(two: OfVector<'a>) -> OfVector<'a> {
@@ -75,6 +83,11 @@ pub struct OfTree<'a> {
         tree_set::Intersection<'a, u64>,
         tree_set::Intersection<'a, i64>,
     ),
+    pub differences: (tree_set::Difference<'a, u64>, tree_set::Difference<'a, i64>),
+    pub in_one: (
+        tree_set::SymmetricDifference<'a, u64>,
+        tree_set::SymmetricDifference<'a, i64>,
+    ),
 }
 
 pub fn pass_tree<'a>(two: OfTree<'a>) -> OfTree<'a> {
@@ -96,44 +109,52 @@ pub fn walk_tree<'a>(
 /// Two of each that maps and sets in chunks lend, hand over or are put together by.
 pub struct OfChunks<'a> {
     pub iters: (
-        chunked::InclusiveIter<'a, u64, char>,
-        chunked::InclusiveIter<'a, i64, char>,
+        chunked::inclusive_map::Iter<'a, u64, char>,
+        chunked::inclusive_map::Iter<'a, i64, char>,
     ),
     pub given: (
-        chunked::InclusiveIntoIter<u64, char>,
-        chunked::InclusiveIntoIter<i64, char>,
+        chunked::inclusive_map::IntoIter<u64, char>,
+        chunked::inclusive_map::IntoIter<i64, char>,
     ),
     pub overlapping: (
-        chunked::InclusiveOverlapping<'a, u64, char>,
-        chunked::InclusiveOverlapping<'a, i64, char>,
+        chunked::inclusive_map::Overlapping<'a, u64, char>,
+        chunked::inclusive_map::Overlapping<'a, i64, char>,
     ),
     pub gaps: (
-        chunked::InclusiveGaps<'a, u64, char>,
-        chunked::InclusiveGaps<'a, i64, char>,
+        chunked::inclusive_map::Gaps<'a, u64, char>,
+        chunked::inclusive_map::Gaps<'a, i64, char>,
     ),
     pub ranges: (
-        chunked::InclusiveSetIter<'a, u64>,
-        chunked::InclusiveSetIter<'a, i64>,
+        chunked::inclusive_set::Iter<'a, u64>,
+        chunked::inclusive_set::Iter<'a, i64>,
     ),
     pub ranges_given: (
-        chunked::InclusiveSetIntoIter<u64>,
-        chunked::InclusiveSetIntoIter<i64>,
+        chunked::inclusive_set::IntoIter<u64>,
+        chunked::inclusive_set::IntoIter<i64>,
     ),
     pub ranges_overlapping: (
-        chunked::InclusiveSetOverlapping<'a, u64>,
-        chunked::InclusiveSetOverlapping<'a, i64>,
+        chunked::inclusive_set::Overlapping<'a, u64>,
+        chunked::inclusive_set::Overlapping<'a, i64>,
     ),
     pub gaps_of_sets: (
-        chunked::InclusiveSetGaps<'a, u64>,
-        chunked::InclusiveSetGaps<'a, i64>,
+        chunked::inclusive_set::Gaps<'a, u64>,
+        chunked::inclusive_set::Gaps<'a, i64>,
     ),
     pub unions: (
-        chunked::InclusiveUnion<'a, u64>,
-        chunked::InclusiveUnion<'a, i64>,
+        chunked::inclusive_set::Union<'a, u64>,
+        chunked::inclusive_set::Union<'a, i64>,
     ),
     pub intersections: (
-        chunked::InclusiveIntersection<'a, u64>,
-        chunked::InclusiveIntersection<'a, i64>,
+        chunked::inclusive_set::Intersection<'a, u64>,
+        chunked::inclusive_set::Intersection<'a, i64>,
+    ),
+    pub differences: (
+        chunked::inclusive_set::Difference<'a, u64>,
+        chunked::inclusive_set::Difference<'a, i64>,
+    ),
+    pub in_one: (
+        chunked::inclusive_set::SymmetricDifference<'a, u64>,
+        chunked::inclusive_set::SymmetricDifference<'a, i64>,
     ),
 }
 
@@ -146,8 +167,8 @@ pub fn walk_chunks<'a>(
     other: &'a chunked::RangeInclusiveMap<i64, char>,
 ) {
     let mut iters: (
-        chunked::InclusiveIter<'a, u64, char>,
-        chunked::InclusiveIter<'a, i64, char>,
+        chunked::inclusive_map::Iter<'a, u64, char>,
+        chunked::inclusive_map::Iter<'a, i64, char>,
     ) = (one.iter(), other.iter());
     let _: Option<(&RangeInclusive<u64>, &char)> = iters.0.next();
     let _: Option<(&RangeInclusive<i64>, &char)> = iters.1.next_back();

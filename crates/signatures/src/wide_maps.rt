@@ -19,6 +19,7 @@ pub fn ask<'a>(map: &'a RangeInclusiveMap<u64, u8>) {
     let _: usize = map.len();
     let _: bool = map.is_empty();
     let _: bool = map.overlaps(&(1..=4));
+    let _: bool = map.covers(&(1..=4));
     let _: &'a Global = map.allocator();
     map.known();
 }

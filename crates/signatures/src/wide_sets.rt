@@ -3,7 +3,8 @@
 
 use crate::root;
 use rangemap::inclusive_set::{
-    Gaps, Intersection, IntoIter, Iter, Overlapping, RangeInclusiveSet, Union,
+    Difference, Gaps, Intersection, IntoIter, Iter, Overlapping, RangeInclusiveSet,
+    SymmetricDifference, Union,
 };
 use rangemap::{Form, ReadError, WriteError, range_inclusive_set};
 use serde_json::Value;
@@ -20,6 +21,10 @@ pub fn ask<'a>(set: &'a RangeInclusiveSet<u64>) {
     let _: usize = set.len();
     let _: bool = set.is_empty();
     let _: bool = set.overlaps(&(1..=4));
+    let _: bool = set.covers(&(1..=4));
+    let _: bool = set.is_subset(set);
+    let _: bool = set.is_superset(set);
+    let _: bool = set.is_disjoint(set);
     let _: &'a Global = set.allocator();
     set.known();
 }
@@ -34,6 +39,8 @@ pub fn lend<'a>(
     let _: Gaps<'a, u64> = set.gaps(range);
     let _: Union<'a, u64> = set.union(other);
     let _: Intersection<'a, u64> = set.intersection(other);
+    let _: Difference<'a, u64> = set.difference(other);
+    let _: SymmetricDifference<'a, u64> = set.symmetric_difference(other);
 }
 
 pub fn change(set: &mut RangeInclusiveSet<u64>, more: RangeInclusiveSet<u64>) {

@@ -1,5 +1,5 @@
 //! Calls at given types of keys, as users make them, and what they promise there.
-ghost use Rattle.std.specs.Prelude.{◌≡◌, ◌≤◌, ◌<◌, ◌^◌, ◌&&◌, ◌||◌, ℕ, IfOk, OnErr, OnOk, Some as SomeWord, false, true};
+ghost use Rattle.std.specs.Prelude.{◌≡◌, ◌≤◌, ◌<◌, ◌^◌, ◌&&◌, ◌||◌, ℕ, IfOk, OnErr, OnOk, Some as SomeWord, false, not, true};
 ghost use Rattle.std.specs.Ordering.{nat_cmp};
 ghost use Rattle.rangemap.specs.CharLaws.{IsChar};
 ghost use Rattle.rangemap.specs.Ranges.{IsCanonOfPoints, closed, covers, half_open, value_at};
@@ -41,6 +41,24 @@ pub fn both_of_characters(
     ensures { IfOk result (λ set. IsCanonOfPoints (closed IsChar nat_cmp) (λ x. covers (closed IsChar nat_cmp) left.now x && covers (closed IsChar nat_cmp) right.now x) set) }
 {
     left & right
+}
+
+pub fn first_closed(
+    left: &RangeInclusiveSet<u64, u64, Global>,
+    right: &RangeInclusiveSet<u64, u64, Global>,
+) -> Result<RangeInclusiveSet<u64, u64, Global>, AllocError>
+    ensures { IfOk result (λ set. IsCanonOfPoints (closed (λ x. x < 2 ^ 64) nat_cmp) (λ x. covers (closed (λ x. x < 2 ^ 64) nat_cmp) left.now x && not (covers (closed (λ x. x < 2 ^ 64) nat_cmp) right.now x)) set) }
+{
+    left - right
+}
+
+pub fn exactly_one_closed(
+    left: &RangeInclusiveSet<u64, u64, Global>,
+    right: &RangeInclusiveSet<u64, u64, Global>,
+) -> Result<RangeInclusiveSet<u64, u64, Global>, AllocError>
+    ensures { IfOk result (λ set. (x : ℕ) → x < 2 ^ 64 → covers (closed (λ x. x < 2 ^ 64) nat_cmp) set x ≡ ((covers (closed (λ x. x < 2 ^ 64) nat_cmp) left.now x && not (covers (closed (λ x. x < 2 ^ 64) nat_cmp) right.now x)) || (covers (closed (λ x. x < 2 ^ 64) nat_cmp) right.now x && not (covers (closed (λ x. x < 2 ^ 64) nat_cmp) left.now x)))) }
+{
+    left ^ right
 }
 
 pub fn receive(
