@@ -7,9 +7,8 @@
 //! too), its number in `containers.rt` there and its arm in `dispatch.rt`, and the number in
 //! `rattle_side`; its `Container` in `containers`, and its name in `measure` below and in `bytes`;
 //! where the Rust crate has another one, too, a `map_store!` or `set_store!` in `rust_side`; and its
-//! place in `workloads.rt` of `crates/tests_examples`: in `MAPS` or `CHUNKED_MAPS`, or in the tests of
-//! `workloads/sets.rt`. The number of a map comes before `SET`, so those of sets move up, in
-//! `rattle_side` too.
+//! place in `workloads.rt` of `crates/tests`: in `MAPS` or `CHUNKED_MAPS`, or in the test of sets. The
+//! number of a map comes before `SET`, so those of sets move up, in `rattle_side` too.
 //!
 //! To add a workload: a variant of `Workload` in `workloads.rt` of `crates/bench_workloads`, or of
 //! `SetWorkload` in `workloads/sets.rt`, its function and its arm in `run` there; its export in

@@ -56,9 +56,14 @@ macro_rules! set_side {
             contents: run!($container, bench_contents),
             unions: run!($container, bench_unions),
             intersections: run!($container, bench_intersections),
+            differences: run!($container, bench_differences),
             joined_sets: run!($container, bench_joined_sets),
             common_sets: run!($container, bench_common_sets),
+            left_sets: run!($container, bench_left_sets),
+            subsets: run!($container, bench_subsets),
             members: run!($container, bench_members),
+            coverings: run!($container, bench_coverings),
+            meetings: run!($container, bench_meetings),
             standing: run!($container, bench_standing),
         }
     };

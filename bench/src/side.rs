@@ -27,14 +27,20 @@ pub struct MapSide {
 /// The bytes of that block, as `crates/bench_workloads/src/workloads.rt` says.
 pub const MARK: usize = 4_099;
 
-/// One side's workloads over a set. The queries are the ranges of a second set, but for `members`.
+/// One side's workloads over a set. The queries are the ranges of a second set, except of `members`,
+/// `coverings` and `meetings`.
 pub struct SetSide {
     pub contents: Run,
     pub unions: Run,
     pub intersections: Run,
+    pub differences: Run,
     pub joined_sets: Run,
     pub common_sets: Run,
+    pub left_sets: Run,
+    pub subsets: Run,
     pub members: Run,
+    pub coverings: Run,
+    pub meetings: Run,
     /// As of a map.
     #[allow(dead_code)]
     pub standing: Run,

@@ -150,6 +150,12 @@ pub const OVER_SETS: &[Workload<SetSide>] = &[
         case: over_two,
     },
     Workload {
+        name: "`difference` to its end",
+        kind: Kind::Steady,
+        run: |side| side.differences,
+        case: over_two,
+    },
+    Workload {
         name: "`bitor`",
         kind: Kind::Steady,
         run: |side| side.joined_sets,
@@ -162,10 +168,34 @@ pub const OVER_SETS: &[Workload<SetSide>] = &[
         case: over_two,
     },
     Workload {
+        name: "`sub`",
+        kind: Kind::Steady,
+        run: |side| side.left_sets,
+        case: over_two,
+    },
+    Workload {
+        name: "`is_subset`, of equal sets",
+        kind: Kind::Steady,
+        run: |side| side.subsets,
+        case: over_equal,
+    },
+    Workload {
         name: "`contains`, half of them misses",
         kind: Kind::Lookups,
         run: |side| side.members,
         case: key_by_key,
+    },
+    Workload {
+        name: "`covers`",
+        kind: Kind::Lookups,
+        run: |side| side.coverings,
+        case: few_keys,
+    },
+    Workload {
+        name: "`overlaps`",
+        kind: Kind::Lookups,
+        run: |side| side.meetings,
+        case: few_keys,
     },
 ];
 
@@ -190,6 +220,11 @@ fn whole(size: usize) -> Case {
 // Keys at random places, half of which no range has.
 fn key_by_key(size: usize) -> Case {
     asked(size, queries(size, 65_536, 1))
+}
+
+// Queries of up to 50 keys at random places, which meet a range or two.
+fn few_keys(size: usize) -> Case {
+    asked(size, queries(size, 65_536, 50))
 }
 
 // Queries that each meet about ten ranges.
@@ -231,6 +266,27 @@ fn over_two(size: usize) -> Case {
     let turns = if inputs.len() == 1 { 1 } else { TURNS };
     Case {
         operations: 2 * size * inputs.len() * turns as usize,
+        inputs,
+        turns,
+        base: Base::NoRounds,
+    }
+}
+
+// The second set has the ranges of the first. An operation is a range of one of them.
+fn over_equal(size: usize) -> Case {
+    let query = |entry: &Entry| Query {
+        start: entry.start,
+        end: entry.end,
+    };
+    let equal = |seed: u64| {
+        let entries = two_sets(size, seed).entries;
+        let queries = entries.iter().map(query).collect();
+        Input { entries, queries }
+    };
+    let inputs: Vec<Input> = (0..list_count(size)).map(equal).collect();
+    let turns = if inputs.len() == 1 { 1 } else { TURNS };
+    Case {
+        operations: size * inputs.len() * turns as usize,
         inputs,
         turns,
         base: Base::NoRounds,

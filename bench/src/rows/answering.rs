@@ -10,9 +10,11 @@ use std::panic::catch_unwind;
 /// Words of calls and questions that the Rust crate has not.
 const OWN_WORDS: &[&str] = &[
     "insert_pairs",
+    "update",
     "append_all",
     "append_gaps",
     "append_overlapping",
+    "blocks",
     "collect_gaps",
     "from_value",
     "law",

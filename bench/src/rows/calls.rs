@@ -2,6 +2,7 @@
 
 use crate::container::{Container, Operators, OwnSteps};
 use crate::fault::{same, Fault};
+use crate::pieces::{in_one, without};
 use crate::ranges::{first_word, pair, pairs, range};
 
 /// What stands between the pairs of a call's list.
@@ -15,6 +16,7 @@ pub fn make<C: Container>(container: &mut C, call: &str) -> Result<(), Fault> {
             let (range, value) = pair(operand)?;
             container.put(range, value);
         }
+        "many" => insert_many(container, operand)?,
         "remove" => container.cut(range(operand)?),
         "clear" => container.forget(),
         "clone" => {
@@ -23,6 +25,18 @@ pub fn make<C: Container>(container: &mut C, call: &str) -> Result<(), Fault> {
             *container = copy;
         }
         _ => return Err(Fault::Unknown(name.to_owned())),
+    }
+    Ok(())
+}
+
+// Inserts so many ranges, with gaps between them.
+fn insert_many<C: Container>(container: &mut C, operand: &str) -> Result<(), Fault> {
+    let (count, item) = first_word(operand);
+    let (dots, value) = first_word(item);
+    let count: u32 = count.parse().map_err(|_| Fault::Unread(operand.to_owned()))?;
+    for start in (0..count).map(|at| 3 * at) {
+        let call = format!("insert {start}{dots}{} {value}", start + 1);
+        make(container, call.trim_end())?;
     }
     Ok(())
 }
@@ -48,6 +62,8 @@ pub fn make_on_set<C: OwnSteps + Operators>(set: &mut C, call: &str) -> Result<(
     match name {
         "or" => *set = set.or(&C::filled(pairs(operand, PLUS)?)),
         "and" => *set = set.and(&C::filled(pairs(operand, PLUS)?)),
+        "without" => *set = without(set, &C::filled(pairs(operand, PLUS)?)),
+        "xor" => *set = in_one(set, &C::filled(pairs(operand, PLUS)?)),
         _ => return make_by_own_steps(set, call),
     }
     Ok(())

@@ -43,6 +43,10 @@ pub trait Container: Clone + Ord + Hash {
     fn meets(&self, query: &Self::Range) -> bool;
     fn free<'a>(&'a self, outer: &'a Self::Range) -> impl Iterator<Item = Self::Range>;
 
+    /// The pieces into which the ends of some ranges, each of which has a key, divide the keys from the
+    /// first of them to the last, in order.
+    fn pieces(ranges: &[Self::Range]) -> Vec<Self::Range>;
+
     /// Makes one of pairs, which are inserted in order.
     fn filled(pairs: Vec<Pair<Self>>) -> Self {
         let mut container = Self::empty();

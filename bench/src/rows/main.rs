@@ -17,6 +17,7 @@ mod file;
 mod items;
 mod keys;
 mod maps;
+mod pieces;
 mod questions;
 mod random;
 mod ranges;

@@ -2,13 +2,14 @@
 
 use crate::container::{Container, Lent, OwnSteps, Pair};
 use crate::fault::{same, Fault};
+use crate::ranges::{closed_pieces, half_open_pieces};
 use crate::word::Word;
 use rangemap::{RangeInclusiveMap, RangeMap, StepFns, StepLite};
 use std::ops::{Range, RangeInclusive};
 
 /// The calls of either map, which have the same names.
 macro_rules! map_calls {
-    ($range:ty, $new:path) => {
+    ($range:ty, $new:path, $pieces:expr) => {
         type Range = $range;
         type Value = V;
 
@@ -74,15 +75,23 @@ macro_rules! map_calls {
         fn free<'a>(&'a self, outer: &'a $range) -> impl Iterator<Item = $range> {
             self.gaps(outer)
         }
+
+        fn pieces(ranges: &[$range]) -> Vec<$range> {
+            $pieces(ranges)
+        }
     };
 }
 
 impl<K: Word, V: Word> Container for RangeMap<K, V> {
-    map_calls!(Range<K>, Self::new);
+    map_calls!(Range<K>, Self::new, half_open_pieces);
 }
 
 impl<K: Word, V: Word, S: StepFns<K> + Clone> Container for RangeInclusiveMap<K, V, S> {
-    map_calls!(RangeInclusive<K>, Self::new_with_step_fns);
+    map_calls!(
+        RangeInclusive<K>,
+        Self::new_with_step_fns,
+        closed_pieces::<K, S>
+    );
 }
 
 /// What either map does besides, where its keys have steps of their own.

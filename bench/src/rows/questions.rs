@@ -4,6 +4,7 @@ use crate::compared::{are_ascending, are_hashed};
 use crate::container::{check_counts, Container, Lent, Operators, OwnSteps, Pair, Set};
 use crate::fault::{same, Fault};
 use crate::items::{joined, made, or_dash, taken};
+use crate::pieces::{covers, in_one, is_disjoint, is_subset, without};
 use crate::ranges::{first_word, pair_words, pairs, query, range_words};
 use crate::word::Word;
 
@@ -43,6 +44,7 @@ pub fn ask<C: Container>(container: &C, question: &Question) -> Result<String, F
         "at" => at(container, question.operand),
         "overlapping" => overlapping(container, question),
         "overlaps" => Ok(container.meets(&query(question.operand)?).to_string()),
+        "covers" => Ok(covers(container, &query(question.operand)?).to_string()),
         "gaps" => {
             let outer = query(question.operand)?;
             let mut gaps = container.free(&outer).map(own_range::<C>);
@@ -83,9 +85,9 @@ pub fn ask_by_own_steps<C: OwnSteps>(container: &C, question: &Question) -> Resu
 
 /// The answer to a question that every set can be asked.
 pub fn ask_set<C: Set>(set: &C, question: &Question) -> Result<String, Fault> {
-    match question.name {
-        "union" | "intersection" => together(set, question),
-        _ => ask(set, question),
+    match ask_of_other(set, question)? {
+        Some(answer) => Ok(answer),
+        None => ask(set, question),
     }
 }
 
@@ -94,10 +96,30 @@ pub fn ask_set_by_own_steps<C: OwnSteps + Operators>(
     set: &C,
     question: &Question,
 ) -> Result<String, Fault> {
-    match question.name {
-        "union" | "intersection" => together(set, question),
-        _ => ask_by_own_steps(set, question),
+    match ask_of_other(set, question)? {
+        Some(answer) => Ok(answer),
+        None => ask_by_own_steps(set, question),
     }
+}
+
+// The answer to a question of a set and another one, or nothing where the question is none.
+fn ask_of_other<C: Set>(set: &C, question: &Question) -> Result<Option<String>, Fault> {
+    let other = || Ok(C::filled(pairs(question.operand, COMMA)?));
+    Ok(Some(match question.name {
+        "union" | "intersection" => together(set, question)?,
+        "difference" => unhinted(&without(set, &other()?), question.rest)?,
+        "symmetric_difference" => unhinted(&in_one(set, &other()?), question.rest)?,
+        "subset" => is_subset(set, &other()?).to_string(),
+        "superset" => is_subset(&other()?, set).to_string(),
+        "disjoint" => is_disjoint(set, &other()?).to_string(),
+        _ => return Ok(None),
+    }))
+}
+
+// What a script takes of the ranges of a set, of which isn't told beforehand how many they are.
+fn unhinted<C: Set>(set: &C, script: &str) -> Result<String, Fault> {
+    let mut words = set.ranges().map(range_words);
+    made(&mut std::iter::from_fn(|| words.next()), script)
 }
 
 // The pair that holds a key, or nothing.

@@ -56,11 +56,14 @@ const fn kind(name: &'static str, containers: &'static str, is_closed: bool, is_
     }
 }
 
+/// The words of the operators of sets.
+const OPERATORS: [&str; 4] = ["or", "and", "without", "xor"];
+
 /// Keys lie below this, but for some near the last one.
 const KEYS: u64 = 60;
 
 impl Kind {
-    /// A call, which is an `extend` only where one may be made.
+    /// A call, which is an `extend` or that of an operator only where these may be made.
     pub fn call(self, random: &mut Random, may_extend: bool) -> String {
         match random.below(40) {
             0 => "clear".to_owned(),
@@ -69,8 +72,16 @@ impl Kind {
                 .trim_end()
                 .to_owned(),
             3..=13 => format!("remove {}", self.range(random)),
+            14..=17 if may_extend && !self.is_map => self.operator(random),
             _ => format!("insert {}", self.pair(random)),
         }
+    }
+
+    // The call of an operator of sets.
+    fn operator(self, random: &mut Random) -> String {
+        let word = OPERATORS[random.below(OPERATORS.len() as u64) as usize];
+        let list = self.list(random, " + ");
+        format!("{word} {list}").trim_end().to_owned()
     }
 
     /// A key.

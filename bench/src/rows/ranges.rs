@@ -3,6 +3,8 @@
 
 use crate::fault::Fault;
 use crate::word::Word;
+use rangemap::StepFns;
+use std::collections::BTreeSet;
 use std::ops::{Range, RangeInclusive};
 
 /// A range with a start and an end.
@@ -21,6 +23,9 @@ pub trait KeyRange: Clone + PartialEq {
 
     /// Whether a key lies in it.
     fn holds_key(&self) -> bool;
+
+    /// Whether this key lies in it.
+    fn has(&self, key: &Self::Key) -> bool;
 }
 
 impl<K: Word> KeyRange for Range<K> {
@@ -38,6 +43,10 @@ impl<K: Word> KeyRange for Range<K> {
 
     fn holds_key(&self) -> bool {
         !self.is_empty()
+    }
+
+    fn has(&self, key: &K) -> bool {
+        self.contains(key)
     }
 }
 
@@ -57,6 +66,39 @@ impl<K: Word> KeyRange for RangeInclusive<K> {
     fn holds_key(&self) -> bool {
         !self.is_empty()
     }
+
+    fn has(&self, key: &K) -> bool {
+        self.contains(key)
+    }
+}
+
+/// The pieces into which the ends of half-open ranges divide the keys: each goes to the next end.
+pub fn half_open_pieces<K: Word>(ranges: &[Range<K>]) -> Vec<Range<K>> {
+    let ends = ranges.iter().flat_map(|range| [&range.start, &range.end]);
+    let ends: BTreeSet<&K> = ends.collect();
+    let behind = ends.iter().skip(1);
+    let pairs = ends.iter().zip(behind);
+    pairs
+        .map(|(&start, &end)| start.clone()..end.clone())
+        .collect()
+}
+
+/// The pieces into which the ends of closed ranges divide the keys: one starts where a range does, and
+/// one a step behind its end, but for the last of all, behind which there may be no key.
+pub fn closed_pieces<K: Word, S: StepFns<K>>(
+    ranges: &[RangeInclusive<K>],
+) -> Vec<RangeInclusive<K>> {
+    let Some(last) = ranges.iter().map(RangeInclusive::end).max() else {
+        return Vec::new();
+    };
+    let ends = ranges.iter().map(RangeInclusive::end);
+    let behind = ends.filter(|&end| end < last).map(S::add_one);
+    let starts = ranges.iter().map(|range| range.start().clone());
+    let starts: BTreeSet<K> = starts.chain(behind).collect();
+    let ends = starts.iter().skip(1).map(S::sub_one);
+    let ends: Vec<K> = ends.chain([last.clone()]).collect();
+    let pairs = starts.iter().zip(ends);
+    pairs.map(|(start, end)| start.clone()..=end).collect()
 }
 
 /// The range that a query names, which may be empty or reversed.

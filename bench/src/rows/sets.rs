@@ -2,6 +2,7 @@
 
 use crate::container::{Container, Lent, Operators, OwnSteps, Pair, Set};
 use crate::fault::{same, Fault};
+use crate::ranges::{closed_pieces, half_open_pieces};
 use crate::word::Word;
 use rangemap::{inclusive_set, set};
 use rangemap::{RangeInclusiveSet, RangeSet, StepFns, StepLite};
@@ -10,7 +11,7 @@ use std::ops::{Range, RangeInclusive};
 
 /// The calls of either set, which have the same names.
 macro_rules! set_calls {
-    ($range:ty, $new:path) => {
+    ($range:ty, $new:path, $pieces:expr) => {
         type Range = $range;
         type Value = ();
 
@@ -73,15 +74,23 @@ macro_rules! set_calls {
         fn free<'a>(&'a self, outer: &'a $range) -> impl Iterator<Item = $range> {
             self.gaps(outer)
         }
+
+        fn pieces(ranges: &[$range]) -> Vec<$range> {
+            $pieces(ranges)
+        }
     };
 }
 
 impl<K: Word> Container for RangeSet<K> {
-    set_calls!(Range<K>, Self::new);
+    set_calls!(Range<K>, Self::new, half_open_pieces);
 }
 
 impl<K: Word, S: StepFns<K> + Clone + Ord + Hash> Container for RangeInclusiveSet<K, S> {
-    set_calls!(RangeInclusive<K>, Self::new_with_step_fns);
+    set_calls!(
+        RangeInclusive<K>,
+        Self::new_with_step_fns,
+        closed_pieces::<K, S>
+    );
 }
 
 /// What two of either set make.

@@ -30,6 +30,8 @@ pub const SUBJECTS: &[Subject] = &[
     subject("map u32 noted", own_steps::<RangeMap<u32, Noted>>),
     subject("map i8 text", own_steps::<RangeMap<i8, String>>),
     subject("map char text", own_steps::<RangeMap<char, String>>),
+    subject("map u64 char", own_steps::<RangeMap<u64, char>>),
+    subject("map i64 char", own_steps::<RangeMap<i64, char>>),
     subject("map text char", own_steps::<RangeMap<String, char>>),
     subject(
         "map text/u32 char",
@@ -41,6 +43,8 @@ pub const SUBJECTS: &[Subject] = &[
     subject("imap u32 text", own_steps::<RangeInclusiveMap<u32, String>>),
     subject("imap u32 u32", own_steps::<RangeInclusiveMap<u32, u32>>),
     subject("imap u32 noted", own_steps::<RangeInclusiveMap<u32, Noted>>),
+    subject("imap u64 char", own_steps::<RangeInclusiveMap<u64, char>>),
+    subject("imap i64 char", own_steps::<RangeInclusiveMap<i64, char>>),
     subject("imap u8 text", own_steps::<RangeInclusiveMap<u8, String>>),
     subject("imap i8 text", own_steps::<RangeInclusiveMap<i8, String>>),
     subject("imap costly char", own_steps::<RangeInclusiveMap<u8, char>>),
@@ -57,6 +61,9 @@ pub const SUBJECTS: &[Subject] = &[
     subject("set u32", set_of_own_steps::<RangeSet<u32>>),
     subject("set costly", set_of_own_steps::<RangeSet<u8>>),
     subject("set text", set_of_own_steps::<RangeSet<String>>),
+    subject("set u64", set_of_own_steps::<RangeSet<u64>>),
+    subject("set i64", set_of_own_steps::<RangeSet<i64>>),
+    subject("set char", set_of_own_steps::<RangeSet<char>>),
     subject("iset u8", set_of_own_steps::<RangeInclusiveSet<u8>>),
     subject("iset u16", set_of_own_steps::<RangeInclusiveSet<u16>>),
     subject("iset u32", set_of_own_steps::<RangeInclusiveSet<u32>>),
@@ -81,7 +88,7 @@ pub const SUBJECTS: &[Subject] = &[
 ];
 
 /// Containers of the rows for whose keys the Rust crate has no steps.
-pub const WITHOUT_STEPS: &[&str] = &["iset char", "iset isize"];
+pub const WITHOUT_STEPS: &[&str] = &["imap char char", "iset char", "iset isize"];
 
 /// The subject of a name, of which there is one.
 pub fn named(name: &str) -> Option<&'static Subject> {

@@ -8,11 +8,12 @@ use std::io::{self, BufWriter, Error, Write};
 use std::path::Path;
 
 /// The words of questions, which are asked in turn.
-const QUESTIONS: [&str; 13] = [
+const QUESTIONS: [&str; 14] = [
     "holds",
     "at",
     "overlapping",
     "overlaps",
+    "covers",
     "gaps",
     "iter",
     "into_iter",
@@ -25,10 +26,26 @@ const QUESTIONS: [&str; 13] = [
 ];
 
 /// Those of sets alone.
-const QUESTIONS_OF_SETS: [&str; 2] = ["union", "intersection"];
+const QUESTIONS_OF_SETS: [&str; 7] = [
+    "union",
+    "intersection",
+    "difference",
+    "symmetric_difference",
+    "subset",
+    "superset",
+    "disjoint",
+];
 
 /// Questions that the Rattle program asks containers over any steps, which it does not extend.
-const WITHOUT_EXTEND: [&str; 5] = ["overlapping", "gaps", "ascending", "union", "intersection"];
+const WITHOUT_EXTEND: [&str; 7] = [
+    "overlapping",
+    "gaps",
+    "ascending",
+    "union",
+    "intersection",
+    "difference",
+    "symmetric_difference",
+];
 
 /// A row that the Rust crate has answered, or its calls and question with what it panicked with.
 enum Made {
@@ -111,13 +128,16 @@ fn row(kind: Kind, answer: Answer, random: &mut Random, word: &str) -> io::Resul
 fn question(kind: Kind, random: &mut Random, word: &str, held: &str) -> String {
     let operand = match word {
         "at" => kind.key(random).to_string(),
-        "overlaps" => kind.query(random),
+        "overlaps" | "covers" => kind.query(random),
         "overlapping" => scripted(kind.query(random), both_ends(random)),
         "gaps" => scripted(kind.query(random), one_end(random)),
         "union" if held.contains(',') => scripted(kind.list(random, ", "), of_rest(random)),
-        "union" | "intersection" => scripted(kind.list(random, ", "), one_end(random)),
+        "union" | "intersection" | "difference" | "symmetric_difference" => {
+            scripted(kind.list(random, ", "), one_end(random))
+        }
         "iter" | "into_iter" => both_ends(random),
-        "equals" => nearly(kind, random, held),
+        "equals" | "subset" | "superset" => nearly(kind, random, held),
+        "disjoint" => kind.list(random, ", "),
         "ascending" => ascending(kind, random, held),
         _ => String::new(),
     };

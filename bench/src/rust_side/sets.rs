@@ -13,8 +13,16 @@ trait SetStore: Store {
     fn has(&self, key: u64) -> bool;
     fn mix_of_union(&self, other: &Self) -> u64;
     fn mix_of_intersection(&self, other: &Self) -> u64;
+    fn mix_of_difference(&self, other: &Self) -> u64;
     fn joined_with(&self, other: &Self) -> Self;
     fn common_with(&self, other: &Self) -> Self;
+
+    /// What the other set leaves free, which the Rust crate's user makes of gaps.
+    fn without(&self, other: &Self) -> Self;
+
+    fn is_within(&self, other: &Self) -> bool;
+    fn covers(&self, query: &Query) -> bool;
+    fn meets(&self, query: &Query) -> bool;
 }
 
 macro_rules! set_store {
@@ -50,12 +58,35 @@ macro_rules! set_store {
                 mixed(self.intersection(other).map(|item| item.number()))
             }
 
+            fn mix_of_difference(&self, other: &Self) -> u64 {
+                let parts = self.iter().flat_map(|range| other.gaps(range));
+                mixed(parts.map(|part| part.number()))
+            }
+
             fn joined_with(&self, other: &Self) -> Self {
                 self | other
             }
 
             fn common_with(&self, other: &Self) -> Self {
                 self & other
+            }
+
+            fn without(&self, other: &Self) -> Self {
+                self.iter().flat_map(|range| other.gaps(range)).collect()
+            }
+
+            fn is_within(&self, other: &Self) -> bool {
+                self.iter().all(|range| other.gaps(range).next().is_none())
+            }
+
+            fn covers(&self, query: &Query) -> bool {
+                let range = Keys::up_to(query.start, query.end);
+                let is_free = self.gaps(&range).next().is_some();
+                !is_free
+            }
+
+            fn meets(&self, query: &Query) -> bool {
+                self.overlaps(&Keys::up_to(query.start, query.end))
             }
         }
     };
@@ -70,6 +101,7 @@ const fn side<S: SetStore>() -> SetSide {
         contents: contents::<S>,
         unions: |left, right, rounds| over_two(left, right, rounds, S::mix_of_union),
         intersections: |left, right, rounds| over_two(left, right, rounds, S::mix_of_intersection),
+        differences: |left, right, rounds| over_two(left, right, rounds, S::mix_of_difference),
         joined_sets: |left, right, rounds| {
             over_two(left, right, rounds, |left: &S, right| {
                 left.joined_with(right).digest()
@@ -80,9 +112,29 @@ const fn side<S: SetStore>() -> SetSide {
                 left.common_with(right).digest()
             })
         },
+        left_sets: |left, right, rounds| {
+            over_two(left, right, rounds, |left: &S, right| {
+                left.without(right).digest()
+            })
+        },
+        subsets: |left, right, rounds| {
+            over_two(left, right, rounds, |left: &S, right| {
+                u64::from(left.is_within(right))
+            })
+        },
         members: |entries, queries, rounds| {
             asked(entries, queries, rounds, |set: &S, query| {
                 u64::from(set.has(query.start))
+            })
+        },
+        coverings: |entries, queries, rounds| {
+            asked(entries, queries, rounds, |set: &S, query| {
+                u64::from(set.covers(query))
+            })
+        },
+        meetings: |entries, queries, rounds| {
+            asked(entries, queries, rounds, |set: &S, query| {
+                u64::from(set.meets(query))
             })
         },
         standing: |entries, _, rounds| repeat(rounds, |_| marked::<S>(entries).len() as u64),

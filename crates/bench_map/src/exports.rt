@@ -319,3 +319,98 @@ pub extern "C" fn bench_members(
         rounds,
     ))
 }
+
+/// The items of the difference of two sets.
+#[unsafe(no_mangle)]
+pub extern "C" fn bench_differences(
+    alloc: Global,
+    container: u32,
+    entries: &[Entry],
+    queries: &[Query],
+    rounds: u32,
+) -> u64 {
+    answer(over_set(
+        SetWorkload::Differences,
+        alloc,
+        container,
+        entries,
+        queries,
+        rounds,
+    ))
+}
+
+/// The set of the keys that only the first of two sets has.
+#[unsafe(no_mangle)]
+pub extern "C" fn bench_left_sets(
+    alloc: Global,
+    container: u32,
+    entries: &[Entry],
+    queries: &[Query],
+    rounds: u32,
+) -> u64 {
+    answer(over_set(
+        SetWorkload::LeftSets,
+        alloc,
+        container,
+        entries,
+        queries,
+        rounds,
+    ))
+}
+
+/// Whether a set lies within another one.
+#[unsafe(no_mangle)]
+pub extern "C" fn bench_subsets(
+    alloc: Global,
+    container: u32,
+    entries: &[Entry],
+    queries: &[Query],
+    rounds: u32,
+) -> u64 {
+    answer(over_set(
+        SetWorkload::Subsets,
+        alloc,
+        container,
+        entries,
+        queries,
+        rounds,
+    ))
+}
+
+/// Whether each query is covered by the set.
+#[unsafe(no_mangle)]
+pub extern "C" fn bench_coverings(
+    alloc: Global,
+    container: u32,
+    entries: &[Entry],
+    queries: &[Query],
+    rounds: u32,
+) -> u64 {
+    answer(over_set(
+        SetWorkload::Coverings,
+        alloc,
+        container,
+        entries,
+        queries,
+        rounds,
+    ))
+}
+
+/// Whether each query overlaps a range of the set.
+#[unsafe(no_mangle)]
+pub extern "C" fn bench_meetings(
+    alloc: Global,
+    container: u32,
+    entries: &[Entry],
+    queries: &[Query],
+    rounds: u32,
+) -> u64 {
+    answer(over_set(
+        SetWorkload::Meetings,
+        alloc,
+        container,
+        entries,
+        queries,
+        rounds,
+    ))
+}

@@ -1,9 +1,9 @@
 //! Numbers that tell what a map answers from other answers.
 
 use crate::keys::Keys;
+use crate::readers::{ReadsGaps, ReadsPairs};
 use crate::value::Stored;
 use std::alloc::AllocError;
-use tests_support::{ReadsGaps, ReadsPairs};
 
 // A number that tells the range and the value from others.
 #[inline(always)]

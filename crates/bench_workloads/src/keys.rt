@@ -1,11 +1,11 @@
 //! The ranges that workloads make and read.
 ghost use Rattle.std.specs.Prelude.{◌<◌};
 
+use rangemap_core::key_range::KeyRange;
 use std::ops::{Range, RangeInclusive};
-use tests_support::FromEnds;
 
 /// A range of keys, told by its first key and the one behind its last.
-pub trait Keys: FromEnds<Key = u64> {
+pub trait Keys: KeyRange<Key = u64> {
     /// The range from its first key up to the one behind its last.
     fn up_to(first: u64, behind: u64) -> Self
         ensures non_empty { first < behind → Self.has_key result }

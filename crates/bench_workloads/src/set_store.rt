@@ -1,13 +1,13 @@
 //! What the workloads ask of sets beside what they ask of every map.
 
 use crate::keys::Keys;
+use crate::readers::{ReadsGaps, tell_gaps};
 use crate::store::Store;
 use rangemap::set::Set;
 use rangemap_chunked::Chunks;
 use rangemap_core::kind::Kind;
 use rangemap_sorted::SortedVec;
 use std::alloc::{AllocError, Global};
-use tests_support::{ReadsGaps, tell_gaps};
 
 /// A set of `u64` keys.
 pub trait SetStore: Store {
@@ -25,11 +25,24 @@ pub trait SetStore: Store {
         reader: &mut U,
     ) -> Result<(), AllocError>;
 
+    /// Tells a reader of the parts that `other` leaves free, in the same way.
+    fn read_difference<U: ReadsGaps<Self::Range>>(
+        &self,
+        other: &Self,
+        reader: &mut U,
+    ) -> Result<(), AllocError>;
+
     /// `self | other`.
     fn joined_with(&self, other: &Self) -> Result<Self, AllocError>;
 
     /// `self & other`.
     fn common_with(&self, other: &Self) -> Result<Self, AllocError>;
+
+    /// `self - other`.
+    fn without(&self, other: &Self) -> Result<Self, AllocError>;
+
+    /// `is_subset`.
+    fn is_within(&self, other: &Self) -> bool;
 }
 
 impl<Q: Kind<R, Steps = R::Key>, R: Keys> SetStore for Set<SortedVec<Q, R, (), Global>> {
@@ -45,12 +58,28 @@ impl<Q: Kind<R, Steps = R::Key>, R: Keys> SetStore for Set<SortedVec<Q, R, (), G
         tell_gaps(self.intersection(other), reader)
     }
 
+    fn read_difference<U: ReadsGaps<R>>(
+        &self,
+        other: &Self,
+        reader: &mut U,
+    ) -> Result<(), AllocError> {
+        tell_gaps(self.difference(other), reader)
+    }
+
     fn joined_with(&self, other: &Self) -> Result<Self, AllocError> {
         self | other
     }
 
     fn common_with(&self, other: &Self) -> Result<Self, AllocError> {
         self & other
+    }
+
+    fn without(&self, other: &Self) -> Result<Self, AllocError> {
+        self - other
+    }
+
+    fn is_within(&self, other: &Self) -> bool {
+        self.is_subset(other)
     }
 }
 
@@ -68,11 +97,27 @@ impl<Q: Kind<R, Steps = R::Key>, R: Keys, const N: usize> SetStore
         tell_gaps(self.intersection(other), reader)
     }
 
+    fn read_difference<U: ReadsGaps<R>>(
+        &self,
+        other: &Self,
+        reader: &mut U,
+    ) -> Result<(), AllocError> {
+        tell_gaps(self.difference(other), reader)
+    }
+
     fn joined_with(&self, other: &Self) -> Result<Self, AllocError> {
         self | other
     }
 
     fn common_with(&self, other: &Self) -> Result<Self, AllocError> {
         self & other
+    }
+
+    fn without(&self, other: &Self) -> Result<Self, AllocError> {
+        self - other
+    }
+
+    fn is_within(&self, other: &Self) -> bool {
+        self.is_subset(other)
     }
 }
