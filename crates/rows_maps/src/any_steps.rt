@@ -95,7 +95,7 @@ where
     match question.name {
         "len" | "ends" => count(map, question, out),
         "at" => at(map, question, out),
-        "overlaps" => overlaps(map, question, out),
+        "overlaps" | "covers" => ask_of_range(map, question, out),
         "ascending" | "hashed" => compare::<S>(*map.allocator(), question, out),
         "equals" => equals(map, question, out),
         _ => Err(Fault::NoQuestion),
@@ -163,16 +163,21 @@ fn same_words<V: Word<A>, A: Copy>(one: &V, other: &V, out: &String) -> Result<b
     Ok(first.as_str() == second.as_str())
 }
 
-fn overlaps<S>(map: &Map<S>, question: &Question<'_>, out: &mut String) -> Result<(), Fault>
+// Whether some key of a range has a value, or each.
+fn ask_of_range<S>(map: &Map<S>, question: &Question<'_>, out: &mut String) -> Result<(), Fault>
 where
     S: StoreMut<Alloc: Memory, Range: FromEnds<Key: Word<S::Alloc>>, Value: Word<S::Alloc>>,
 {
     let alloc = *map.allocator();
     let range: S::Range = query_of(alloc, question.operand)?;
     alloc.begin(question.granted);
-    let is_met = map.overlaps(&range);
+    let is_so = if question.name == "overlaps" {
+        map.overlaps(&range)
+    } else {
+        map.covers(&range)
+    };
     alloc.end();
-    Ok(write!(out, "{is_met}")?)
+    Ok(write!(out, "{is_so}")?)
 }
 
 // Compares a map with the one that a list of pairs makes, by `==` and by `!=`.

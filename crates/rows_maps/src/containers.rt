@@ -43,6 +43,8 @@ pub fn run_texts<'h>(heap: &'h Heap, session: &mut Session<'_>) -> Result<(), Al
     runs::own_in_vector::<HalfOpen, Range<i8>, Text<'h>, _>(heap, "map i8 text", session)?;
     runs::own_in_tree::<i8, Text<'h>, _>(heap, "map i8 text", session)?;
     runs::own_in_vector::<HalfOpen, Range<char>, Text<'h>, _>(heap, "map char text", session)?;
+    runs::any_in_tree::<char, Text<'h>, _>(heap, "map char text", session)?;
+    runs::any_in_chunks::<HalfOpen, Range<char>, Text<'h>, 2>(heap, "map char text", session)?;
     runs::any_in_vector::<HalfOpen, Range<(Text<'h>, u32)>, char, _>(
         heap,
         "map text/u32 char",
@@ -171,6 +173,46 @@ pub fn run_closed_maps_of_keys<'h>(
     )
 }
 
+/// Runs the rows of maps over ranges of 64 bits and of characters.
+pub fn run_wide_maps(heap: &Heap, session: &mut Session<'_>) -> Result<(), AllocError> {
+    runs::any_in_vector::<HalfOpen, Range<u64>, char, _>(heap, "map u64 char", session)?;
+    runs::any_in_tree::<u64, char, _>(heap, "map u64 char", session)?;
+    runs::any_in_chunks::<HalfOpen, Range<u64>, char, 2>(heap, "map u64 char", session)?;
+    runs::any_in_vector::<HalfOpen, Range<i64>, char, _>(heap, "map i64 char", session)?;
+    runs::any_in_tree::<i64, char, _>(heap, "map i64 char", session)?;
+    runs::any_in_chunks::<HalfOpen, Range<i64>, char, 2>(heap, "map i64 char", session)?;
+    runs::any_in_vector::<Closed<u64>, RangeInclusive<u64>, char, _>(
+        heap,
+        "imap u64 char",
+        session,
+    )?;
+    runs::any_in_chunks::<Closed<u64>, RangeInclusive<u64>, char, 2>(
+        heap,
+        "imap u64 char",
+        session,
+    )?;
+    runs::any_in_vector::<Closed<i64>, RangeInclusive<i64>, char, _>(
+        heap,
+        "imap i64 char",
+        session,
+    )?;
+    runs::any_in_chunks::<Closed<i64>, RangeInclusive<i64>, char, 2>(
+        heap,
+        "imap i64 char",
+        session,
+    )?;
+    runs::any_in_vector::<Closed<char>, RangeInclusive<char>, char, _>(
+        heap,
+        "imap char char",
+        session,
+    )?;
+    runs::any_in_chunks::<Closed<char>, RangeInclusive<char>, char, 2>(
+        heap,
+        "imap char char",
+        session,
+    )
+}
+
 /// Runs the rows of maps over half-open ranges.
 pub fn run_json<'h>(heap: &'h Heap, session: &mut Session<'_>) -> Result<(), AllocError> {
     json::json_in_vector::<HalfOpen, Range<u32>, Text<'h>, _>(heap, "map u32 text", session)?;
@@ -180,6 +222,9 @@ pub fn run_json<'h>(heap: &'h Heap, session: &mut Session<'_>) -> Result<(), All
     json::numbers_in_tree(heap, "map u32 u32", session)?;
     json::numbers_in_chunks::<HalfOpen, Range<u32>, 2>(heap, "map u32 u32", session)?;
     json::numbers_in_chunks::<HalfOpen, Range<u32>, 512>(heap, "map u32 u32", session)?;
+    json::json_in_vector::<HalfOpen, Range<u32>, Noted, _>(heap, "map u32 noted", session)?;
+    json::json_in_tree::<u32, Noted, _>(heap, "map u32 noted", session)?;
+    json::json_in_chunks::<HalfOpen, Range<u32>, Noted, 2>(heap, "map u32 noted", session)?;
     json::json_in_vector::<HalfOpen, Range<Costly<'h>>, Costly<'h>, _>(
         heap,
         "map costly costly",
@@ -210,6 +255,16 @@ pub fn run_closed_json<'h>(heap: &'h Heap, session: &mut Session<'_>) -> Result<
     json::numbers_in_chunks::<Closed<u32>, RangeInclusive<u32>, 512>(
         heap,
         "imap u32 u32",
+        session,
+    )?;
+    json::json_in_vector::<Closed<u32>, RangeInclusive<u32>, Noted, _>(
+        heap,
+        "imap u32 noted",
+        session,
+    )?;
+    json::json_in_chunks::<Closed<u32>, RangeInclusive<u32>, Noted, 2>(
+        heap,
+        "imap u32 noted",
         session,
     )?;
     json::json_in_vector::<Closed<Costly<'h>>, RangeInclusive<Costly<'h>>, Costly<'h>, _>(

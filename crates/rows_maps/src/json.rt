@@ -6,8 +6,7 @@ use rangemap_core::kind::Kind;
 use rangemap_core::store::{HandsOver, StoreMut};
 use rangemap_sorted::SortedVec;
 use rangemap_tree::Tree;
-use rows_json::{JsonMap, JsonWord, MapRoundTrips};
-use rows_runner::{Group, Known, Session};
+use rows_runner::{Group, JsonMap, JsonWord, Known, MapRoundTrips, Session};
 use rows_text::{FromEnds, Heap, Memory};
 use std::alloc::AllocError;
 

@@ -1,5 +1,5 @@
 //! Runs rows on maps over every store: `rows_maps FILE ..` reads the files and prints how many rows there
-//! were for each container, and what differed.
+//! were for each container, and what differed. `random SEED COUNT` stands for a file of so many random rows.
 //!
 //! `any_steps` says what each word does to a map over any store, `own_steps` what those do that ask for
 //! steps of the key's own type, and `replays` reads the calls of a replay.
@@ -16,15 +16,16 @@ mod replays;
 mod runs;
 mod stores;
 
-use rows_runner::{Read, Report, Session, read_files, read_rows, tell};
+use rows_runner::{Family, Read, Report, Session, read_files, read_rows, tell};
 use rows_text::Refusing;
 use std::alloc::AllocError;
 use std::io;
 use std::process::ExitCode;
 
 // Every word that maps know: the calls, and then the questions.
-const WORDS: [&str; 34] = [
+const WORDS: [&str; 38] = [
     "insert",
+    "many",
     "remove",
     "clear",
     "clone",
@@ -32,6 +33,7 @@ const WORDS: [&str; 34] = [
     "extend",
     "from_iter",
     "insert_pairs",
+    "update",
     "holds",
     "at",
     "overlapping",
@@ -41,6 +43,7 @@ const WORDS: [&str; 34] = [
     "len",
     "ends",
     "overlaps",
+    "covers",
     "into_iter",
     "debug",
     "lines",
@@ -57,6 +60,7 @@ const WORDS: [&str; 34] = [
     "to_value",
     "from_value",
     "round_trips",
+    "blocks",
     "refuse",
 ];
 
@@ -72,13 +76,14 @@ fn run_all(rt: &HostRuntime, read: &Read<'_>) -> Result<Report, AllocError> {
     containers::run_texts(&heap, &mut session)?;
     containers::run_closed_maps(&heap, &mut session)?;
     containers::run_closed_maps_of_keys(&heap, &mut session)?;
+    containers::run_wide_maps(&heap, &mut session)?;
     containers::run_json(&heap, &mut session)?;
     containers::run_closed_json(&heap, &mut session)?;
     session.end(&WORDS)
 }
 
 fn serve(rt: &HostRuntime) -> io::Result<ExitCode> {
-    let files = read_files(rt)?;
+    let files = read_files(rt, Family::Maps)?;
     let read = read_rows(rt.alloc(), files.as_slice())?;
     let report = run_all(rt, &read)?;
     tell(rt, &report)

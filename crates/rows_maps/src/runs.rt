@@ -12,8 +12,7 @@ use rangemap_core::kind::Kind;
 use rangemap_core::store::{HandsOver, StoreMut};
 use rangemap_sorted::SortedVec;
 use rangemap_tree::Tree;
-use rows_laws::AnyContainer;
-use rows_runner::{Group, Known, Session};
+use rows_runner::{AnyContainer, Group, Known, Session};
 use rows_text::{FromEnds, Heap, Memory, Subject, Word};
 use std::alloc::AllocError;
 

@@ -2,13 +2,10 @@
 //!
 //! What is refused has to leave all as it was: what the container holds, and the blocks that are held.
 
+use crate::making::{MANY, held, is_call_accepted, make};
 use crate::row::{Row, name_of};
-use crate::runner::{ask, make};
 use crate::words::is_call;
 use rows_text::{Fault, Heap, Question, Subject};
-
-// A number of requests that no call here makes.
-const MANY: u64 = 1000;
 
 /// Refuses each request of what a text names, and appends how many there are and what comes of it.
 /// Returns how many were refused.
@@ -19,11 +16,13 @@ pub fn refuse<T: Subject>(
     text: &str,
     found: &mut String,
 ) -> Result<u64, Fault> {
-    let (name, operand) = name_of(text);
+    let (name, _) = name_of(text);
     match name {
-        "extend" => refuse_extend(heap, subject, row, operand, found),
+        "extend" | "update" => refuse_kept(heap, subject, row, text, found),
         "run" | "replay" => refuse_commands(heap, subject, row, text, found),
-        "gaps" | "union" | "intersection" => refuse_items(heap, subject, row, text, found),
+        "gaps" | "union" | "intersection" | "difference" | "symmetric_difference" => refuse_items(
+            heap, subject, row, text, found,
+        ),
         _ if is_call(name) => refuse_call(heap, subject, row, text, found),
         _ => refuse_question(heap, subject, row, text, found),
     }
@@ -71,13 +70,6 @@ fn note(accepted: &mut Option<Accepted>, granted: u64, outcome: String) -> Resul
     }
 }
 
-// What a container holds.
-fn held<T: Subject>(subject: &T, out: &String) -> Result<String, Fault> {
-    let mut list = String::new(*out.allocator());
-    ask(subject, "iter", &mut list)?;
-    Ok(list)
-}
-
 // Refuses the requests of a call.
 fn refuse_call<T: Subject>(
     heap: &Heap,
@@ -88,7 +80,7 @@ fn refuse_call<T: Subject>(
 ) -> Result<u64, Fault> {
     let mut accepted = None;
     for granted in 0..MANY {
-        make(subject, row)?;
+        make(heap, subject, row, found)?;
         let is_accepted = is_call_accepted(heap, subject, call, granted, found)?;
         let has_refused = heap.has_refused();
         if is_accepted {
@@ -103,28 +95,6 @@ fn refuse_call<T: Subject>(
         }
     }
     Err(Fault::TooManyRequests)
-}
-
-// Makes a call of which a request is refused. Where the call is refused all is as before.
-fn is_call_accepted<T: Subject>(
-    heap: &Heap,
-    subject: &mut T,
-    call: &str,
-    granted: u64,
-    found: &String,
-) -> Result<bool, Fault> {
-    let before = held(subject, found)?;
-    let blocks = heap.held();
-    match subject.change(call, granted) {
-        Ok(()) => Ok(true),
-        Err(Fault::Refused) => {
-            if heap.held() != blocks || held(subject, found)?.as_str() != before.as_str() {
-                return Err(Fault::Differs);
-            }
-            Ok(false)
-        }
-        Err(fault) => Err(fault),
-    }
 }
 
 // Asks a question of which a request is refused.
@@ -149,7 +119,7 @@ fn refuse_question<T: Subject>(
     text: &str,
     found: &mut String,
 ) -> Result<u64, Fault> {
-    make(subject, row)?;
+    make(heap, subject, row, found)?;
     let (before, blocks) = (held(subject, found)?, heap.held());
     let mut accepted = None;
     for granted in 0..MANY {
@@ -181,7 +151,7 @@ fn refuse_commands<T: Subject>(
     found: &mut String,
 ) -> Result<u64, Fault> {
     let mut outcomes = String::new(*found.allocator());
-    make(subject, row)?;
+    make(heap, subject, row, found)?;
     for granted in 0..MANY {
         let answer = ask_refused(subject, &Question::of(text, granted), found)?;
         if granted > 0 {
@@ -199,26 +169,19 @@ fn refuse_commands<T: Subject>(
     Err(Fault::TooManyRequests)
 }
 
-// Refuses the requests of an `extend`, and appends what is kept of its items for each number of granted
-// ones. Inserts of the same items one by one keep the same; `from_iter` makes all or nothing.
-fn refuse_extend<T: Subject>(
+// Refuses the requests of an `extend` or an `update`, and appends what the container then holds for each
+// number of granted ones. Such a call keeps what it did before the refusal.
+fn refuse_kept<T: Subject>(
     heap: &Heap,
     subject: &mut T,
     row: &Row<'_>,
-    items: &str,
+    text: &str,
     found: &mut String,
 ) -> Result<u64, Fault> {
     let mut outcomes = String::new(*found.allocator());
     let mut accepted = None;
     for granted in 0..MANY {
-        let (is_accepted, has_refused) = extend_alike(
-            heap,
-            subject,
-            row,
-            items,
-            granted,
-            &mut outcomes,
-        )?;
+        let (is_accepted, has_refused) = keep(heap, subject, row, text, granted, &mut outcomes)?;
         if is_accepted && !has_refused {
             write_counts(&accepted, granted, outcomes.as_str(), found)?;
             return Ok(granted);
@@ -232,8 +195,27 @@ fn refuse_extend<T: Subject>(
     Err(Fault::TooManyRequests)
 }
 
+// Makes an `extend` or an `update` on the container of a row, and appends what it then holds. Answers
+// whether the call was accepted, and whether a request was refused.
+fn keep<T: Subject>(
+    heap: &Heap,
+    subject: &mut T,
+    row: &Row<'_>,
+    text: &str,
+    granted: u64,
+    out: &mut String,
+) -> Result<(bool, bool), Fault> {
+    let call = name_of(text);
+    if call.0 == "extend" {
+        return extend_alike(heap, subject, row, call.1, granted, out);
+    }
+    let made = made_by(heap, subject, row, call, granted, out)?;
+    out.push_str(made.list.as_str())?;
+    Ok(made.answers())
+}
+
 // Extends a container by `extend` and, made anew, by `insert_pairs`, and appends what it then holds,
-// which has to be the same. Answers whether it was accepted, and whether a request was refused.
+// which has to be the same. `from_iter` makes all or nothing. Answers as `keep` does.
 fn extend_alike<T: Subject>(
     heap: &Heap,
     subject: &mut T,
@@ -295,7 +277,7 @@ fn made_by<T: Subject>(
     granted: u64,
     out: &String,
 ) -> Result<Made, Fault> {
-    make(subject, row)?;
+    make(heap, subject, row, out)?;
     let text = format!(in *out.allocator(); "{} {}", call.0, call.1)?;
     let is_accepted = match subject.change(text.as_str(), granted) {
         Ok(()) => true,
@@ -320,7 +302,7 @@ fn refuse_items<T: Subject>(
     text: &str,
     found: &mut String,
 ) -> Result<u64, Fault> {
-    make(subject, row)?;
+    make(heap, subject, row, found)?;
     let mut counts: Vec<u64> = Vec::new(*found.allocator());
     for granted in 0..MANY {
         let tried = items(subject, text, "T", granted, found)?;

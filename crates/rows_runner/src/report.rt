@@ -55,8 +55,13 @@ impl Report {
         let (file, line, calls, question) = (row.file, row.line, row.calls, row.question);
         write!(
             self.text,
-            "{file}:{line}: {name}: {calls} | {question}\n  found:  {found}\n  wanted: {wanted}\n"
-        )
+            "{file}:{line}: {name}: {calls} | {question} | {}\n",
+            row.answer
+        )?;
+        if !row.given.is_empty() {
+            write!(self.text, "  given {}\n", row.given)?;
+        }
+        write!(self.text, "  found:  {found}\n  wanted: {wanted}\n")
     }
 
     /// A row was run on no container.

@@ -1,6 +1,6 @@
 //! The parts of a row.
 
-use crate::words::Known;
+use crate::words::{Known, call_of};
 use rows_text::first_word;
 
 /// A row, in its parts.
@@ -52,7 +52,7 @@ fn begins(name: &str, words: &str) -> bool {
 // Whether one of some calls has this name.
 fn has_call(calls: &str, name: &str) -> bool {
     for call in calls.split(", ") {
-        if first_word(call).0 == name {
+        if first_word(call).0 == name || call_of(call) == name {
             return true;
         }
     }

@@ -1,5 +1,7 @@
 //! A row, run on a container.
 
+use crate::making::{ask, make};
+use crate::open::{write_blocks, write_counted};
 use crate::refusals::refuse;
 use crate::report::Report;
 use crate::row::{Row, name_of};
@@ -35,28 +37,6 @@ pub fn run_row<T: Subject>(
     Ok(refused)
 }
 
-/// Makes the calls of a row on an empty container.
-pub fn make<T: Subject>(subject: &mut T, row: &Row<'_>) -> Result<(), Fault> {
-    subject.renew();
-    make_all(subject, row.given)?;
-    make_all(subject, row.calls)
-}
-
-// Makes calls, with commas between them.
-fn make_all<T: Subject>(subject: &mut T, calls: &str) -> Result<(), Fault> {
-    for call in calls.split(", ") {
-        if !call.is_empty() {
-            subject.change(call, u64::MAX)?;
-        }
-    }
-    Ok(())
-}
-
-/// Asks, with no request refused.
-pub fn ask<T: Subject>(subject: &T, question: &str, out: &mut String) -> Result<(), Fault> {
-    subject.ask(&Question::of(question, u64::MAX), out)
-}
-
 // Asks a question with an operand, and appends a semicolon.
 fn ask_of<T: Subject>(
     subject: &T,
@@ -85,10 +65,13 @@ fn answer<T: Subject>(
 ) -> Result<u64, Fault> {
     let (name, operand) = name_of(row.question);
     if name == "refuse" {
+        let mut counted = String::new(*found.allocator());
+        let refused = refuse(heap, subject, row, operand, &mut counted)?;
         wanted.push_str(row.answer)?;
-        return refuse(heap, subject, row, operand, found);
+        write_counted(counted.as_str(), row.answer, found)?;
+        return Ok(refused);
     }
-    make(subject, row)?;
+    let refused = make(heap, subject, row, found)?;
     match name {
         "holds" => {
             want_held(row.answer, wanted)?;
@@ -96,12 +79,16 @@ fn answer<T: Subject>(
         }
         "overlapping" => ask_overlapping(subject, row, found, wanted)?,
         "at" => ask_at(subject, row, found, wanted)?,
+        "blocks" => {
+            wanted.push_str(row.answer)?;
+            write_blocks(heap.held(), row.answer, found)?;
+        }
         _ => {
             wanted.push_str(row.answer)?;
             ask(subject, row.question, found)?;
         }
     }
-    Ok(0)
+    Ok(refused)
 }
 
 // What a container that holds the items of a list is to answer.

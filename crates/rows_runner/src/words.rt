@@ -10,6 +10,8 @@ pub enum Group {
     AnySteps,
     /// What one is asked whose keys have steps of their own, or none.
     OwnSteps,
+    /// What a set is asked that becomes what an operator makes of it and another.
+    Operators,
     /// What every container is asked, maps and sets alike.
     AnyContainer,
     /// What one is asked for its JSON form.
@@ -24,6 +26,7 @@ impl Group {
         match self {
             Group::AnySteps => "over any steps",
             Group::OwnSteps => "over own steps",
+            Group::Operators => "by operators",
             Group::AnyContainer => "as any container",
             Group::Json => "as JSON",
             Group::RoundTrips => "in round trips",
@@ -38,6 +41,8 @@ pub struct Known {
     pub any_steps: bool,
     /// Whether `Group::OwnSteps` does.
     pub own_steps: bool,
+    /// Whether `Group::Operators` does.
+    pub operators: bool,
     /// Whether `Group::AnyContainer` does.
     pub any_container: bool,
     /// Whether `Group::Json` does.
@@ -61,11 +66,18 @@ impl Known {
     /// The one over any steps.
     pub const ANY_STEPS: Known = Known {
         own_steps: false,
+        operators: false,
+        ..Known::BY_STEPS
+    };
+    /// That one, and the one of operators.
+    pub const ANY_STEPS_AND_OPERATORS: Known = Known {
+        own_steps: false,
         ..Known::BY_STEPS
     };
     /// Those that do without own steps.
     pub const NOT_OWN_STEPS: Known = Known {
         own_steps: false,
+        operators: false,
         ..Known::ALL
     };
 
@@ -83,6 +95,7 @@ impl Known {
     const EVERY: Known = Known {
         any_steps: true,
         own_steps: true,
+        operators: true,
         any_container: true,
         json: true,
         round_trips: true,
@@ -91,6 +104,7 @@ impl Known {
     const NONE: Known = Known {
         any_steps: false,
         own_steps: false,
+        operators: false,
         any_container: false,
         json: false,
         round_trips: false,
@@ -102,6 +116,11 @@ impl Known {
     };
 
     const OWN_STEPS: Known = Known {
+        operators: false,
+        ..Known::OPERATORS
+    };
+
+    const OPERATORS: Known = Known {
         any_steps: false,
         ..Known::BY_STEPS
     };
@@ -116,6 +135,7 @@ impl Known {
         Known {
             any_steps: self.any_steps && other.any_steps,
             own_steps: self.own_steps && other.own_steps,
+            operators: self.operators && other.operators,
             any_container: self.any_container && other.any_container,
             json: self.json && other.json,
             round_trips: self.round_trips && other.round_trips,
@@ -129,6 +149,8 @@ impl Known {
             Some(Group::AnySteps)
         } else if both.own_steps {
             Some(Group::OwnSteps)
+        } else if both.operators {
+            Some(Group::Operators)
         } else if both.any_container {
             Some(Group::AnyContainer)
         } else if both.json {
@@ -149,9 +171,11 @@ pub fn is_call(word: &str) -> bool {
 // The subjects that know a call.
 fn known_call(word: &str) -> Option<Known> {
     match word {
-        "insert" => Some(Known::EVERY),
+        "insert" | "many" => Some(Known::EVERY),
         "remove" | "clear" | "clone" => Some(Known::ALL),
-        "new" | "extend" | "from_iter" | "insert_pairs" | "or" | "and" => Some(Known::OWN_STEPS),
+        "update" => Some(Known::ANY_CONTAINER),
+        "new" | "extend" | "from_iter" | "insert_pairs" => Some(Known::OWN_STEPS),
+        "or" | "and" | "without" | "xor" => Some(Known::OPERATORS),
         _ => None,
     }
 }
@@ -159,11 +183,11 @@ fn known_call(word: &str) -> Option<Known> {
 // The subjects that know a question.
 fn known_question(word: &str) -> Option<Known> {
     match word {
-        "holds" | "iter" | "len" | "ends" => Some(Known::ALL),
-        "at" | "equals" | "overlaps" => Some(Known::BY_STEPS),
-        "overlapping" | "gaps" | "union" | "intersection" | "ascending" | "hashed" => {
-            Some(Known::ANY_STEPS)
-        }
+        "holds" | "iter" | "len" | "ends" | "blocks" => Some(Known::ALL),
+        "at" | "equals" | "overlaps" | "covers" => Some(Known::BY_STEPS),
+        "subset" | "superset" | "disjoint" => Some(Known::BY_STEPS),
+        "overlapping" | "gaps" | "ascending" | "hashed" => Some(Known::ANY_STEPS),
+        "union" | "intersection" | "difference" | "symmetric_difference" => Some(Known::ANY_STEPS),
         "into_iter" | "lines" | "operators" => Some(Known::OWN_STEPS),
         "debug" => Some(Known {
             round_trips: true,
@@ -179,8 +203,8 @@ fn known_question(word: &str) -> Option<Known> {
         | "segments"
         | "run" => Some(Known::ANY_CONTAINER),
         "replay" => Some(Known {
-            any_steps: false,
-            ..Known::ALL
+            any_container: true,
+            ..Known::OWN_STEPS
         }),
         _ => None,
     }
@@ -191,10 +215,15 @@ pub fn known_calls(calls: &str) -> Option<Known> {
     let mut known = Known::EVERY;
     for call in calls.split(", ") {
         if !call.is_empty() {
-            known = known.and(known_call(first_word(call).0)?);
+            known = known.and(known_call(call_of(call))?);
         }
     }
     Some(known)
+}
+
+/// The name of a call, of one that is refused memory before it is made too.
+pub fn call_of(call: &str) -> &str {
+    first_word(call.strip_prefix("refuse ").unwrap_or(call)).0
 }
 
 /// The subjects that know a question, unless it is none.

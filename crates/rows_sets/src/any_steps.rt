@@ -99,9 +99,9 @@ where
     match question.name {
         "len" | "ends" => count(set, question, out),
         "at" => at(set, question, out),
-        "overlaps" => overlaps(set, question, out),
+        "overlaps" | "covers" => ask_of_range(set, question, out),
         "ascending" | "hashed" => compare::<S>(*set.allocator(), question, out),
-        "equals" => equals(set, question, out),
+        "equals" | "subset" | "superset" | "disjoint" => ask_of_other(set, question, out),
         _ => Err(Fault::NoQuestion),
     }
 }
@@ -149,32 +149,42 @@ where
     write_found_range::<S::Range, S::Alloc>(range, out)
 }
 
-fn overlaps<S>(set: &Set<S>, question: &Question<'_>, out: &mut String) -> Result<(), Fault>
+// Whether a set has some key of a range, or each.
+fn ask_of_range<S>(set: &Set<S>, question: &Question<'_>, out: &mut String) -> Result<(), Fault>
 where
     S: StoreMut<Value = (), Alloc: Memory, Range: FromEnds<Key: Word<S::Alloc>>>,
 {
     let alloc = *set.allocator();
     let range: S::Range = query_of(alloc, question.operand)?;
     alloc.begin(question.granted);
-    let is_met = set.overlaps(&range);
+    let is_so = if question.name == "overlaps" {
+        set.overlaps(&range)
+    } else {
+        set.covers(&range)
+    };
     alloc.end();
-    Ok(write!(out, "{is_met}")?)
+    Ok(write!(out, "{is_so}")?)
 }
 
-// Compares a set with the one that a list of ranges makes, by `==` and by `!=`.
-fn equals<S>(set: &Set<S>, question: &Question<'_>, out: &mut String) -> Result<(), Fault>
+// Compares a set with the one that a list of ranges makes, each time by two calls that have to agree.
+fn ask_of_other<S>(set: &Set<S>, question: &Question<'_>, out: &mut String) -> Result<(), Fault>
 where
     S: StoreMut<Value = (), Alloc: Memory, Range: FromEnds<Key: Word<S::Alloc>>> + Drop,
 {
     let alloc = *set.allocator();
     let other: Set<S> = made_of(alloc, question.operand)?;
     alloc.begin(question.granted);
-    let (is_equal, differs) = (*set == other, *set != other);
+    let (is_so, is_not) = match question.name {
+        "subset" => (set.is_subset(&other), !other.is_superset(set)),
+        "superset" => (set.is_superset(&other), !other.is_subset(set)),
+        "disjoint" => (set.is_disjoint(&other), !other.is_disjoint(set)),
+        _ => (*set == other, *set != other),
+    };
     alloc.end();
-    if is_equal == differs {
+    if is_so == is_not {
         return Err(Fault::Differs);
     }
-    Ok(write!(out, "{is_equal}")?)
+    Ok(write!(out, "{is_so}")?)
 }
 
 // Compares sets that lists make, with each other: whether they ascend, or which of them hash alike.
@@ -225,7 +235,9 @@ where
 {
     match question.name {
         "overlapping" | "gaps" => Ok(Asked::Range(query_of(alloc, question.operand)?)),
-        "union" | "intersection" => Ok(Asked::Other(made_of(alloc, question.operand)?)),
+        "union" | "intersection" | "difference" | "symmetric_difference" => {
+            Ok(Asked::Other(made_of(alloc, question.operand)?))
+        }
         _ => Ok(Asked::Nothing),
     }
 }
@@ -291,7 +303,7 @@ where
     answer
 }
 
-// Appends what is taken of the union with another set, or of the intersection.
+// Appends what is taken of the union with another set, of the intersection or of either difference.
 fn ask_both<'a, S>(
     set: &'a Set<S>,
     other: &'a Set<S>,
@@ -305,8 +317,9 @@ where
     S::Value: 'a,
 {
     let alloc = *set.allocator();
-    let script = question.script;
-    if script.starts_with('f') || script.starts_with('b') {
+    let (name, script) = (question.name, question.script);
+    let is_of_rest = script.starts_with('f') || script.starts_with('b');
+    if is_of_rest && !name.ends_with("difference") {
         return write_rest::<S::Iter, LentRanges<S::Alloc>, OwnRanges<S::Alloc>>(
             set.iter(),
             other.iter(),
@@ -315,10 +328,15 @@ where
         );
     }
     alloc.begin(question.granted);
-    let answer = if question.name == "union" {
-        write_made::<_, OwnRanges<S::Alloc>>(set.union(other), script, out)
-    } else {
-        write_made::<_, OwnRanges<S::Alloc>>(set.intersection(other), script, out)
+    let answer = match name {
+        "union" => write_made::<_, OwnRanges<S::Alloc>>(set.union(other), script, out),
+        "intersection" => write_made::<_, OwnRanges<S::Alloc>>(
+            set.intersection(other),
+            script,
+            out,
+        ),
+        "difference" => write_made::<_, OwnRanges<S::Alloc>>(set.difference(other), script, out),
+        _ => write_made::<_, OwnRanges<S::Alloc>>(set.symmetric_difference(other), script, out),
     };
     alloc.end();
     answer

@@ -6,8 +6,7 @@ use rangemap_core::kind::Kind;
 use rangemap_core::store::{HandsOver, Store, StoreMut};
 use rangemap_sorted::SortedVec;
 use rangemap_tree::Tree;
-use rows_json::{JsonSet, JsonWord, SetRoundTrips};
-use rows_runner::{Group, Known, Session};
+use rows_runner::{Group, JsonSet, JsonWord, Known, Session, SetRoundTrips};
 use rows_text::{FromEnds, Heap, Memory};
 use std::alloc::AllocError;
 

@@ -1,9 +1,9 @@
 //! Runs rows on sets over every store: `rows_sets FILE ..` reads the files and prints how many rows there
-//! were for each container, and what differed.
+//! were for each container, and what differed. `random SEED COUNT` stands for a file of so many random rows.
 //!
 //! `any_steps` says what each word does to a set over any store, `own_steps` what those do that ask for
-//! steps of the key's own type, and `replays` reads the calls of a replay. `operators` runs the laws of `|` and `&`, and `rests` asks what a set makes of which a range
-//! was taken.
+//! steps of the key's own type, and `replays` reads the calls of a replay. `operators` runs the laws of
+//! operators, and `rests` asks what a set makes of which a range was taken.
 //! `stores` has the impls of sets over each store, since what lends its pairs is known of a store alone.
 //! `runs` runs rows on them, `json` on those that are asked for their JSON form, and `containers` names
 //! them all.
@@ -19,15 +19,16 @@ mod rests;
 mod runs;
 mod stores;
 
-use rows_runner::{Read, Report, Session, read_files, read_rows, tell};
+use rows_runner::{Family, Read, Report, Session, read_files, read_rows, tell};
 use rows_text::Refusing;
 use std::alloc::AllocError;
 use std::io;
 use std::process::ExitCode;
 
 // Every word that sets know: the calls, and then the questions.
-const WORDS: [&str; 39] = [
+const WORDS: [&str; 50] = [
     "insert",
+    "many",
     "remove",
     "clear",
     "clone",
@@ -35,8 +36,11 @@ const WORDS: [&str; 39] = [
     "extend",
     "from_iter",
     "insert_pairs",
+    "update",
     "or",
     "and",
+    "without",
+    "xor",
     "holds",
     "at",
     "overlapping",
@@ -46,6 +50,10 @@ const WORDS: [&str; 39] = [
     "len",
     "ends",
     "overlaps",
+    "covers",
+    "subset",
+    "superset",
+    "disjoint",
     "into_iter",
     "debug",
     "lines",
@@ -64,7 +72,10 @@ const WORDS: [&str; 39] = [
     "round_trips",
     "union",
     "intersection",
+    "difference",
+    "symmetric_difference",
     "operators",
+    "blocks",
     "refuse",
 ];
 
@@ -77,6 +88,7 @@ fn run_all(rt: &HostRuntime, read: &Read<'_>) -> Result<Report, AllocError> {
     }
     let mut session = Session::new(&heap, read.rows.as_slice(), report)?;
     containers::run_sets(&heap, &mut session)?;
+    containers::run_sets_of_keys(&heap, &mut session)?;
     containers::run_closed_sets(&heap, &mut session)?;
     containers::run_ends(&heap, &mut session)?;
     containers::run_json(&heap, &mut session)?;
@@ -84,7 +96,7 @@ fn run_all(rt: &HostRuntime, read: &Read<'_>) -> Result<Report, AllocError> {
 }
 
 fn serve(rt: &HostRuntime) -> io::Result<ExitCode> {
-    let files = read_files(rt)?;
+    let files = read_files(rt, Family::Sets)?;
     let read = read_rows(rt.alloc(), files.as_slice())?;
     let report = run_all(rt, &read)?;
     tell(rt, &report)

@@ -1,7 +1,10 @@
-//! The laws of `|` and `&`, run on a set and on others that a question has.
+//! The laws of operators, run on a set and on others that a question has.
 
 use crate::any_steps::made_of;
-use rangemap::laws::sets::{Operator, absorbs, associates, commutes, distributes, is_idempotent};
+use rangemap::laws::sets::{
+    Operator, absorbs, associates, cancels, commutes, distributes, is_either_without_common,
+    is_idempotent, is_subset_exactly_where_nothing_is_left, makes_up, turns_over,
+};
 use rangemap::set::Set;
 use rangemap_core::key_range::KeyRange;
 use rangemap_core::kind::Kind;
@@ -9,9 +12,46 @@ use rangemap_core::store::{HandsOver, StoreMut};
 use rows_text::{Fault, FromEnds, Memory, OwnRanges, Question, Word, first_word, write_all};
 use std::alloc::AllocError;
 
-/// Runs the law that a question names first, of the operator that it names then, on a set, the set of
-/// the list behind that and the one of the list behind a semicolon. Appends what both sides make.
+/// Runs the law that a question names on a set and the sets of the lists behind it, and appends what both
+/// sides make.
 pub fn ask<S>(set: &Set<S>, question: &Question<'_>, out: &mut String) -> Result<(), Fault>
+where
+    S: StoreMut<Value = (), Alloc: Memory, Range: FromEnds<Key: Word<S::Alloc>>> + HandsOver + Drop,
+    S::Kind: Kind<S::Range, Steps = <S::Range as KeyRange>::Key>,
+{
+    let (law, list) = first_word(question.operand);
+    match law {
+        "makes_up" | "cancels" | "either_without_common" | "subset" => {
+            let other: Set<S> = made_of(*set.allocator(), list)?;
+            ask_with(set, &other, law, out)
+        }
+        _ => ask_of_operator(set, question, out),
+    }
+}
+
+// Runs a law of `-` or `^` on two sets. Whether one is a subset of the other is whether `-` leaves nothing.
+fn ask_with<S>(set: &Set<S>, other: &Set<S>, law: &str, out: &mut String) -> Result<(), Fault>
+where
+    S: StoreMut<Value = (), Alloc: Memory, Range: FromEnds<Key: Word<S::Alloc>>> + HandsOver + Drop,
+    S::Kind: Kind<S::Range, Steps = <S::Range as KeyRange>::Key>,
+{
+    match law {
+        "makes_up" => write_set(&makes_up(set, other)?, out),
+        "cancels" => write_set(&cancels(set, other)?, out),
+        "subset" => {
+            let (is_subset, is_nothing_left) = is_subset_exactly_where_nothing_is_left(set, other)?;
+            if is_subset != is_nothing_left {
+                return Err(Fault::Differs);
+            }
+            Ok(write!(out, "{is_subset}")?)
+        }
+        _ => write_both(is_either_without_common(set, other), out),
+    }
+}
+
+// Runs a law of `|` or `&`, which the word behind the law names, on a set, the set of the list behind
+// that and the one of the list behind a semicolon.
+fn ask_of_operator<S>(set: &Set<S>, question: &Question<'_>, out: &mut String) -> Result<(), Fault>
 where
     S: StoreMut<Value = (), Alloc: Memory, Range: FromEnds<Key: Word<S::Alloc>>> + HandsOver + Drop,
     S::Kind: Kind<S::Range, Steps = <S::Range as KeyRange>::Key>,
@@ -29,6 +69,7 @@ where
         }
         "associates" => write_both(associates(operator, set, &second, &third), out),
         "distributes" => write_both(distributes(operator, set, &second, &third), out),
+        "turns_over" => write_both(turns_over(operator, set, &second, &third), out),
         "idempotent" => write_set(&is_idempotent(operator, set)?, out),
         "absorbs" => write_set(&absorbs(operator, set, &second)?, out),
         _ => Err(Fault::NoOperand),

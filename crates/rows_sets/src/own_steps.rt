@@ -45,7 +45,9 @@ where
         let (name, operand) = first_word(call);
         match name {
             "extend" => extend(&mut self.set, operand, granted),
-            "or" | "and" => become_joined(&mut self.set, (name, operand), granted),
+            "or" | "and" | "without" | "xor" => {
+                become_joined(&mut self.set, (name, operand), granted)
+            }
             "insert_pairs" => insert_list(&mut self.set, operand, granted),
             "from_iter" => become_made(&mut self.set, operand, granted),
             "new" => become_new(&mut self.set, granted),
@@ -60,6 +62,52 @@ where
             "operators" => operators::ask(&self.set, question, out),
             "debug" => debug(&self.set, question, out),
             "lines" => lines(&self.set, question, out),
+            _ => any_steps::ask(&self.set, question, out),
+        }
+    }
+}
+
+/// A set that has the operators alone of what needs its key's own steps. The compiler makes fewer copies of
+/// functions for it than for `OwnSteps`.
+#[derive(Drop)]
+pub struct WithOperators<S: Store<Value = ()>> {
+    set: Set<S>,
+}
+
+impl<S: StoreMut<Value = (), Alloc: Memory>> WithOperators<S>
+where
+    S::Kind: Kind<S::Range, Steps = <S::Range as KeyRange>::Key>,
+{
+    /// The empty set.
+    pub fn new(alloc: S::Alloc) -> WithOperators<S> {
+        WithOperators {
+            set: Set::new(alloc),
+        }
+    }
+}
+
+impl<S> Subject for WithOperators<S>
+where
+    S: StoreMut<Value = (), Alloc: Memory, Range: FromEnds<Key: Word<S::Alloc>>> + HandsOver + Drop,
+    S::Kind: Kind<S::Range, Steps = <S::Range as KeyRange>::Key>,
+{
+    fn renew(&mut self) {
+        any_steps::renew(&mut self.set);
+    }
+
+    fn change(&mut self, call: &str, granted: u64) -> Result<(), Fault> {
+        let (name, operand) = first_word(call);
+        match name {
+            "or" | "and" | "without" | "xor" => {
+                become_joined(&mut self.set, (name, operand), granted)
+            }
+            _ => any_steps::change(&mut self.set, call, granted),
+        }
+    }
+
+    fn ask(&self, question: &Question<'_>, out: &mut String) -> Result<(), Fault> {
+        match question.name {
+            "iter" => hand_over(&self.set, question, out),
             _ => any_steps::ask(&self.set, question, out),
         }
     }
@@ -127,7 +175,7 @@ where
     insert_pairs(set, pairs)
 }
 
-// Puts the set of the keys of this one or of that of a list, or of both, in its place.
+// Puts the set that an operator makes of this one and of that of a list in its place.
 fn become_joined<S>(set: &mut Set<S>, call: (&str, &str), granted: u64) -> Result<(), Fault>
 where
     S: StoreMut<Value = (), Alloc: Memory, Range: FromEnds<Key: Word<S::Alloc>>> + Drop,
@@ -138,10 +186,11 @@ where
     let ranges = ranges_of::<S::Kind, S::Range, S::Alloc>(alloc, ranges)?;
     let other: Set<S> = made_from(alloc, ranges)?;
     alloc.begin(granted);
-    let made = if name == "or" {
-        &*set | &other
-    } else {
-        &*set & &other
+    let made = match name {
+        "or" => &*set | &other,
+        "and" => &*set & &other,
+        "without" => &*set - &other,
+        _ => &*set ^ &other,
     };
     alloc.end();
     *set = made?;

@@ -55,6 +55,14 @@ fn call_of<Q: Kind<R>, R: KeyRange<Key: Word<A>>, A: Allocator + Copy>(
             let (left, right) = places(operands)?;
             Ok(SetCall::Intersection { left, right })
         }
+        "difference" => {
+            let (left, right) = places(operands)?;
+            Ok(SetCall::Difference { left, right })
+        }
+        "symmetric_difference" => {
+            let (left, right) = places(operands)?;
+            Ok(SetCall::SymmetricDifference { left, right })
+        }
         _ => Ok(set_call::<Q, R, A>(change_of::<Q, R, (), A>(alloc, at, call)?)),
     }
 }

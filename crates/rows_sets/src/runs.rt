@@ -1,9 +1,10 @@
 //! Sets over each store, each named once over open keys.
 //!
 //! Every set is asked what can be over any steps. Some are asked besides what only those over their
-//! key's own steps can be, and what every container can be.
+//! key's own steps can be, and what every container can be. Others have the operators alone of what
+//! needs own steps.
 
-use crate::own_steps::OwnSteps;
+use crate::own_steps::{OwnSteps, WithOperators};
 use crate::stores::AnySteps;
 use rangemap::set::Set;
 use rangemap_chunked::Chunks;
@@ -12,8 +13,7 @@ use rangemap_core::kind::Kind;
 use rangemap_core::store::{HandsOver, Store, StoreMut};
 use rangemap_sorted::SortedVec;
 use rangemap_tree::Tree;
-use rows_laws::AnyContainer;
-use rows_runner::{Group, Known, Session};
+use rows_runner::{AnyContainer, Group, Known, Session};
 use rows_text::{FromEnds, Heap, Memory, Subject, Word};
 use std::alloc::AllocError;
 
@@ -66,6 +66,24 @@ where
     session.run(name, made, Group::OwnSteps, &mut set)
 }
 
+// Runs the rows that have operators, of a set over its key's own steps.
+fn run_operators<S>(
+    alloc: S::Alloc,
+    name: &str,
+    session: &mut Session<'_>,
+) -> Result<(), AllocError>
+where
+    S: StoreMut<Alloc: Memory, Range: FromEnds<Key: Word<S::Alloc>>>
+        + Store<Value = ()>
+        + HandsOver
+        + Drop,
+    S::Kind: Kind<S::Range, Steps = <S::Range as KeyRange>::Key>,
+{
+    let made = Known::ANY_STEPS_AND_OPERATORS;
+    let mut set: WithOperators<S> = WithOperators::new(alloc);
+    session.run(name, made, Group::Operators, &mut set)
+}
+
 /// Runs the rows of a set in a sorted vector, over any steps.
 pub fn any_in_vector<Q, R, A>(
     alloc: A,
@@ -94,6 +112,21 @@ where
 {
     let name = session.name(kind, "vector")?;
     run_container::<SortedVec<Q, R, (), A>>(alloc, name.as_str(), Known::NOT_OWN_STEPS, session)
+}
+
+/// Runs the rows that have operators, of a set in a sorted vector.
+pub fn operators_in_vector<Q, R, A>(
+    alloc: A,
+    kind: &str,
+    session: &mut Session<'_>,
+) -> Result<(), AllocError>
+where
+    Q: Kind<R, Steps = R::Key>,
+    R: FromEnds<Key: Word<A>>,
+    A: Memory,
+{
+    let name = session.name(kind, "vector")?;
+    run_operators::<SortedVec<Q, R, (), A>>(alloc, name.as_str(), session)
 }
 
 /// Runs the rows of a set in a sorted vector, over its key's own steps.
@@ -136,6 +169,20 @@ where
 {
     let name = session.name(kind, "tree")?;
     run_any::<Tree<K, (), A>>(alloc, name.as_str(), Known::ANY_STEPS, session)
+}
+
+/// Runs the rows that have operators, of a set in a tree.
+pub fn operators_in_tree<K, A>(
+    alloc: A,
+    kind: &str,
+    session: &mut Session<'_>,
+) -> Result<(), AllocError>
+where
+    K: Word<A>,
+    A: Memory,
+{
+    let name = session.name(kind, "tree")?;
+    run_operators::<Tree<K, (), A>>(alloc, name.as_str(), session)
 }
 
 /// Runs the rows of a set in a tree, over its key's own steps.
@@ -191,6 +238,20 @@ where
         Known::NOT_OWN_STEPS,
         session,
     )
+}
+
+/// Runs the rows that have operators, of a set in chunks of up to `N` ranges.
+pub fn operators_in_chunks<'h, Q, R, const N: usize>(
+    heap: &'h Heap,
+    kind: &str,
+    session: &mut Session<'_>,
+) -> Result<(), AllocError>
+where
+    Q: Kind<R, Steps = R::Key>,
+    R: FromEnds<Key: Word<&'h Heap>>,
+{
+    let name = session.name_in_chunks(kind, N)?;
+    run_operators::<Chunks<Q, R, (), &'h Heap, N>>(heap, name.as_str(), session)
 }
 
 /// Runs the rows of a set in chunks of up to `N` ranges, over its key's own steps.

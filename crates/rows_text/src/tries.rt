@@ -4,11 +4,12 @@ use rangemap_core::cursor::{LentCursor, Peek};
 use rangemap_core::gaps::Gaps;
 use rangemap_core::key_range::KeyRange;
 use rangemap_core::kind::Kind;
-use rangemap_unions::{Intersection, Union};
+use rangemap_unions::{Difference, Intersection, SymmetricDifference, Union};
 use std::alloc::AllocError;
 use std::iter::Iterator;
 
-/// An iterator whose items are made of clones, which may be refused: gaps, unions, intersections.
+/// An iterator whose items are made of clones, which may be refused: gaps, unions, intersections,
+/// differences.
 pub trait Tries: Iterator + Drop {
     /// What is made.
     type Range: Drop;
@@ -40,6 +41,22 @@ impl<C: Peek> Tries for Intersection<C> {
     type Range = C::Range;
 
     fn try_next(&mut self) -> Result<Option<C::Range>, AllocError> {
+        self.try_next()
+    }
+}
+
+impl<Q: Kind<R>, R: KeyRange, C: Peek<Range = R>> Tries for Difference<Q, R, C> {
+    type Range = R;
+
+    fn try_next(&mut self) -> Result<Option<R>, AllocError> {
+        self.try_next()
+    }
+}
+
+impl<Q: Kind<R>, R: KeyRange, C: Peek<Range = R>> Tries for SymmetricDifference<Q, R, C> {
+    type Range = R;
+
+    fn try_next(&mut self) -> Result<Option<R>, AllocError> {
         self.try_next()
     }
 }

@@ -1,6 +1,0 @@
-use Rattle.std.specs.List.{AllByRecursion}
-use Rattle.rangemap.specs.Runs.{IsAllowed}
-use Rattle.rows_laws.proofs.commands.commands_of.Given as goal
-
-abbrev pub invariant-loop-command : goal.invariant-loop-command
-invariant-loop-command g l = AllByRecursion (IsAllowed g.Q.Kind.kind) l.all.items
