@@ -1,10 +1,11 @@
 //! What was found, compared with what is expected.
 //!
-//! What differs is told as a `Fail`, since only a test may end itself.
+//! What differs is told as a `Fail`, except by `assert_same`, which ends the test.
 
 use rows_text::Heap;
 use std::alloc::{AllocError, Global};
 use std::fmt::{Debug, Display};
+use std::process::Abort;
 use std::test::Fail;
 
 /// A number of requests that no call here makes.
@@ -70,4 +71,14 @@ pub fn check_tried<T: Debug + Drop>(
         (is_made, has_refused, heap.held()),
         (requests.0 <= granted, granted < all, 0),
     )
+}
+
+/// Ends the test where what was found is not what is expected, as `assert_eq!` does, to which it
+/// hands both.
+///
+/// A test calls it in place of that macro, which borrows both sides: with several of these the
+/// check of a test takes five times as long. Where the proof of a later call rests on what was
+/// compared, the macro stays.
+pub fn assert_same<T: PartialEq + Debug + Drop, R: Abort>(rt: &R, found: T, expected: T) {
+    assert_eq!(rt; found, expected);
 }

@@ -6,13 +6,18 @@ use rangemap::map::Map;
 use rangemap::set::Set;
 use rangemap_chunked::Chunks;
 use rangemap_core::closed::Closed;
-use rangemap_core::store::{Lends, StoreMut};
+use rangemap_core::store::Lends;
 use rangemap_sorted::SortedVec;
 use std::alloc::Global;
 use std::fmt::Debug;
 use std::iter::DoubleEndedIterator;
 use std::ops::RangeInclusive;
 use std::test::Fail;
+
+// Stores of closed ranges of bytes.
+type InVector<V> = SortedVec<Closed<u8>, RangeInclusive<u8>, V, Global>;
+
+type InChunks<V> = Chunks<Closed<u8>, RangeInclusive<u8>, V, Global, 2>;
 
 // A range whose two ends are both 4 now.
 fn iterated_to_its_end() -> Result<RangeInclusive<u8>, Fail> {
@@ -21,30 +26,6 @@ fn iterated_to_its_end() -> Result<RangeInclusive<u8>, Fail> {
     let found = (range.is_empty(), *range.start(), *range.end());
     check_same(found, (true, 4, 4))?;
     Ok(range)
-}
-
-// Makes a map of three pairs, of which the second has the key 4 alone.
-fn three_pairs<S>(alloc: Global) -> Result<Map<S>, Fail>
-where
-    S: StoreMut<Kind = Closed<u8>, Range = RangeInclusive<u8>, Value = char, Alloc = Global> + Drop,
-{
-    let mut map = Map::new(alloc);
-    map.insert(0..=3, 'a')?;
-    map.insert(4..=4, 'b')?;
-    map.insert(5..=9, 'c')?;
-    Ok(map)
-}
-
-// Makes a set of three ranges, of which the second has the key 4 alone.
-fn three_ranges<S>(alloc: Global) -> Result<Set<S>, Fail>
-where
-    S: StoreMut<Kind = Closed<u8>, Range = RangeInclusive<u8>, Value = (), Alloc = Global> + Drop,
-{
-    let mut set = Set::new(alloc);
-    set.insert(0..=2)?;
-    set.insert(4..=4)?;
-    set.insert(6..=9)?;
-    Ok(set)
 }
 
 // Compares the one item that comes, from either end.
@@ -91,22 +72,21 @@ fn check_set<'a, S: Lends<'a, Range: Debug, Value = ()>>(
     check_text(alloc, &found, "(Some(4..=4), None)")
 }
 
+// Of three pairs and of three ranges the second has the key 4 alone.
 #[test]
 fn closed_maps_are_asked_by_a_range_that_was_iterated(rt: HostRuntime) -> Result<(), Fail> {
-    let query = iterated_to_its_end()?;
-    let alloc = rt.alloc();
-    let map = three_pairs::<SortedVec<Closed<u8>, RangeInclusive<u8>, char, Global>>(alloc)?;
+    let (alloc, query) = (rt.alloc(), iterated_to_its_end()?);
+    let map: Map<InVector<char>> = Map::from(alloc, [(0..=3, 'a'), (4..=4, 'b'), (5..=9, 'c')])?;
     check_map(alloc, (&map, &Map::new(alloc)), &query)?;
-    let map = three_pairs::<Chunks<Closed<u8>, RangeInclusive<u8>, char, Global, 2>>(alloc)?;
+    let map: Map<InChunks<char>> = Map::from(alloc, [(0..=3, 'a'), (4..=4, 'b'), (5..=9, 'c')])?;
     check_map(alloc, (&map, &Map::new(alloc)), &query)
 }
 
 #[test]
 fn closed_sets_are_asked_by_a_range_that_was_iterated(rt: HostRuntime) -> Result<(), Fail> {
-    let query = iterated_to_its_end()?;
-    let alloc = rt.alloc();
-    let set = three_ranges::<SortedVec<Closed<u8>, RangeInclusive<u8>, (), Global>>(alloc)?;
+    let (alloc, query) = (rt.alloc(), iterated_to_its_end()?);
+    let set: Set<InVector<()>> = Set::from(alloc, [0..=2, 4..=4, 6..=9])?;
     check_set(alloc, (&set, &Set::new(alloc)), &query)?;
-    let set = three_ranges::<Chunks<Closed<u8>, RangeInclusive<u8>, (), Global, 2>>(alloc)?;
+    let set: Set<InChunks<()>> = Set::from(alloc, [0..=2, 4..=4, 6..=9])?;
     check_set(alloc, (&set, &Set::new(alloc)), &query)
 }

@@ -1,21 +1,37 @@
-//! Tests of containers that can't be rows of text: what takes literals, arrays, chains of iterators or
-//! ranges that were iterated, and in whose memory a result lies.
+//! Tests of what no row of text can say.
 //!
-//! `macros` and `arrays` make containers, also where memory is refused, and `allocators` tells where
-//! they lie. `loops` go over what is lent, and `iterated` asks by a range that was iterated to its end.
-//! `json` reads long and deep values, and prints errors. `checks` compares what was found with what is
-//! expected.
+//! Containers: `macros` and `arrays` make them, also where memory is refused, and `allocators` tells
+//! where they lie. `loops` go over what is lent, and `iterated` asks by a range that was iterated to its
+//! end. `updates` gives the keys of a range new values that a closure makes. `room` changes a map that
+//! was made with room. `json` reads long and deep values, and prints errors. `steps` lead from key to
+//! key, and `refusing` asks the heap that counts requests.
 //!
-//! What else is asked of a container is a row of `rows_maps` or `rows_sets`; laws that count calls are
-//! run by `tests_laws`.
+//! Laws, and how many keys a lookup looks at: `tallied` has keys and values that count what is asked of
+//! them. `search` looks up such keys, and `comparisons` runs laws on such values. `texts` runs the laws
+//! of texts.
+//!
+//! What stands on the library: `applications` makes each use of `examples` once. `calling` and `queries`
+//! run the functions of `examples::calling`, which has the snippets of the documents. `dates` makes a
+//! roster over dates of `jiff`, of which the library knows nothing. `workloads` runs each workload of
+//! the bench.
+//!
+//! `checks` compares what was found with what is expected.
 #![tactic(auto)]
 
 #[cfg(test)]
 mod allocators;
 #[cfg(test)]
+mod applications;
+#[cfg(test)]
 mod arrays;
 #[cfg(test)]
+mod calling;
+#[cfg(test)]
 mod checks;
+#[cfg(test)]
+mod comparisons;
+#[cfg(test)]
+mod dates;
 #[cfg(test)]
 mod iterated;
 #[cfg(test)]
@@ -24,3 +40,21 @@ mod json;
 mod loops;
 #[cfg(test)]
 mod macros;
+#[cfg(test)]
+mod queries;
+#[cfg(test)]
+mod refusing;
+#[cfg(test)]
+mod room;
+#[cfg(test)]
+mod search;
+#[cfg(test)]
+mod steps;
+#[cfg(test)]
+mod tallied;
+#[cfg(test)]
+mod texts;
+#[cfg(test)]
+mod updates;
+#[cfg(test)]
+mod workloads;

@@ -1,6 +1,0 @@
-use Rattle.std.specs.List.{AllByRecursion}
-use Rattle.rangemap_maps.specs.MapHistories.{HasNonEmptyRanges}
-use Rattle.tests_row_text.proofs.calls.calls_of.Given as goal
-
-abbrev pub invariant-loop-call : goal.invariant-loop-call
-invariant-loop-call g l = AllByRecursion (HasNonEmptyRanges g.Q.Kind.kind) l.all.items

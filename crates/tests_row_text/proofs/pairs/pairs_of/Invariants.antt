@@ -1,5 +1,0 @@
-use Rattle.rangemap_core.specs.Ranges.{AreNonEmpty}
-use Rattle.tests_row_text.proofs.pairs.pairs_of.Given as goal
-
-abbrev pub invariant-loop-pair : goal.invariant-loop-pair
-invariant-loop-pair g l = AreNonEmpty g.Q.Kind.kind l.all.items

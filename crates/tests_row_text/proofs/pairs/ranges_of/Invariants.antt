@@ -1,5 +1,0 @@
-use Rattle.rangemap_core.specs.Sets.{AreNonEmptyRanges}
-use Rattle.tests_row_text.proofs.pairs.ranges_of.Given as goal
-
-abbrev pub invariant-loop-range : goal.invariant-loop-range
-invariant-loop-range g l = AreNonEmptyRanges g.Q.Kind.kind l.all.items

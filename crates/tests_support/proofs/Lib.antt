@@ -1,2 +1,0 @@
--- Lemmas of lists of items.
-pub mod ListedItems
