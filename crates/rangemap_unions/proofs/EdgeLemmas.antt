@@ -21,40 +21,19 @@ abbrev one_of : Bool → Bool → Bool
 one_of a b = (a && not b) || (b && not a)
 
 none_of : (b : Bool) → one_of false b ≡ b
-none_of true = refl
-none_of false = refl
+none_of b = grind (arith, nat_tests)
 
 regrouped : (a b c : Bool) → one_of a (one_of b c) ≡ one_of (one_of a b) c
-regrouped true true true = refl
-regrouped true true false = refl
-regrouped true false true = refl
-regrouped true false false = refl
-regrouped false true true = refl
-regrouped false true false = refl
-regrouped false false true = refl
-regrouped false false false = refl
+regrouped a b c = grind (arith, nat_tests)
 
 exchanged : (a b c : Bool) → one_of a (one_of b c) ≡ one_of b (one_of a c)
-exchanged true true c = refl
-exchanged true false true = refl
-exchanged true false false = refl
-exchanged false true true = refl
-exchanged false true false = refl
-exchanged false false c = refl
+exchanged a b c = grind (arith, nat_tests)
 
 twice : (a b c : Bool) → one_of b c ≡ one_of (one_of a b) (one_of a c)
-twice true true true = refl
-twice true true false = refl
-twice true false true = refl
-twice true false false = refl
-twice false true true = refl
-twice false true false = refl
-twice false false true = refl
-twice false false false = refl
+twice a b c = grind (arith, nat_tests)
 
 even_rest : (b : Bool) → one_of true (one_of true b) ≡ false → b ≡ false
-even_rest true h = h
-even_rest false h = refl
+even_rest b h = grind (arith, nat_tests)
 
 -- a key below an edge s is below the later edge e, and what is covered behind e is not below it
 part_tests : (s e c : Bool) → (s ≡ true → e ≡ true) → (c ≡ true → e ≡ false) → ((not s && e) || c) ≡ one_of (not s) (one_of (not e) c)

@@ -1,7 +1,8 @@
 -- What a set has that is made of items by inserts.
-use Rattle.std.proofs.Common.{◌≡◌, ◌⊎◌, inl, inr, Bool, true, false, ◌&&◌, ◌||◌, List, [], ◌∷◌, ◌++◌, Some, sym, ◌∙◌, ap, refl, subst, true≢false, Ordering, Less, Equal, Greater, is_lt, is_le, is_eq}
+use Rattle.std.proofs.Common.{arith, ◌≡◌, ◌⊎◌, inl, inr, Bool, true, false, ◌&&◌, ◌||◌, List, [], ◌∷◌, ◌++◌, Some, sym, ◌∙◌, ap, refl, subst, true≢false, Ordering, Less, Equal, Greater, is_lt, is_le, is_eq}
 use Rattle.std.specs.Bool.{⊤}
-use Rattle.std.proofs.Math.Bool.{or_comm, or-false}
+use Rattle.std.proofs.Math.Bool.{or-false}
+use Rattle.std.proofs.lemmas.Bool.Decides.{nat_tests}
 use Rattle.std.proofs.lemmas.List.Folds.{list_any-append}
 use Rattle.std.specs.Cmp.{alike_right, both_ways, first_so, second_so}
 use Rattle.std.specs.List.{AllByRecursion, list_all, list_any}
@@ -98,9 +99,7 @@ module _ {K X P : Type 0} {k : RangeKind K X} {l : RangePlaces P X} {at cut : K 
       ∙ sym (p.holds s x)
 
   swapped : (a b c : Bool) → (a || (b || c)) ≡ ((b || a) || c)
-  swapped true b c = ap (λ d. d || c) (or_comm true b)
-  swapped false true c = refl
-  swapped false false c = refl
+  swapped a b c = grind (arith, nat_tests)
 
   -- ---- a set to which the items of an operation go over, one by one
 

@@ -1,6 +1,7 @@
 -- The items of an intersection are the canonical list of the common points.
-use Rattle.std.proofs.Common.{◌≡◌, Bool, true, false, ◌&&◌, ◌||◌, cond, List, [], ◌∷◌, sym, ◌∙◌, ap, subst, refl, true≢false, Less, is_lt, is_le}
-use Rattle.std.proofs.Math.Bool.{and-false}
+use Rattle.std.proofs.Common.{arith, ◌≡◌, Bool, true, false, ◌&&◌, ◌||◌, cond, List, [], ◌∷◌, sym, ◌∙◌, ap, subst, refl, Less, is_lt, is_le}
+use Rattle.std.proofs.Math.Bool.{and-false, and_comm}
+use Rattle.std.proofs.lemmas.Bool.Decides.{nat_tests}
 use Rattle.std.specs.Bool.{⊤}
 use Rattle.std.specs.Cmp.{first_so, second_so}
 use Rattle.std.specs.Cmp.Derive.{both_true}
@@ -16,36 +17,21 @@ use Rattle.rangemap_unions.proofs.PlaceLemmas.{chosen, decided, reached, unreach
 
 -- p and q hold the key, or one of what follows them, and no later q where p does
 common_left : (p ps q qs : Bool) → (p ≡ true → qs ≡ false) → ((p && q) || (ps && (q || qs))) ≡ ((p || ps) && (q || qs))
-common_left true ps q true h = absurd (true≢false (h refl))
-common_left true ps true false h = refl
-common_left true true false false h = refl
-common_left true false false false h = refl
-common_left false ps q qs h = refl
+common_left p ps q qs h = grind (arith, nat_tests)
 
 -- the same, and no later p where q does
 common_right : (p ps q qs : Bool) → (q ≡ true → ps ≡ false) → ((p && q) || ((p || ps) && qs)) ≡ ((p || ps) && (q || qs))
-common_right p true true qs h = absurd (true≢false (h refl))
-common_right true false true qs h = refl
-common_right false false true qs h = refl
-common_right true ps false qs h = refl
-common_right false true false qs h = refl
-common_right false false false qs h = refl
+common_right p ps q qs h = grind (arith, nat_tests)
 
 -- starts a and b, ends c and d
 regrouped : (a b c d : Bool) → ((a && b) && (c && d)) ≡ ((a && c) && (b && d))
-regrouped true true c d = refl
-regrouped true false true d = refl
-regrouped true false false d = refl
-regrouped false b c d = refl
+regrouped a b c d = grind (arith, nat_tests)
 
 implied_and : (a b : Bool) → (b ≡ true → a ≡ true) → (a && b) ≡ b
-implied_and true b h = refl
-implied_and false true h = h refl
-implied_and false false h = refl
+implied_and a b h = grind (arith, nat_tests)
 
 and_implied : (a b : Bool) → (a ≡ true → b ≡ true) → (a && b) ≡ a
-and_implied true b h = h refl
-and_implied false b h = refl
+and_implied a b h = grind (arith, nat_tests)
 
 module _ {K X P : Type 0} {k : RangeKind K X} {l : RangePlaces P X} {at cut : K → P} (p : HasPlaces k l at cut) where
   abbrev le : P → P → Type 0
@@ -95,23 +81,13 @@ module _ {K X P : Type 0} {k : RangeKind K X} {l : RangePlaces P X} {at cut : K 
 
   -- ranges that do not reach one another have no key in common
   none_held : (a b : X) (x : K) → reaches l a b ≡ false → (k.holds a x && k.holds b x) ≡ false
-  none_held a b x apart = both_hold a b x ∙ table (is_le (l.order (l.start_place a) (at x))) (is_lt (l.order (at x) (l.end_place a))) (is_le (l.order (l.start_place b) (at x))) (is_lt (l.order (at x) (l.end_place b)))
-      (λ h g. true≢false (sym g ∙ late h))
+  none_held a b x apart = both_hold a b x ∙ table (is_le (l.order (l.start_place a) (at x))) (is_lt (l.order (at x) (l.end_place a))) (is_le (l.order (l.start_place b) (at x))) (is_lt (l.order (at x) (l.end_place b))) late
     where
       late : is_lt (l.order (at x) (l.end_place a)) ≡ true → is_le (l.order (l.start_place b) (at x)) ≡ false
       late h = lt_not_le p.total (lt_le p.total (lt_is _ h) (unreached p a b apart))
 
-      table : (la ha lb hb : Bool) → (ha ≡ true → lb ≡ true → ⊥) → ((la && ha) && (lb && hb)) ≡ false
-      table true true true hb h = absurd (h refl refl)
-      table true true false hb h = refl
-      table true false lb hb h = refl
-      table false ha lb hb h = refl
-
-  and_comm : (a b : Bool) → (a && b) ≡ (b && a)
-  and_comm true true = refl
-  and_comm true false = refl
-  and_comm false true = refl
-  and_comm false false = refl
+      table : (la ha lb hb : Bool) → (ha ≡ true → lb ≡ false) → ((la && ha) && (lb && hb)) ≡ false
+      table la ha lb hb h = grind (arith, nat_tests)
 
   with_part : (a b : X) (rest : List X) (x : K) → covers k (with_common l a b rest) x ≡ ((k.holds a x && k.holds b x) || covers k rest x)
   with_part a b rest x = by (reaches l a b) refl (reaches l b a) refl

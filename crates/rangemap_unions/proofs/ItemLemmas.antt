@@ -1,5 +1,6 @@
 -- What the first and the last range of an item say of it.
-use Rattle.std.proofs.Common.{◌≡◌, Ordering, Bool, true, false, List, ◌∷◌, Some, None, refl, sym, ap, subst, ◌∙◌, true≢false, Less, Equal, is_lt}
+use Rattle.std.proofs.Common.{arith, ◌≡◌, Ordering, Bool, false, List, ◌∷◌, Some, None, sym, ap, subst, ◌∙◌, true≢false, Less, Equal, is_lt}
+use Rattle.std.proofs.lemmas.Bool.Decides.{nat_tests}
 use Rattle.std.specs.Cmp as order
 use Rattle.rangemap_core.specs.MadeRanges.{IsSame}
 use Rattle.rangemap_core.specs.Ranges.{RangeKind}
@@ -13,10 +14,7 @@ use Rattle.rangemap_core.specs.operations.Places.{RangePlaces}
 
 -- tests that fail together are one
 same_test : (a b : Bool) → (a ≡ false → b ≡ false) → (b ≡ false → a ≡ false) → a ≡ b
-same_test true true h g = refl
-same_test true false h g = g refl
-same_test false true h g = sym (h refl)
-same_test false false h g = refl
+same_test a b h g = grind (arith, nat_tests)
 
 module _ {K X P : Type 0} {k : RangeKind K X} {has_end : Bool} {l : RangePlaces P X} {at cut : K → P} (i : IsInterval k has_end) (p : HasPlaces k l at cut) where
   -- whether one range starts before another ends is told by keys and by places alike

@@ -36,13 +36,10 @@ early_tests : (f s e t c l : Bool) → (e ≡ true → f ≡ true) → (e ≡ tr
 early_tests f s e t c l p q h = grind (arith, nat_tests)
 
 and_where : (a b : Bool) → (a ≡ true → b ≡ true) → a ≡ (a && b)
-and_where true b h = sym (h refl)
-and_where false b h = refl
+and_where a b h = grind (arith, nat_tests)
 
 where_and : (a b : Bool) → (b ≡ true → a ≡ true) → b ≡ (a && b)
-where_and true b h = refl
-where_and false true h = sym (h refl)
-where_and false false h = refl
+where_and a b h = grind (arith, nat_tests)
 
 module _ {K X : Type 0} {k : RangeKind K X} {end_place : X → Option K} {part : EndpointOf X → EndpointOf X → X} (p : IsPlaced k end_place part) where
   abbrev R : Option K → Option K → Ordering

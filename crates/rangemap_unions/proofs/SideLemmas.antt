@@ -1,5 +1,5 @@
 -- What two ranges have in common, when it is made.
-use Rattle.std.proofs.Common.{◌≡◌, Bool, true, false, true≢false, ◌&&◌, cond, List, ◌∷◌, Some, Result, Ok, Err, OnErr, ap, refl, sym, ◌∙◌}
+use Rattle.std.proofs.Common.{◌≡◌, Bool, true, false, true≢false, ◌&&◌, cond, List, ◌∷◌, Some, ap, refl, sym, ◌∙◌}
 use Rattle.rangemap_core.specs.MadeRanges.{IsSame, TakesRange}
 use Rattle.rangemap_core.specs.Ranges.{RangeKind}
 use Rattle.rangemap_unions.specs.Items.{earlier_end, later_start, reaches, with_common}
@@ -21,8 +21,3 @@ module _ {K X P : Type 0} (k : RangeKind K X) (l : RangePlaces P X) (a b first l
       all = ap (λ t. cond t (l.between (later_start l a b) (earlier_end l a b) ∷ rest) rest) both
           ∙ ap (λ r. l.between r (earlier_end l a b) ∷ rest) (sym starts)
           ∙ ap (λ r. l.between first r ∷ rest) (sym ends)
-
--- what holds anyway holds where a call was refused
-pub on_err_anyway : {A E : Type 0} {B : Type 0} (made : Result A E) → B → OnErr made B
-on_err_anyway (Err e) b = b
-on_err_anyway (Ok a) b = tt

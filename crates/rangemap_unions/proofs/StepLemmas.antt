@@ -52,20 +52,23 @@ module _ {K X : Type 0} (k : RangeKind K X) (end_place : X → Option K) (part :
       ∙ ap (λ a. part_before k end_place part a (next_end k end_place next p) (parts_behind k end_place part p ps qs)) (sym starts)
       ∙ ap (λ a. part_before k end_place part from a (parts_behind k end_place part p ps qs)) (sym ends)
 
-  module _ (from to : EndpointOf X) (old behind : List X) (found : Option X) (is : old ≡ part_before k end_place part from to behind)
+  module _ (from to : EndpointOf X) (old behind left : List X) (found : Option X) (comes : old ≡ part_before k end_place part from to behind) (left-is : left ≡ behind)
       (made : MatchOption found (is_before k end_place from to ≡ false) (λ r. (is_before k end_place from to ≡ true) × IsSame k (part from to) r)) where
-    pub part_taken : is_some found ≡ true → TakesRange k old found behind
+    is : old ≡ part_before k end_place part from to left
+    is = comes ∙ ap (part_before k end_place part from to) (sym left-is)
+
+    pub part_taken : is_some found ≡ true → TakesRange k old found left
     part_taken some = by found made some
       where
-        by : (f : Option X) → MatchOption f (is_before k end_place from to ≡ false) (λ r. (is_before k end_place from to ≡ true) × IsSame k (part from to) r) → is_some f ≡ true → TakesRange k old f behind
+        by : (f : Option X) → MatchOption f (is_before k end_place from to ≡ false) (λ r. (is_before k end_place from to ≡ true) × IsSame k (part from to) r) → is_some f ≡ true → TakesRange k old f left
         by None m s = absurd (true≢false (sym s))
-        by (Some r) m s = (part from to, is ∙ ap (λ t. cond t (part from to ∷ behind) behind) m.0, m.1)
+        by (Some r) m s = (part from to, is ∙ ap (λ t. cond t (part from to ∷ left) left) m.0, m.1)
 
-    pub part_passed : is_some found ≡ false → old ≡ behind
+    pub part_passed : is_some found ≡ false → old ≡ left
     part_passed none = by found made none
       where
-        by : (f : Option X) → MatchOption f (is_before k end_place from to ≡ false) (λ r. (is_before k end_place from to ≡ true) × IsSame k (part from to) r) → is_some f ≡ false → old ≡ behind
-        by None m s = is ∙ ap (λ t. cond t (part from to ∷ behind) behind) m
+        by : (f : Option X) → MatchOption f (is_before k end_place from to ≡ false) (λ r. (is_before k end_place from to ≡ true) × IsSame k (part from to) r) → is_some f ≡ false → old ≡ left
+        by None m s = is ∙ ap (λ t. cond t (part from to ∷ left) left) m
         by (Some r) m s = absurd (true≢false s)
 
   -- a part that has a key is still to come
