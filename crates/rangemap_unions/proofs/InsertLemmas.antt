@@ -11,9 +11,9 @@ use Rattle.rangemap_core.specs.operations.PlaceLaws.{HasPlaces}
 use Rattle.rangemap_core.specs.operations.Places.{RangePlaces}
 use Rattle.rangemap_core.specs.laws.Orders.{eq_eq, eq_lt, eq_turn, le_Equal, lt_le, le_through}
 use Rattle.rangemap_core.specs.MadeRanges.{TakesRange}
-use Rattle.rangemap_core.specs.Ranges.{RangeKind, IsStorable, covers}
-use Rattle.rangemap_core.specs.Sets.{Adds, AreHulls, IsHull, IsCanonicalSet, is_within}
-use Rattle.rangemap_core.proofs.UnitValueLemmas.{covers_one}
+use Rattle.rangemap_core.specs.Ranges.{RangeKind, IsCanonOf, IsStorable, covers, override, unit_eq, value_at}
+use Rattle.rangemap_core.specs.Sets.{Adds, AreHulls, IsHull, IsCanonicalSet, is_within, ranges}
+use Rattle.rangemap_core.proofs.UnitValueLemmas.{added, covers_one}
 use Rattle.rangemap_core.specs.engine.EndpointKinds.{lt_is}
 use Rattle.rangemap_core.proofs.GapLemmas.{covers-cons}
 use Rattle.rangemap_unions.proofs.PlaceLemmas.{covers_any, or_first, or_second}
@@ -103,19 +103,22 @@ module _ {K X P : Type 0} {k : RangeKind K X} {l : RangePlaces P X} {at cut : K 
 
   -- ---- a set to which the items of an operation go over, one by one
 
-  pub gathered_next : {e : RangeKind K X} → HasPlaces e l at cut → (test : K → Bool) (items all new more : List X) (range : X)
-      → IsGathered k test items all → TakesRange e items (Some range) new → Adds k all (range ∷ []) more → IsGathered k test new more
-  gathered_next q test items all new more range so_far taken added = (
-    added.canonical,
+  pub gathered_next : {e : RangeKind K X} → HasPlaces e l at cut → (all more : List (X × ⊤)) (test : K → Bool) (items new : List X) (range : X)
+      → IsGathered k test items (ranges all) → TakesRange e items (Some range) new → IsCanonOf k (unit_eq k) (override k (value_at k all) range tt) more → IsGathered k test new (ranges more)
+  gathered_next q all more test items new range so_far taken inserted = (
+    now.canonical,
     λ x key.
-        ap (λ b. covers k new x || b) (added.points x key ∙ ap (λ b. b || covers k all x) (covers_one k range x))
-        ∙ swapped (covers k new x) (k.holds range x) (covers k all x)
-        ∙ ap (λ b. (b || covers k new x) || covers k all x) (sym (same_held item range x starts ends))
-        ∙ ap (λ b. b || covers k all x) (sym (covers-cons k item new x))
-        ∙ ap (λ rs. covers k rs x || covers k all x) (sym taken.1)
+        ap (λ b. covers k new x || b) (now.points x key ∙ ap (λ b. b || covers k (ranges all) x) (covers_one k range x))
+        ∙ swapped (covers k new x) (k.holds range x) (covers k (ranges all) x)
+        ∙ ap (λ b. (b || covers k new x) || covers k (ranges all) x) (sym (same_held item range x starts ends))
+        ∙ ap (λ b. b || covers k (ranges all) x) (sym (covers-cons k item new x))
+        ∙ ap (λ rs. covers k rs x || covers k (ranges all) x) (sym taken.1)
         ∙ so_far.1 x key,
   )
     where
+      now : Adds k (ranges all) (range ∷ []) (ranges more)
+      now = added k all more range inserted
+
       item : X
       item = taken.0
 

@@ -1,5 +1,5 @@
 -- The items of an intersection are the canonical list of the common points.
-use Rattle.std.proofs.Common.{arith, ◌≡◌, Bool, true, false, ◌&&◌, ◌||◌, cond, List, [], ◌∷◌, sym, ◌∙◌, ap, subst, refl, Less, is_lt, is_le}
+use Rattle.std.proofs.Common.{arith, ◌≡◌, Bool, true, false, ◌&&◌, ◌||◌, cond, List, [], ◌∷◌, sym, ◌∙◌, ap, ap₂, subst, refl, Less, is_lt, is_le}
 use Rattle.std.proofs.Math.Bool.{and-false, and_comm}
 use Rattle.std.proofs.lemmas.Bool.Decides.{nat_tests}
 use Rattle.std.specs.Bool.{⊤}
@@ -265,10 +265,6 @@ module _ {K X P : Type 0} {k : RangeKind K X} {l : RangePlaces P X} {at cut : K 
     points = λ x key. common_points left right x can-a can-b;
   }
 
-  -- the same of lists that are what the iterators have left
-  pub intersection_of : (ps qs left right : List X) → ps ≡ left → qs ≡ right → Canonical left → Canonical right → AreCommon k left right (intersection_items l ps qs)
-  intersection_of ps qs left right p-is q-is can-a can-b = subst (λ rs. AreCommon k left right (intersection_items l rs qs)) (sym p-is) (subst (λ rs. AreCommon k left right (intersection_items l left rs)) (sym q-is) (intersection_common left right can-a can-b))
-
   -- the same of what an engine was made of
   pub intersection_taken : (left right ps qs items : List X) → left ≡ ps → right ≡ qs → items ≡ intersection_items l left right → Canonical ps → Canonical qs → AreCommon k ps qs items
-  intersection_taken left right ps qs items p-is q-is is can-a can-b = subst (AreCommon k ps qs) (sym is) (intersection_of left right ps qs p-is q-is can-a can-b)
+  intersection_taken left right ps qs items p-is q-is is can-a can-b = subst (AreCommon k ps qs) (sym (is ∙ ap₂ (intersection_items l) p-is q-is)) (intersection_common ps qs can-a can-b)

@@ -1,5 +1,5 @@
 -- The items of a union are hulls, and have the points of either side.
-use Rattle.std.proofs.Common.{◌≡◌, Bool, true, false, ◌&&◌, ◌||◌, cond, List, [], ◌∷◌, ◌++◌, Option, Some, None, sym, ◌∙◌, ap, subst, refl, true≢false, Less, is_lt, is_le, is_eq}
+use Rattle.std.proofs.Common.{◌≡◌, Bool, true, false, ◌&&◌, ◌||◌, cond, List, [], ◌∷◌, ◌++◌, Option, Some, None, sym, ◌∙◌, ap, ap₂, subst, refl, true≢false, Less, is_lt, is_le, is_eq}
 use Rattle.std.specs.Bool.{⊤}
 use Rattle.std.proofs.Math.Bool.{or_assoc, or_comm}
 use Rattle.std.proofs.lemmas.List.Folds.{list_any-append, list_all-append}
@@ -250,10 +250,6 @@ module _ {K X P : Type 0} {k : RangeKind K X} {l : RangePlaces P X} {at cut : K 
       free [] = tt
       free (r ∷ rest) = tt
 
-  -- the same of lists that are what the iterators have left
-  pub union_of : (ps qs left right : List X) → ps ≡ left → qs ≡ right → IsCanonical k (unit_eq k) (with_unit k left) → IsCanonical k (unit_eq k) (with_unit k right) → AreHulls k (left ++ right) (union_items l ps qs)
-  union_of ps qs left right p-is q-is can-p can-q = subst (λ rs. AreHulls k (left ++ right) (union_items l rs qs)) (sym p-is) (subst (λ rs. AreHulls k (left ++ right) (union_items l left rs)) (sym q-is) (union_hulls left right can-p can-q))
-
   -- the same of what an engine was made of
   pub union_taken : (left right ps qs items : List X) → left ≡ ps → right ≡ qs → items ≡ union_items l left right → IsCanonical k (unit_eq k) (with_unit k ps) → IsCanonical k (unit_eq k) (with_unit k qs) → AreHulls k (ps ++ qs) items
-  union_taken left right ps qs items p-is q-is is can-p can-q = subst (AreHulls k (ps ++ qs)) (sym is) (union_of left right ps qs p-is q-is can-p can-q)
+  union_taken left right ps qs items p-is q-is is can-p can-q = subst (AreHulls k (ps ++ qs)) (sym (is ∙ ap₂ (union_items l) p-is q-is)) (union_hulls ps qs can-p can-q)

@@ -1,5 +1,4 @@
 use Rattle.std.proofs.Common.{refl}
-use Rattle.rangemap_core.proofs.UnitValueLemmas.{added}
 use Rattle.rangemap_unions.proofs.InsertLemmas.{either_points, gathered_first, gathered_next}
 use Rattle.rangemap_unions.proofs.UnionLemmas.{union_taken}
 use Rattle.rangemap_unions.proofs.inserts.UnitingReaderOfBothRangeUnit.read.Goals as goal
@@ -11,5 +10,5 @@ loop-items-init g c = gathered_first g.met.S.Kind.Kind.has_places _ _ _ c.requir
 
 pub loop-items-preserved : goal.loop-items-preserved
 loop-items-preserved g c =
-    gathered_next g.met.S.Kind.Kind.has_places g.met.S.Range.KeyRange.has_places _ _ _ _ _ _ c.loop-items.invariant (rw c.in-Some.is at c.in_ok-item.ensures.ok)
-    (added g.S.Kind.Kind.kind (g.S.Store.pairs c.loop-items.all) (g.S.Store.pairs c.insert.new.self) _ c.in_ok-insert.ensures.ok)
+    gathered_next g.met.S.Kind.Kind.has_places g.met.S.Range.KeyRange.has_places (g.S.Store.pairs c.loop-items.all) (g.S.Store.pairs c.insert.new.self) _ _ _ _
+    c.loop-items.invariant (rw c.in-Some.is at c.in_ok-item.ensures.ok) c.in_ok-insert.ensures.ok
