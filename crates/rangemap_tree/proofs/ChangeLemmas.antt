@@ -1,14 +1,14 @@
 -- What lookups, an insert and a remove make of a canonical list of half-open ranges, by the starts of these.
-use Rattle.std.proofs.Common.{arith, ◌≡◌, ◌+◌, ◌≤◌, List, [], ◌∷◌, ◌++◌, Bool, true, false, cond, ◌&&◌, Option, Some, None, filter, find, refl, sym, ap, ◌∙◌, subst, true≢false, append_assoc, Ordering, Less, Equal, Greater, is_lt, is_le, is_gt, length, length-append}
+use Rattle.std.proofs.Common.{arith, ◌≡◌, ◌+◌, ◌≤◌, List, [], ◌∷◌, ◌++◌, Bool, true, false, cond, ◌&&◌, Option, Some, None, IfSome, filter, find, refl, sym, ap, ◌∙◌, subst, true≢false, append_assoc, Ordering, Less, Equal, Greater, is_lt, is_le, is_gt, length, length-append}
 use Rattle.std.specs.Cmp.{IsTotalOrder, IsEquivalence, tied_itself}
 use Rattle.std.specs.Option.{unwrap_or}
 use Rattle.std.specs.Ordering.{ordering_reverse}
 use Rattle.std.specs.declared.ops.Range.{Range}
-use Rattle.rangemap_core.specs.Ranges.{half_open, IsCanonical, IsNewest, IsStorable, IsCanonOf, covering, value_at, override, erase}
+use Rattle.rangemap_core.specs.Ranges.{half_open, IsCanonical, IsNewest, IsStorable, IsCanonOf, covering, changed, value_at, override, erase}
 use Rattle.rangemap_core.specs.engine.EndpointKinds.{half_open_placed}
 use Rattle.rangemap_core.specs.engine.PlacedKinds.{place_total}
 use Rattle.rangemap_core.specs.engine.Shape.{IsPlaceChange, IsSpaced}
-use Rattle.rangemap_core.specs.engine.Stretch.{Every, IsLeftPart, IsRightPart}
+use Rattle.rangemap_core.specs.engine.Stretch.{Every, IsLeftPart, IsRightPart, middle_of}
 use Rattle.rangemap_core.proofs.PlaceLemmas.{to_spaced, to_newest, to_changed}
 use Rattle.rangemap_core.proofs.StoredLemmas.{all_storable}
 use Rattle.rangemap_core.proofs.JoinLemmas.{joined_spaced, joined_changes}
@@ -43,13 +43,13 @@ reversed_lt Less h = refl
 reversed_lt Equal h = refl
 reversed_lt Greater h = absurd (true≢false h)
 
-pub recut_length : {K V : Type 0} (cut : Option (Range K)) (ps : List (Range K × V)) → length (recut cut ps) ≡ length ps
+recut_length : {K V : Type 0} (cut : Option (Range K)) (ps : List (Range K × V)) → length (recut cut ps) ≡ length ps
 recut_length None ps = refl
 recut_length (Some g) [] = refl
 recut_length (Some g) (p ∷ []) = refl
 recut_length (Some g) (p ∷ q ∷ ps) = let again = recut_length (Some g) (q ∷ ps) in omega (arith, again)
 
-pub piece_length : {K V : Type 0} (piece : Option (K × (Range K × V))) → length (piece_list piece) ≤ 1
+piece_length : {K V : Type 0} (piece : Option (K × (Range K × V))) → length (piece_list piece) ≤ 1
 piece_length None = omega arith
 piece_length (Some q) = omega arith
 
@@ -62,6 +62,27 @@ filter_shorter f g h (x ∷ xs) = go (filter_shorter f g h xs) (f x) (g x) (h x)
     go again true false k = absurd (true≢false (sym (k refl)))
     go again false true k = omega (arith, again)
     go again false false k = again
+
+module _ {K V : Type 0} (cmp : K → K → Ordering) (eq : V → V → Bool) (ps : List (Range K × V)) (r : Range K) where
+  -- what is said of the list that an insert makes
+  pub record IsInserted (v : V) (new : List (Range K × V)) : Type 0 where
+    pub canonical : IsCanonOf (half_open cmp) eq (override (half_open cmp) (value_at (half_open cmp) ps) r v) new
+    pub newest : IsNewest (half_open cmp) r v new
+    pub growth : length new ≤ length ps + 2
+    pub growth_where_all_are_equal : ((v w : V) → eq v w ≡ true) → length new ≤ length ps + 1
+
+  -- and of the range in its middle
+  pub record IsInsert (v : V) (cut : Option (Range K)) (piece : Option (K × (Range K × V))) (m : Range K) : Type 0 where
+    pub full : cmp m.start m.end ≡ Less
+    pub cut_there : IsCutThere cmp m.start cut ps
+    pub new_there : IsNewAt cmp m.end piece ps
+    pub past_end : from cmp m.end (past cmp r.end ps) ≡ past cmp r.end ps
+    pub made : IsInserted v (recut cut (before cmp m.start ps) ++ (m, v) ∷ (piece_list piece ++ from cmp m.end ps))
+
+  -- what is said of the list that a remove makes
+  pub record IsRemoved (new : List (Range K × V)) : Type 0 where
+    pub canonical : IsCanonOf (half_open cmp) eq (erase (half_open cmp) (value_at (half_open cmp) ps) r) new
+    pub growth : length new ≤ length ps + 1
 
 module _ {K V : Type 0} {cmp : K → K → Ordering} (o : IsTotalOrder cmp) (eq : V → V → Bool) (e : IsEquivalence eq) (ps : List (Range K × V)) (c : IsCanonical (half_open cmp) eq ps) where
   spaced : IsSpaced (shape cmp eq) ps
@@ -113,77 +134,61 @@ module _ {K V : Type 0} {cmp : K → K → Ordering} (o : IsTotalOrder cmp) (eq 
     stored : IsStorable (half_open cmp) r
     stored = record { start_is_key = tt; end_is_key = tt; non_empty = full }
 
-    module _ (v : V) (start end : Option K) (cut : Option (Range K)) (piece : Option (K × (Range K × V))) (left : IsLeft cmp eq ps r v start cut) (right : IsRight cmp eq ps r v end piece) (m : Range K) (low : m.start ≡ unwrap_or start r.start) (high : m.end ≡ unwrap_or end r.end) where
-      low_tie : cmp m.start (unwrap_or start r.start) ≡ Equal
-      low_tie = subst (λ x. cmp m.start x ≡ Equal) low (tied_itself o m.start)
+    -- what a change makes of what stays on either side of its middle
+    module _ (m : Range K) (value : Option V) (front back : List (Range K × V)) (left : IsLeftPart (shape cmp eq) ps front r m value) (right : IsRightPart (shape cmp eq) ps back r m value) where
+      new_spaced : IsSpaced (shape cmp eq) (front ++ (middle_of m value ++ back))
+      new_spaced = joined_spaced (shape cmp eq) (place_total o) e ps front back r m value left right full
 
-      high_tie : cmp m.end (unwrap_or end r.end) ≡ Equal
-      high_tie = subst (λ x. cmp m.end x ≡ Equal) high (tied_itself o m.end)
+      changes : IsPlaceChange (shape cmp eq) ps (front ++ (middle_of m value ++ back)) r value
+      changes = joined_changes (shape cmp eq) (place_total o) e ps front back r m value left right full
 
-      left_part : IsLeftPart (shape cmp eq) ps (recut cut (before cmp m.start ps)) r m (Some v)
-      left_part = left.part m low_tie
+      made : IsCanonOf (half_open cmp) eq (changed (half_open cmp) (value_at (half_open cmp) ps) r value) (front ++ (middle_of m value ++ back))
+      made = to_changed (half_open_placed o) eq ps (front ++ (middle_of m value ++ back)) r (all_storable _ eq ps c) (storables _ new_spaced) stored new_spaced e value changes
 
-      right_part : IsRightPart (shape cmp eq) ps (piece_list piece ++ from cmp m.end ps) r m (Some v)
-      right_part = right.part m high_tie
+      made_newest : IfSome value (λ v. IsNewest (half_open cmp) r v (front ++ (middle_of m value ++ back)))
+      made_newest = to_newest (half_open_placed o) eq ps (front ++ (middle_of m value ++ back)) r (all_storable _ eq ps c) (storables _ new_spaced) stored new_spaced value changes
 
-      pub middle_full : cmp m.start m.end ≡ Less
-      middle_full = lt_le_trans o m.start r.end m.end (le_lt_trans o m.start r.start r.end left_part.starts full) right_part.ends
+    made_length : (m : Range K) → cmp m.start m.end ≡ Less → (cut : Option (Range K)) (middle : List (Range K × V)) (piece : Option (K × (Range K × V))) → length (recut cut (before cmp m.start ps) ++ (middle ++ (piece_list piece ++ from cmp m.end ps))) ≤ length ps + length middle + length (piece_list piece)
+    made_length m m_full cut middle piece =
+        let l1 = length-append (recut cut (before cmp m.start ps)) (middle ++ (piece_list piece ++ from cmp m.end ps)) in
+        let l2 = recut_length cut (before cmp m.start ps) in
+        let l3 = length-append middle (piece_list piece ++ from cmp m.end ps) in
+        let l4 = length-append (piece_list piece) (from cmp m.end ps) in
+        let l5 = filter_shorter (λ (p : Range K × V). is_le (cmp m.end p.0.start)) (λ (p : Range K × V). is_le (cmp m.start p.0.start)) (λ p. from_lower o m.start m.end m_full p.0.start) ps in
+        let l6 = length-append (before cmp m.start ps) (from cmp m.start ps) in
+        let l7 = ap length (in_order m.start) in
+        omega (arith, l1, l2, l3, l4, l5, l6, l7)
 
-      pub cut_at : IsCutThere cmp m.start cut ps
-      cut_at = left.cut_there m.start low_tie
+    pub inserts : (v : V) (start end : Option K) (cut : Option (Range K)) (piece : Option (K × (Range K × V))) → IsLeft cmp eq ps r v start cut → IsRight cmp eq ps r v end piece → (m : Range K) → m.start ≡ unwrap_or start r.start → m.end ≡ unwrap_or end r.end → IsInsert cmp eq ps r v cut piece m
+    inserts v start end cut piece left right m low high =
+        let low_tie : cmp m.start (unwrap_or start r.start) ≡ Equal = subst (λ x. cmp m.start x ≡ Equal) low (tied_itself o m.start) in
+        let high_tie : cmp m.end (unwrap_or end r.end) ≡ Equal = subst (λ x. cmp m.end x ≡ Equal) high (tied_itself o m.end) in
+        let front : IsLeftPart (shape cmp eq) ps (recut cut (before cmp m.start ps)) r m (Some v) = left.part m low_tie in
+        let back : IsRightPart (shape cmp eq) ps (piece_list piece ++ from cmp m.end ps) r m (Some v) = right.part m high_tie in
+        let m_full : cmp m.start m.end ≡ Less = lt_le_trans o m.start r.end m.end (le_lt_trans o m.start r.start r.end front.starts full) back.ends in
+        let l = made_length m m_full cut ((m, v) ∷ []) piece in
+        let one = piece_length piece in
+        record {
+          full = m_full;
+          cut_there = left.cut_there m.start low_tie;
+          new_there = right.new_there m.end high_tie;
+          past_end = right.past_end m.end high_tie;
+          made = record {
+            canonical = made m (Some v) _ _ front back;
+            newest = made_newest m (Some v) _ _ front back;
+            growth = omega (arith, l, one);
+            growth_where_all_are_equal = λ h. let none = ap (λ q. length (piece_list q)) (right.of_other_values h) in omega (arith, l, none);
+          };
+        }
 
-      pub new_at : IsNewAt cmp m.end piece ps
-      new_at = right.new_there m.end high_tie
-
-      -- what starts past the end of r starts no earlier than that of m
-      pub past_at : from cmp m.end (past cmp r.end ps) ≡ past cmp r.end ps
-      past_at = right.past_end m.end high_tie
-
-      new_spaced : IsSpaced (shape cmp eq) (recut cut (before cmp m.start ps) ++ (m, v) ∷ (piece_list piece ++ from cmp m.end ps))
-      new_spaced = joined_spaced (shape cmp eq) (place_total o) e ps (recut cut (before cmp m.start ps)) (piece_list piece ++ from cmp m.end ps) r m (Some v) left_part right_part full
-
-      overrides : IsPlaceChange (shape cmp eq) ps (recut cut (before cmp m.start ps) ++ (m, v) ∷ (piece_list piece ++ from cmp m.end ps)) r (Some v)
-      overrides = joined_changes (shape cmp eq) (place_total o) e ps (recut cut (before cmp m.start ps)) (piece_list piece ++ from cmp m.end ps) r m (Some v) left_part right_part full
-
-      pub inserted : IsCanonOf (half_open cmp) eq (override (half_open cmp) (value_at (half_open cmp) ps) r v) (recut cut (before cmp m.start ps) ++ (m, v) ∷ (piece_list piece ++ from cmp m.end ps))
-      inserted = to_changed (half_open_placed o) eq ps (recut cut (before cmp m.start ps) ++ (m, v) ∷ (piece_list piece ++ from cmp m.end ps)) r (all_storable _ eq ps c) (storables _ new_spaced) stored new_spaced e (Some v) overrides
-
-      pub inserted_is_newest : IsNewest (half_open cmp) r v (recut cut (before cmp m.start ps) ++ (m, v) ∷ (piece_list piece ++ from cmp m.end ps))
-      inserted_is_newest = to_newest (half_open_placed o) eq ps (recut cut (before cmp m.start ps) ++ (m, v) ∷ (piece_list piece ++ from cmp m.end ps)) r (all_storable _ eq ps c) (storables _ new_spaced) stored new_spaced (Some v) overrides
-
-      pub inserted_length : length (recut cut (before cmp m.start ps) ++ (m, v) ∷ (piece_list piece ++ from cmp m.end ps)) ≤ length ps + 1 + length (piece_list piece)
-      inserted_length =
-          let l1 = length-append (recut cut (before cmp m.start ps)) ((m, v) ∷ (piece_list piece ++ from cmp m.end ps)) in
-          let l2 = recut_length cut (before cmp m.start ps) in
-          let l3 = length-append (piece_list piece) (from cmp m.end ps) in
-          let l4 = filter_shorter (λ (p : Range K × V). is_le (cmp m.end p.0.start)) (λ (p : Range K × V). is_le (cmp m.start p.0.start)) (λ p. from_lower o m.start m.end middle_full p.0.start) ps in
-          let l5 = length-append (before cmp m.start ps) (from cmp m.start ps) in
-          let l6 = ap length (in_order m.start) in
-          omega (arith, l1, l2, l3, l4, l5, l6)
-
-    module _ (cut : Option (Range K)) (piece : Option (K × (Range K × V))) (left : IsLeftCut cmp eq ps r cut) (right : IsRightCut cmp eq ps r piece) where
-      pub removed : IsCanonOf (half_open cmp) eq (erase (half_open cmp) (value_at (half_open cmp) ps) r) (recut cut (before cmp r.start ps) ++ (piece_list piece ++ from cmp r.end ps))
-      removed =
-          let sp = joined_spaced (shape cmp eq) (place_total o) e ps (recut cut (before cmp r.start ps)) (piece_list piece ++ from cmp r.end ps) r r None left.rest right.rest full in
-          to_changed (half_open_placed o) eq ps (recut cut (before cmp r.start ps) ++ (piece_list piece ++ from cmp r.end ps)) r (all_storable _ eq ps c) (storables _ sp) stored sp
-          e None (joined_changes (shape cmp eq) (place_total o) e ps (recut cut (before cmp r.start ps)) (piece_list piece ++ from cmp r.end ps) r r None left.rest right.rest full)
-
-      pub removed_length : length (recut cut (before cmp r.start ps) ++ (piece_list piece ++ from cmp r.end ps)) ≤ length ps + 1
-      removed_length =
-          let l1 = length-append (recut cut (before cmp r.start ps)) (piece_list piece ++ from cmp r.end ps) in
-          let l2 = recut_length cut (before cmp r.start ps) in
-          let l3 = length-append (piece_list piece) (from cmp r.end ps) in
-          let l4 = filter_shorter (λ (p : Range K × V). is_le (cmp r.end p.0.start)) (λ (p : Range K × V). is_le (cmp r.start p.0.start)) (λ p. from_lower o r.start r.end full p.0.start) ps in
-          let l5 = length-append (before cmp r.start ps) (from cmp r.start ps) in
-          let l6 = ap length (in_order r.start) in
-          let l7 = piece_length piece in
-          omega (arith, l1, l2, l3, l4, l5, l6, l7)
+    pub removed : (cut : Option (Range K)) (piece : Option (K × (Range K × V))) → IsLeftCut cmp eq ps r cut → IsRightCut cmp eq ps r piece → IsRemoved cmp eq ps r (recut cut (before cmp r.start ps) ++ (piece_list piece ++ from cmp r.end ps))
+    removed cut piece left right =
+        let l = made_length r full cut [] piece in
+        let one = piece_length piece in
+        record { canonical = made r None _ _ left.rest right.rest; growth = omega (arith, l, one) }
 
     -- where the ranges that start before the end end by the start, all stays
     pub unmoved : Every (λ (p : Range K × V). is_gt (cmp p.0.end r.start) ≡ false) (before cmp r.end ps) → IsCanonOf (half_open cmp) eq (erase (half_open cmp) (value_at (half_open cmp) ps) r) ps
     unmoved h =
         let u = untouched o eq e ps spaced r full h in
-        let sp = joined_spaced (shape cmp eq) (place_total o) e ps (before cmp r.end ps) (from cmp r.end ps) r r None u.0 u.1 full in
-        subst (IsCanonOf (half_open cmp) eq (erase (half_open cmp) (value_at (half_open cmp) ps) r)) u.2
-        (to_changed (half_open_placed o) eq ps (before cmp r.end ps ++ from cmp r.end ps) r (all_storable _ eq ps c) (storables _ sp) stored sp
-        e None (joined_changes (shape cmp eq) (place_total o) e ps (before cmp r.end ps) (from cmp r.end ps) r r None u.0 u.1 full))
+        subst (IsCanonOf (half_open cmp) eq (erase (half_open cmp) (value_at (half_open cmp) ps) r)) u.2 (made r None _ _ u.0 u.1)

@@ -20,11 +20,11 @@ use Rattle.rangemap_tree.proofs.FilterLemmas.{filter_no, filter_same}
 use Rattle.rangemap_tree.proofs.NearLemmas.{not_below}
 use Rattle.rangemap_tree.proofs.SplitLemmas.{below_test, grouped, le_of, none_up_to, parts_at, split, starts_below}
 
-pub not_none : {X : Type 0} (f : X → Bool) (us : List X) (b : X) (ws : List X) → f b ≡ true → filter f (us ++ b ∷ ws) ≡ [] → true ≡ false
+not_none : {X : Type 0} (f : X → Bool) (us : List X) (b : X) (ws : List X) → f b ≡ true → filter f (us ++ b ∷ ws) ≡ [] → ⊥
 not_none f [] b ws t h = absurd (let q : b ∷ filter f ws ≡ [] = sym (ap (λ c. cond c (b ∷ filter f ws) (filter f ws)) t) ∙ h in cc)
 not_none f (u ∷ us) b ws t h = go (not_none f us b ws t) (f u) h
   where
-    go : (filter f (us ++ b ∷ ws) ≡ [] → true ≡ false) → (c : Bool) → cond c (u ∷ filter f (us ++ b ∷ ws)) (filter f (us ++ b ∷ ws)) ≡ [] → true ≡ false
+    go : (filter f (us ++ b ∷ ws) ≡ [] → ⊥) → (c : Bool) → cond c (u ∷ filter f (us ++ b ∷ ws)) (filter f (us ++ b ∷ ws)) ≡ [] → ⊥
     go again true k = absurd (let q : u ∷ filter f (us ++ b ∷ ws) ≡ [] = k in cc)
     go again false k = again k
 
@@ -157,7 +157,7 @@ module _ {K V : Type 0} {cmp : K → K → Ordering} (o : IsTotalOrder cmp) (eq 
           ∙ filter_no ((us ++ b ∷ []) ++ from cmp r.end ps)
 
     -- the last that starts before the end overlaps where it ends after the start
-    pub last_overlaps : (us : List (Range K × V)) (b : Range K × V) → before cmp r.end ps ≡ us ++ b ∷ [] → cmp r.start b.0.end ≡ Less → overlapped (half_open cmp) ps r ≡ [] → true ≡ false
+    pub last_overlaps : (us : List (Range K × V)) (b : Range K × V) → before cmp r.end ps ≡ us ++ b ∷ [] → cmp r.start b.0.end ≡ Less → overlapped (half_open cmp) ps r ≡ [] → ⊥
     last_overlaps us b is reaches h =
         let w : ps ≡ us ++ b ∷ from cmp r.end ps = sym high.0 ∙ ap (λ xs. xs ++ from cmp r.end ps) is ∙ grouped us b (from cmp r.end ps) in
         let below : cmp b.0.start r.end ≡ Less = (Every-right (λ (p : Range K × V). cmp p.0.start r.end ≡ Less) us (b ∷ []) (subst (Every (λ (p : Range K × V). cmp p.0.start r.end ≡ Less)) is high.1)).0 in
