@@ -1,10 +1,10 @@
 -- What lookups, an insert and a remove make of a canonical list of half-open ranges, by the starts of these.
-use Rattle.std.proofs.Common.{arith, ◌≡◌, ◌+◌, ◌≤◌, List, [], ◌∷◌, ◌++◌, Bool, true, false, cond, ◌&&◌, Option, Some, None, IfSome, filter, find, refl, sym, ap, ◌∙◌, subst, true≢false, append_assoc, Ordering, Less, Equal, Greater, is_lt, is_le, is_gt, length, length-append}
+use Rattle.std.proofs.Common.{arith, suc, ◌≡◌, ◌+◌, ◌≤◌, List, [], ◌∷◌, ◌++◌, Bool, true, false, cond, ◌&&◌, Option, Some, None, IfSome, filter, find, refl, sym, ap, ◌∙◌, subst, true≢false, append_assoc, Ordering, Less, Equal, Greater, is_lt, is_le, is_gt, length, length-append}
 use Rattle.std.specs.Cmp.{IsTotalOrder, IsEquivalence, tied_itself}
 use Rattle.std.specs.Option.{unwrap_or}
 use Rattle.std.specs.Ordering.{ordering_reverse}
 use Rattle.std.specs.declared.ops.Range.{Range}
-use Rattle.rangemap_core.specs.Ranges.{half_open, IsCanonical, IsNewest, IsStorable, IsCanonOf, covering, changed, value_at, override, erase}
+use Rattle.rangemap_core.specs.Ranges.{half_open, IsCanonical, IsNewest, IsStorable, IsCanonOf, covering, changed, value_at, erase}
 use Rattle.rangemap_core.specs.engine.EndpointKinds.{half_open_placed}
 use Rattle.rangemap_core.specs.engine.PlacedKinds.{place_total}
 use Rattle.rangemap_core.specs.engine.Shape.{IsPlaceChange, IsSpaced}
@@ -15,11 +15,11 @@ use Rattle.rangemap_core.proofs.JoinLemmas.{joined_spaced, joined_changes}
 use Rattle.rangemap_core.proofs.ListLemmas.{Every-map, Every-right}
 use Rattle.rangemap_core.proofs.InsertPartLemmas.{before_first}
 use Rattle.rangemap_core.proofs.PlaceOrderLemmas.{le_trans, lt_le_trans, le_lt_trans}
-use Rattle.rangemap_tree.specs.Starts.{before, from, past, up_to, recut, piece_list, IsCutThere, IsNewAt}
-use Rattle.rangemap_tree.specs.Sides.{shape, IsLeft, IsRight, IsLeftCut, IsRightCut}
+use Rattle.rangemap_tree.specs.Starts.{before, behind_end, from, past, up_to, recut, piece_list, IsCutThere, IsNewAt}
+use Rattle.rangemap_tree.specs.Sides.{shape, IsLeft, IsRight}
 use Rattle.rangemap_tree.proofs.StartLemmas.{from_lower}
 use Rattle.rangemap_tree.proofs.SplitLemmas.{le_of, split, split_past}
-use Rattle.rangemap_tree.proofs.RemoveSideLemmas.{untouched}
+use Rattle.rangemap_tree.proofs.SideLemmas.{unmet}
 
 find_skip : {X : Type 0} (f : X → Bool) (xs ys : List X) → Every (λ x. f x ≡ false) xs → find f (xs ++ ys) ≡ find f ys
 find_skip f [] ys h = refl
@@ -64,25 +64,20 @@ filter_shorter f g h (x ∷ xs) = go (filter_shorter f g h xs) (f x) (g x) (h x)
     go again false false k = again
 
 module _ {K V : Type 0} (cmp : K → K → Ordering) (eq : V → V → Bool) (ps : List (Range K × V)) (r : Range K) where
-  -- what is said of the list that an insert makes
-  pub record IsInserted (v : V) (new : List (Range K × V)) : Type 0 where
-    pub canonical : IsCanonOf (half_open cmp) eq (override (half_open cmp) (value_at (half_open cmp) ps) r v) new
-    pub newest : IsNewest (half_open cmp) r v new
-    pub growth : length new ≤ length ps + 2
+  -- what is said of the list that a change makes
+  pub record IsChanged (value : Option V) (new : List (Range K × V)) : Type 0 where
+    pub canonical : IsCanonOf (half_open cmp) eq (changed (half_open cmp) (value_at (half_open cmp) ps) r value) new
+    pub newest : IfSome value (λ v. IsNewest (half_open cmp) r v new)
+    pub growth : length new ≤ length ps + suc (length (middle_of r value))
     pub growth_where_all_are_equal : ((v w : V) → eq v w ≡ true) → length new ≤ length ps + 1
 
   -- and of the range in its middle
-  pub record IsInsert (v : V) (cut : Option (Range K)) (piece : Option (K × (Range K × V))) (m : Range K) : Type 0 where
+  pub record IsChange (value : Option V) (cut : Option (Range K)) (piece : Option (K × (Range K × V))) (m : Range K) : Type 0 where
     pub full : cmp m.start m.end ≡ Less
     pub cut_there : IsCutThere cmp m.start cut ps
     pub new_there : IsNewAt cmp m.end piece ps
-    pub past_end : from cmp m.end (past cmp r.end ps) ≡ past cmp r.end ps
-    pub made : IsInserted v (recut cut (before cmp m.start ps) ++ (m, v) ∷ (piece_list piece ++ from cmp m.end ps))
-
-  -- what is said of the list that a remove makes
-  pub record IsRemoved (new : List (Range K × V)) : Type 0 where
-    pub canonical : IsCanonOf (half_open cmp) eq (erase (half_open cmp) (value_at (half_open cmp) ps) r) new
-    pub growth : length new ≤ length ps + 1
+    pub behind : Every (λ p. is_gt (cmp m.end p.0.start) ≡ false) (behind_end cmp value r.end ps)
+    pub made : IsChanged value (recut cut (before cmp m.start ps) ++ (middle_of m value ++ (piece_list piece ++ from cmp m.end ps)))
 
 module _ {K V : Type 0} {cmp : K → K → Ordering} (o : IsTotalOrder cmp) (eq : V → V → Bool) (e : IsEquivalence eq) (ps : List (Range K × V)) (c : IsCanonical (half_open cmp) eq ps) where
   spaced : IsSpaced (shape cmp eq) ps
@@ -159,36 +154,40 @@ module _ {K V : Type 0} {cmp : K → K → Ordering} (o : IsTotalOrder cmp) (eq 
         let l7 = ap length (in_order m.start) in
         omega (arith, l1, l2, l3, l4, l5, l6, l7)
 
-    pub inserts : (v : V) (start end : Option K) (cut : Option (Range K)) (piece : Option (K × (Range K × V))) → IsLeft cmp eq ps r v start cut → IsRight cmp eq ps r v end piece → (m : Range K) → m.start ≡ unwrap_or start r.start → m.end ≡ unwrap_or end r.end → IsInsert cmp eq ps r v cut piece m
-    inserts v start end cut piece left right m low high =
+    middle_length : (m : Range K) (value : Option V) → length (middle_of m value) ≡ length (middle_of r value)
+    middle_length m None = refl
+    middle_length m (Some v) = refl
+
+    -- where all values are equal, a change with a value leaves no piece
+    one_more : (m : Range K) (value : Option V) (piece : Option (K × (Range K × V))) → IfSome value (λ _. piece ≡ None) → length (middle_of m value) + length (piece_list piece) ≤ 1
+    one_more m None piece h = let few = piece_length piece in omega (arith, few)
+    one_more m (Some v) piece h = let none = ap (λ q. length (piece_list q)) h in omega (arith, none)
+
+    pub change : (value : Option V) (start end : Option K) (cut : Option (Range K)) (piece : Option (K × (Range K × V))) → IsLeft cmp eq ps r value start cut → IsRight cmp eq ps r value end piece → (m : Range K) → m.start ≡ unwrap_or start r.start → m.end ≡ unwrap_or end r.end → IsChange cmp eq ps r value cut piece m
+    change value start end cut piece left right m low high =
         let low_tie : cmp m.start (unwrap_or start r.start) ≡ Equal = subst (λ x. cmp m.start x ≡ Equal) low (tied_itself o m.start) in
         let high_tie : cmp m.end (unwrap_or end r.end) ≡ Equal = subst (λ x. cmp m.end x ≡ Equal) high (tied_itself o m.end) in
-        let front : IsLeftPart (shape cmp eq) ps (recut cut (before cmp m.start ps)) r m (Some v) = left.part m low_tie in
-        let back : IsRightPart (shape cmp eq) ps (piece_list piece ++ from cmp m.end ps) r m (Some v) = right.part m high_tie in
+        let front : IsLeftPart (shape cmp eq) ps (recut cut (before cmp m.start ps)) r m value = left.part m low_tie in
+        let back : IsRightPart (shape cmp eq) ps (piece_list piece ++ from cmp m.end ps) r m value = right.part m high_tie in
         let m_full : cmp m.start m.end ≡ Less = lt_le_trans o m.start r.end m.end (le_lt_trans o m.start r.start r.end front.starts full) back.ends in
-        let l = made_length m m_full cut ((m, v) ∷ []) piece in
+        let l = made_length m m_full cut (middle_of m value) piece in
+        let same = middle_length m value in
         let one = piece_length piece in
         record {
           full = m_full;
           cut_there = left.cut_there m.start low_tie;
           new_there = right.new_there m.end high_tie;
-          past_end = right.past_end m.end high_tie;
+          behind = right.behind m.end high_tie;
           made = record {
-            canonical = made m (Some v) _ _ front back;
-            newest = made_newest m (Some v) _ _ front back;
-            growth = omega (arith, l, one);
-            growth_where_all_are_equal = λ h. let none = ap (λ q. length (piece_list q)) (right.of_other_values h) in omega (arith, l, none);
+            canonical = made m value _ _ front back;
+            newest = made_newest m value _ _ front back;
+            growth = omega (arith, l, same, one);
+            growth_where_all_are_equal = λ h. let few = one_more m value piece (right.of_other_values h) in omega (arith, l, few);
           };
         }
-
-    pub removed : (cut : Option (Range K)) (piece : Option (K × (Range K × V))) → IsLeftCut cmp eq ps r cut → IsRightCut cmp eq ps r piece → IsRemoved cmp eq ps r (recut cut (before cmp r.start ps) ++ (piece_list piece ++ from cmp r.end ps))
-    removed cut piece left right =
-        let l = made_length r full cut [] piece in
-        let one = piece_length piece in
-        record { canonical = made r None _ _ left.rest right.rest; growth = omega (arith, l, one) }
 
     -- where the ranges that start before the end end by the start, all stays
     pub unmoved : Every (λ (p : Range K × V). is_gt (cmp p.0.end r.start) ≡ false) (before cmp r.end ps) → IsCanonOf (half_open cmp) eq (erase (half_open cmp) (value_at (half_open cmp) ps) r) ps
     unmoved h =
-        let u = untouched o eq e ps spaced r full h in
-        subst (IsCanonOf (half_open cmp) eq (erase (half_open cmp) (value_at (half_open cmp) ps) r)) u.2 (made r None _ _ u.0 u.1)
+        let u = unmet o eq e ps spaced r None full refl h in
+        subst (IsCanonOf (half_open cmp) eq (erase (half_open cmp) (value_at (half_open cmp) ps) r)) (in_order r.end) (made r None _ _ u.0 u.1)

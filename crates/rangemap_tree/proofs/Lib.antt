@@ -6,7 +6,6 @@ pub mod TakenLemmas
 pub mod CloneLemmas
 pub mod SplitLemmas
 pub mod NearLemmas
-pub mod InsertSideLemmas
-pub mod RemoveSideLemmas
+pub mod SideLemmas
 pub mod ChangeLemmas
 pub mod OverlapLemmas

@@ -1,18 +1,20 @@
--- What the last pair that starts no later than a key tells of other keys, in a spaced list.
+-- What the last pair that starts before a key, or no later, tells of other keys, in a spaced list.
 use Rattle.std.proofs.Common.{◌≡◌, List, [], ◌∷◌, ◌++◌, Bool, true, false, not, ◌&&◌, Option, Some, None, filter, refl, sym, ap, ◌∙◌, subst, true≢false, Ordering, Less, is_lt, is_le, is_gt}
 use Rattle.std.specs.Cmp.{IsTotalOrder, IsEquivalence}
-use Rattle.std.specs.BTreeMap.Range.{range_contains}
+use Rattle.std.specs.BTreeMap.Range.{range_contains, is_from_start}
 use Rattle.std.specs.Map.Iter.{TakesLast}
-use Rattle.std.specs.declared.ops.Bound.TheVariants.{Excluded}
+use Rattle.std.specs.declared.ops.Bound.{Bound}
+use Rattle.std.specs.declared.ops.Bound.TheVariants.{Excluded, Included}
 use Rattle.std.specs.declared.ops.Range.{Range}
-use Rattle.rangemap_core.specs.engine.Shape.{Shape, IsSpaced}
+use Rattle.rangemap_core.specs.engine.PlacedKinds.{place_total}
+use Rattle.rangemap_core.specs.engine.Shape.{Shape, IsApart, IsSpaced, given, optional}
 use Rattle.rangemap_core.specs.engine.Stretch.{Every}
-use Rattle.rangemap_core.proofs.ListLemmas.{Every-map, Every-append}
+use Rattle.rangemap_core.proofs.ListLemmas.{Every-map, Every-append, IsApart-from_lt}
 use Rattle.rangemap_core.proofs.PlaceOrderLemmas.{lt_le, lt_le_trans}
-use Rattle.rangemap_tree.specs.Starts.{before, from, past, up_to}
+use Rattle.rangemap_tree.specs.Starts.{before, behind_end, from, near_end, past}
 use Rattle.rangemap_tree.specs.Sides.{shape}
-use Rattle.rangemap_tree.proofs.FilterLemmas.{filter_no, filter_passes, filter_same}
-use Rattle.rangemap_tree.proofs.SplitLemmas.{all_from, grouped, not_lt_of_le, parts_at, split_past, starts_below}
+use Rattle.rangemap_tree.proofs.FilterLemmas.{filter_no, filter_same}
+use Rattle.rangemap_tree.proofs.SplitLemmas.{all_from, below_test, grouped, le_of, not_lt_of_le, parts_at, split, split_past, starts_below}
 
 pub not_below : (b c : Bool) → c ≡ true → (b && not c) ≡ false
 not_below true true h = refl
@@ -26,65 +28,72 @@ module _ {A X : Type 0} (shows : A → X) (xs : List X) (near : Option A) (taken
   pub taken_some : (a : A) → near ≡ Some a → xs ≡ taken.0 ++ shows a ∷ []
   taken_some a h = subst (λ n. TakesLast shows xs n taken.0) h taken.1
 
-module _ {K V : Type 0} {cmp : K → K → Ordering} (o : IsTotalOrder cmp) (eq : V → V → Bool) (e : IsEquivalence eq) (y : K) (ps : List (Range K × V)) (c : IsSpaced (shape cmp eq) ps) where
+module _ {K V : Type 0} {cmp : K → K → Ordering} (o : IsTotalOrder cmp) (eq : V → V → Bool) (e : IsEquivalence eq) (ps : List (Range K × V)) (c : IsSpaced (shape cmp eq) ps) where
   abbrev S : Shape (Range K) (Option K) V
   S = shape cmp eq
 
-  rest : (up_to cmp y ps ++ past cmp y ps ≡ ps) × Every (λ (p : Range K × V). is_gt (cmp p.0.start y) ≡ false) (up_to cmp y ps) × Every (λ (p : Range K × V). cmp y p.0.start ≡ Less) (past cmp y ps)
-  rest = split_past o eq e y ps c
+  -- the pairs near the end of a range that is changed, and those behind it
+  pub parts_near : (r : Range K) (value : Option V) → (near_end cmp value r.end ps ++ behind_end cmp value r.end ps ≡ ps) × Every (λ (p : Range K × V). is_gt (cmp p.0.start r.end) ≡ false) (near_end cmp value r.end ps) × Every (λ (p : Range K × V). IsApart (optional S) (r, value) (given p)) (behind_end cmp value r.end ps)
+  parts_near r None =
+      let s = split o eq e r.end ps c in
+      (s.0, Every-map _ _ (before cmp r.end ps) (λ p k. lt_le o p.0.start r.end k) s.1, Every-map _ _ (from cmp r.end ps) (λ p k. record { before = k; differs_at_touch = λ _. refl }) s.2)
+  parts_near r (Some v) =
+      let s = split_past o eq e r.end ps c in
+      (s.0, s.1, Every-map _ _ (past cmp r.end ps) (λ p k. IsApart-from_lt (optional S) (place_total o) (r, Some v) (given p) k) s.2)
 
-  behind : (x : K) → cmp x y ≡ Less → Every (λ (p : Range K × V). is_gt (cmp x p.0.start) ≡ false) (past cmp y ps)
-  behind x l = Every-map _ _ (past cmp y ps) (λ p k. lt_le o x p.0.start (o.trans x y p.0.start l k)) rest.2
+  module _ (front back : List (Range K × V)) (whole : front ++ back ≡ ps) where
+    -- where there is none in front, none starts before a key that the others start from
+    pub none_before : (x : K) → Every (λ (p : Range K × V). is_gt (cmp x p.0.start) ≡ false) back → front ≡ [] → before cmp x ps ≡ []
+    none_before x later h = ap (before cmp x) (sym whole ∙ ap (λ qs. qs ++ back) h) ∙ (all_from o x back later).0
 
-  all_past : up_to cmp y ps ≡ [] → past cmp y ps ≡ ps
-  all_past h = sym (ap (λ qs. qs ++ past cmp y ps) h) ∙ rest.0
+    -- where those in front do not start from the lower bound on, and the others from the upper one on, none starts within
+    pub none_within : (lo : Bound K) (z : K) → Every (λ (p : Range K × V). is_from_start cmp lo p.0.start ≡ false) front → Every (λ (p : Range K × V). is_gt (cmp z p.0.start) ≡ false) back → filter (λ (p : Range K × V). range_contains cmp lo (Excluded z) p.0.start) ps ≡ []
+    none_within lo z h later =
+        let within : Range K × V → Bool = λ p. range_contains cmp lo (Excluded z) p.0.start in
+        ap (filter within) (sym whole)
+        ∙ filter_same within (λ _. false) (front ++ back)
+        (Every-append _ front back (Every-map _ _ front (λ p k. ap (λ t. t && not (is_le (cmp z p.0.start))) k) h) (Every-map _ _ back (λ p k. not_below (is_from_start cmp lo p.0.start) (is_le (cmp z p.0.start)) (le_of (cmp z p.0.start) k)) later))
+        ∙ filter_no (front ++ back)
 
-  -- where none starts up to y, none starts before a lesser key
-  pub none_before : (x : K) → cmp x y ≡ Less → up_to cmp y ps ≡ [] → before cmp x ps ≡ []
-  none_before x l h = ap (before cmp x) (sym (all_past h)) ∙ (all_from o x (past cmp y ps) (behind x l)).0
+    module _ (us : List (Range K × V)) (b : Range K × V) (is : front ≡ us ++ b ∷ []) where
+      pub whole_at : ps ≡ us ++ b ∷ back
+      whole_at = sym whole ∙ ap (λ xs. xs ++ back) is ∙ grouped us b back
 
-  module _ (x z : K) where
-    abbrev within : Range K × V → Bool
-    within p = range_contains cmp (Excluded x) (Excluded z) p.0.start
+      below : Every (λ (u : Range K × V). cmp u.0.start b.0.start ≡ Less) us
+      below = starts_below o eq e us b back (subst (IsSpaced S) whole_at c)
 
-    none_passes : (qs : List (Range K × V)) → Every (λ p. within p ≡ false) qs → filter within qs ≡ []
-    none_passes qs h = filter_same within (λ _. false) qs h ∙ filter_no qs
+      -- where the last in front starts before a key, all do
+      pub all_start : (x : K) → cmp b.0.start x ≡ Less → Every (λ (p : Range K × V). cmp p.0.start x ≡ Less) front
+      all_start x h = subst (Every (λ (p : Range K × V). cmp p.0.start x ≡ Less)) (sym is) (Every-append _ us (b ∷ []) (Every-map _ _ us (λ u k. o.trans u.0.start b.0.start x k h) below) (h, tt))
 
-    past_without : from cmp z (past cmp y ps) ≡ past cmp y ps → Every (λ p. within p ≡ false) (past cmp y ps)
-    past_without w = Every-map _ _ (past cmp y ps) (λ p k. not_below (is_lt (cmp x p.0.start)) (is_le (cmp z p.0.start)) k)
-        (subst (Every (λ (p : Range K × V). is_le (cmp z p.0.start) ≡ true)) w (filter_passes (λ (p : Range K × V). is_le (cmp z p.0.start)) (past cmp y ps)))
+      -- the two parts at a key behind its start, that the others start from
+      pub parts_behind : (x : K) → cmp b.0.start x ≡ Less → Every (λ (p : Range K × V). is_gt (cmp x p.0.start) ≡ false) back → (before cmp x ps ≡ front) × (from cmp x ps ≡ back)
+      parts_behind x h later = let both = parts_at o x front back (all_start x h) later in (ap (before cmp x) (sym whole) ∙ both.0, ap (from cmp x) (sym whole) ∙ both.1)
 
-    -- where those that start past y start no earlier than z, and none starts up to y
-    pub none_within_none : from cmp z (past cmp y ps) ≡ past cmp y ps → up_to cmp y ps ≡ [] → filter within ps ≡ []
-    none_within_none w h = ap (filter within) (sym (all_past h)) ∙ none_passes (past cmp y ps) (past_without w)
+      -- where it starts no later than x, none starts after x and before z
+      pub none_after : (x z : K) → Every (λ (p : Range K × V). is_gt (cmp z p.0.start) ≡ false) back → is_gt (cmp b.0.start x) ≡ false → filter (λ (p : Range K × V). range_contains cmp (Excluded x) (Excluded z) p.0.start) ps ≡ []
+      none_after x z later h = none_within (Excluded x) z (subst (Every (λ (p : Range K × V). is_lt (cmp x p.0.start) ≡ false)) (sym is) (Every-append _ us (b ∷ []) (Every-map _ _ us (λ u k. no_later u (lt_le o u.0.start x (lt_le_trans o u.0.start b.0.start x k h))) below) (no_later b h, tt))) later
+        where
+          no_later : (p : Range K × V) → is_gt (cmp p.0.start x) ≡ false → is_lt (cmp x p.0.start) ≡ false
+          no_later p k = ap is_lt (o.antisymm x p.0.start) ∙ not_lt_of_le (cmp p.0.start x) k
 
-  module _ (us : List (Range K × V)) (b : Range K × V) (is : up_to cmp y ps ≡ us ++ b ∷ []) where
-    pub whole : ps ≡ us ++ b ∷ past cmp y ps
-    whole = sym rest.0 ∙ ap (λ xs. xs ++ past cmp y ps) is ∙ grouped us b (past cmp y ps)
+      -- where it starts before x, none starts from x on and before z
+      pub none_from : (x z : K) → Every (λ (p : Range K × V). is_gt (cmp z p.0.start) ≡ false) back → cmp b.0.start x ≡ Less → filter (λ (p : Range K × V). range_contains cmp (Included x) (Excluded z) p.0.start) ps ≡ []
+      none_from x z later h = none_within (Included x) z (Every-map _ _ front (λ p k. below_test o x p k) (all_start x h)) later
 
-    spaced : IsSpaced S (us ++ b ∷ past cmp y ps)
-    spaced = subst (IsSpaced S) whole c
+  -- what the last near the end tells of the last before the start
+  module _ (r : Range K) (value : Option V) (full : cmp r.start r.end ≡ Less) where
+    abbrev front : List (Range K × V)
+    front = near_end cmp value r.end ps
 
-    below : Every (λ (u : Range K × V). cmp u.0.start b.0.start ≡ Less) us
-    below = starts_below o eq e us b (past cmp y ps) spaced
+    abbrev back : List (Range K × V)
+    back = behind_end cmp value r.end ps
 
-    -- the two parts at a key behind the start of the last and before all that start past y
-    pub parts_behind : (x : K) → cmp b.0.start x ≡ Less → Every (λ (p : Range K × V). is_gt (cmp x p.0.start) ≡ false) (past cmp y ps) → (before cmp x ps ≡ us ++ b ∷ []) × (from cmp x ps ≡ past cmp y ps)
-    parts_behind x l h =
-        let w : ps ≡ (us ++ b ∷ []) ++ past cmp y ps = whole ∙ sym (grouped us b (past cmp y ps)) in
-        let both = parts_at o x (us ++ b ∷ []) (past cmp y ps) (Every-append _ us (b ∷ []) (Every-map _ _ us (λ u k. o.trans u.0.start b.0.start x k l) below) (l, tt)) h in
-        (ap (before cmp x) w ∙ both.0, ap (from cmp x) w ∙ both.1)
+    from_start : Every (λ (p : Range K × V). is_gt (cmp r.start p.0.start) ≡ false) back
+    from_start = Every-map _ _ back (λ p k. lt_le o r.start p.0.start (lt_le_trans o r.start r.end p.0.start full k.before)) (parts_near r value).2
 
-    -- where the last starts before a lesser key, it is the last before that key
-    pub last_before : (x : K) → cmp x y ≡ Less → cmp b.0.start x ≡ Less → before cmp x ps ≡ us ++ b ∷ []
-    last_before x l h = (parts_behind x h (behind x l)).0
+    pub last_before_none : front ≡ [] → before cmp r.start ps ≡ []
+    last_before_none h = none_before front back (parts_near r value).0 r.start from_start h
 
-    -- where it starts no later than x, and those that start past y no earlier than z, none starts between x and z
-    pub none_within : (x z : K) → from cmp z (past cmp y ps) ≡ past cmp y ps → is_gt (cmp b.0.start x) ≡ false → filter (λ p. range_contains cmp (Excluded x) (Excluded z) p.0.start) ps ≡ []
-    none_within x z w h =
-        ap (filter (within x z)) whole
-        ∙ none_passes x z (us ++ b ∷ past cmp y ps)
-        (Every-append _ us (b ∷ past cmp y ps) (Every-map _ _ us (λ u k. no_later u (lt_le o u.0.start x (lt_le_trans o u.0.start b.0.start x k h))) below) (no_later b h, past_without x z w))
-      where
-        no_later : (p : Range K × V) → is_gt (cmp p.0.start x) ≡ false → within x z p ≡ false
-        no_later p k = ap (λ t. t && not (is_le (cmp z p.0.start))) (ap is_lt (o.antisymm x p.0.start) ∙ not_lt_of_le (cmp p.0.start x) k)
+    pub last_before_start : (us : List (Range K × V)) (b : Range K × V) → front ≡ us ++ b ∷ [] → cmp b.0.start r.start ≡ Less → before cmp r.start ps ≡ us ++ b ∷ []
+    last_before_start us b is h = (parts_behind front back (parts_near r value).0 us b is r.start h from_start).0 ∙ is

@@ -67,6 +67,20 @@ module _ {K V : Type 0} {cmp : K → K → Ordering} (o : IsTotalOrder cmp) wher
       let q = below_test y p l.0 in
       ((λ i. cond (not (q i)) (p ∷ again.0 i) (again.0 i)), (λ i. cond (q i) (p ∷ again.1 i) (again.1 i)))
 
+  pub none_up_to : (y : K) (ps : List (Range K × V)) → Every (λ (p : Range K × V). cmp y p.0.start ≡ Less) ps → (up_to cmp y ps ≡ []) × (past cmp y ps ≡ ps)
+  none_up_to y [] h = (refl, refl)
+  none_up_to y (p ∷ ps) h =
+      let again = none_up_to y ps h.1 in
+      let q = ap is_lt h.0 in
+      ((λ i. cond (not (q i)) (p ∷ again.0 i) (again.0 i)), (λ i. cond (q i) (p ∷ again.1 i) (again.1 i)))
+
+  -- what starts after a key
+  pub past_of : (y : K) (pre post : List (Range K × V)) → Every (λ (p : Range K × V). cmp p.0.start y ≡ Less) pre → Every (λ (p : Range K × V). cmp y p.0.start ≡ Less) post → past cmp y (pre ++ post) ≡ post
+  past_of y [] post l h = (none_up_to y post h).1
+  past_of y (p ∷ pre) post l h =
+      let q : is_lt (cmp y p.0.start) ≡ false = ap is_lt (o.antisymm y p.0.start) ∙ not_lt_of_le (cmp p.0.start y) (ap is_gt l.0) in
+      ap (λ b. cond b (p ∷ past cmp y (pre ++ post)) (past cmp y (pre ++ post))) q ∙ past_of y pre post l.1 h
+
 module _ {K V : Type 0} {cmp : K → K → Ordering} (o : IsTotalOrder cmp) (eq : V → V → Bool) (e : IsEquivalence eq) where
   abbrev S : Shape (Range K) (Option K) V
   S = shape cmp eq
@@ -105,13 +119,6 @@ module _ {K V : Type 0} {cmp : K → K → Ordering} (o : IsTotalOrder cmp) (eq 
             ((λ i. both.0 i ++ both.1 i), subst (Every (λ (p : Range K × V). cmp p.0.start y ≡ Less)) (sym both.0) tt, subst (Every (λ (p : Range K × V). is_gt (cmp y p.0.start) ≡ false)) (sym both.1) above)
       ]
 
-  pub none_up_to : (y : K) (ps : List (Range K × V)) → Every (λ (p : Range K × V). cmp y p.0.start ≡ Less) ps → (up_to cmp y ps ≡ []) × (past cmp y ps ≡ ps)
-  none_up_to y [] h = (refl, refl)
-  none_up_to y (p ∷ ps) h =
-      let again = none_up_to y ps h.1 in
-      let q = ap is_lt h.0 in
-      ((λ i. cond (not (q i)) (p ∷ again.0 i) (again.0 i)), (λ i. cond (q i) (p ∷ again.1 i) (again.1 i)))
-
   pub split_past : (y : K) (ps : List (Range K × V)) → IsSpaced S ps → (up_to cmp y ps ++ past cmp y ps ≡ ps) × Every (λ (p : Range K × V). is_gt (cmp p.0.start y) ≡ false) (up_to cmp y ps) × Every (λ (p : Range K × V). cmp y p.0.start ≡ Less) (past cmp y ps)
   split_past y [] c = (refl, tt, tt)
   split_past y (a ∷ ps) c = go (split_past y ps c.2)
@@ -121,7 +128,7 @@ module _ {K V : Type 0} {cmp : K → K → Ordering} (o : IsTotalOrder cmp) (eq 
       go again = elim (lt_or_le o y a.0.start) [
         | inl l ↦
             let above : Every (λ (p : Range K × V). cmp y p.0.start ≡ Less) (a ∷ ps) = (l, Every-map _ _ ps (λ p h. o.trans y a.0.start p.0.start l h) (rises a ps c)) in
-            let both = none_up_to y (a ∷ ps) above in
+            let both = none_up_to o y (a ∷ ps) above in
             ((λ i. both.0 i ++ both.1 i), subst (Every (λ (p : Range K × V). is_gt (cmp p.0.start y) ≡ false)) (sym both.0) tt, subst (Every (λ (p : Range K × V). cmp y p.0.start ≡ Less)) (sym both.1) above)
         | inr k ↦
             let q : is_lt (cmp y a.0.start) ≡ false = ap is_lt (o.antisymm y a.0.start) ∙ not_lt_of_le (cmp a.0.start y) k in

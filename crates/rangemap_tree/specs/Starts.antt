@@ -32,6 +32,16 @@ module _ {K V : Type 0} (cmp : K → K → Ordering) where
   abbrev pub up_to : K → List (Range K × V) → List (Range K × V)
   up_to x ps = filter (λ p. not (starts_past x p)) ps
 
+  -- the pairs of which a change of a range that ends at x looks at the last: a value is also joined with one that starts at x
+  abbrev pub near_end : Option V → K → List (Range K × V) → List (Range K × V)
+  near_end None x ps = before x ps
+  near_end (Some v) x ps = up_to x ps
+
+  -- the pairs behind them
+  abbrev pub behind_end : Option V → K → List (Range K × V) → List (Range K × V)
+  behind_end None x ps = from x ps
+  behind_end (Some v) x ps = past x ps
+
   -- the pairs that do not start at x
   abbrev pub without : K → List (Range K × V) → List (Range K × V)
   without x ps = filter (λ p. not (is_eq (cmp x p.0.start))) ps

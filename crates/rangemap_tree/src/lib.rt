@@ -12,6 +12,7 @@ mod overlapping;
 pub mod pairs;
 mod pieces;
 mod remove;
+mod sides;
 mod tree;
 
 pub use tree::Tree;

@@ -1,7 +1,5 @@
 //! What a range leaves of a stored one that it cuts.
-ghost use Rattle.std.specs.Prelude.{IfOk};
 
-use std::alloc::AllocError;
 use std::ops::Range;
 
 /// A pair of its own, and first a clone of its start, at which a tree keeps it.
@@ -14,22 +12,4 @@ pub struct Remains<K, V> {
     pub cut: Option<Range<K>>,
     /// What is left behind.
     pub piece: Option<Keyed<K, V>>,
-}
-
-/// Returns what the given range leaves of a stored pair behind its own end.
-///
-/// # Errors
-///
-/// A clone was refused.
-pub fn piece_behind<K: Clone, V: Clone>(
-    range: &Range<K>,
-    last: &Range<K>,
-    value: &V,
-) -> Result<Keyed<K, V>, AllocError>
-    ensures { IfOk result (λ piece. K.is_clone range.now.end piece.0 × K.is_clone range.now.end piece.1.0.start × K.is_clone last.now.end piece.1.0.end × V.is_clone value.now piece.1.1) }
-{
-    let start = range.end.clone()?;
-    let end = last.end.clone()?;
-    let key = range.end.clone()?;
-    Ok((key, (start..end, value.clone()?)))
 }
