@@ -1,8 +1,7 @@
 -- What lookups, an insert and a remove make of a canonical list of half-open ranges, by the starts of these.
-use Rattle.std.proofs.Common.{arith, suc, ◌≡◌, ◌+◌, ◌≤◌, List, [], ◌∷◌, ◌++◌, Bool, true, false, cond, ◌&&◌, Option, Some, None, IfSome, filter, find, refl, sym, ap, ◌∙◌, subst, true≢false, append_assoc, Ordering, Less, Equal, Greater, is_lt, is_le, is_gt, length, length-append}
+use Rattle.std.proofs.Common.{arith, suc, ◌≡◌, ◌+◌, ◌≤◌, List, [], ◌∷◌, ◌++◌, Bool, true, false, cond, ◌&&◌, Option, Some, None, IfSome, filter, find, refl, sym, ap, ◌∙◌, subst, true≢false, append_assoc, Ordering, Less, Equal, is_lt, is_le, is_gt, length, length-append}
 use Rattle.std.specs.Cmp.{IsTotalOrder, IsEquivalence, tied_itself}
 use Rattle.std.specs.Option.{unwrap_or}
-use Rattle.std.specs.Ordering.{ordering_reverse}
 use Rattle.std.specs.declared.ops.Range.{Range}
 use Rattle.rangemap_core.specs.Ranges.{half_open, IsCanonical, IsNewest, IsStorable, IsCanonOf, covering, changed, value_at, erase}
 use Rattle.rangemap_core.specs.engine.EndpointKinds.{half_open_placed}
@@ -18,7 +17,7 @@ use Rattle.rangemap_core.proofs.PlaceOrderLemmas.{le_trans, lt_le_trans, le_lt_t
 use Rattle.rangemap_tree.specs.Starts.{before, behind_end, from, past, up_to, recut, piece_list, IsCutThere, IsNewAt}
 use Rattle.rangemap_tree.specs.Sides.{shape, IsLeft, IsRight}
 use Rattle.rangemap_tree.proofs.StartLemmas.{from_lower}
-use Rattle.rangemap_tree.proofs.SplitLemmas.{le_of, split, split_past}
+use Rattle.rangemap_tree.proofs.SplitLemmas.{gt_not_le, le_of, not_lt_of_le, split, split_past}
 use Rattle.rangemap_tree.proofs.SideLemmas.{unmet}
 
 find_skip : {X : Type 0} (f : X → Bool) (xs ys : List X) → Every (λ x. f x ≡ false) xs → find f (xs ++ ys) ≡ find f ys
@@ -32,16 +31,6 @@ find_none f (x ∷ xs) h = ap (λ b. cond b (Some x) (find f xs)) h.0 ∙ find_n
 and_no : (b : Bool) → (b && false) ≡ false
 and_no true = refl
 and_no false = refl
-
-reversed_le : (r : Ordering) → r ≡ Less → is_le (ordering_reverse r) ≡ false
-reversed_le Less h = refl
-reversed_le Equal h = cc
-reversed_le Greater h = cc
-
-reversed_lt : (r : Ordering) → is_gt r ≡ false → is_lt (ordering_reverse r) ≡ false
-reversed_lt Less h = refl
-reversed_lt Equal h = refl
-reversed_lt Greater h = absurd (true≢false h)
 
 recut_length : {K V : Type 0} (cut : Option (Range K)) (ps : List (Range K × V)) → length (recut cut ps) ≡ length ps
 recut_length None ps = refl
@@ -93,7 +82,7 @@ module _ {K V : Type 0} {cmp : K → K → Ordering} (o : IsTotalOrder cmp) (eq 
     parts = split_past o eq e x ps spaced
 
     past_hold : Every (λ (p : Range K × V). (half_open cmp).holds p.0 x ≡ false) (past cmp x ps)
-    past_hold = Every-map _ _ (past cmp x ps) (λ p h. ap (λ b. b && is_lt (cmp x p.0.end)) (ap is_le (o.antisymm p.0.start x) ∙ reversed_le (cmp x p.0.start) h)) parts.2
+    past_hold = Every-map _ _ (past cmp x ps) (λ p h. ap (λ b. b && is_lt (cmp x p.0.end)) (ap is_le (o.antisymm p.0.start x) ∙ gt_not_le (cmp x p.0.start) h)) parts.2
 
     pub looked_none : up_to cmp x ps ≡ [] → covering (half_open cmp) ps x ≡ None
     looked_none h =
@@ -116,7 +105,7 @@ module _ {K V : Type 0} {cmp : K → K → Ordering} (o : IsTotalOrder cmp) (eq 
         starts = le_of (cmp p.0.start x) up
 
         us_hold : Every (λ (q : Range K × V). (half_open cmp).holds q.0 x ≡ false) us
-        us_hold = Every-map _ _ us (λ q h. ap (λ b. is_le (cmp q.0.start x) && b) (ap is_lt (o.antisymm x q.0.end) ∙ reversed_lt (cmp q.0.end x) (le_trans o q.0.end p.0.start x h.before up)) ∙ and_no (is_le (cmp q.0.start x)))
+        us_hold = Every-map _ _ us (λ q h. ap (λ b. is_le (cmp q.0.start x) && b) (ap is_lt (o.antisymm x q.0.end) ∙ not_lt_of_le (cmp q.0.end x) (le_trans o q.0.end p.0.start x h.before up)) ∙ and_no (is_le (cmp q.0.start x)))
             (before_first (shape cmp eq) (place_total o) e us (past cmp x ps) p (subst (IsSpaced (shape cmp eq)) whole spaced))
 
   -- ---- changes

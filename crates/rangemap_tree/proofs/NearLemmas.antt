@@ -16,7 +16,7 @@ use Rattle.rangemap_tree.specs.Sides.{shape}
 use Rattle.rangemap_tree.proofs.FilterLemmas.{filter_no, filter_same}
 use Rattle.rangemap_tree.proofs.SplitLemmas.{all_from, below_test, grouped, le_of, not_lt_of_le, parts_at, split, split_past, starts_below}
 
-pub not_below : (b c : Bool) → c ≡ true → (b && not c) ≡ false
+not_below : (b c : Bool) → c ≡ true → (b && not c) ≡ false
 not_below true true h = refl
 not_below false true h = refl
 not_below b false h = absurd (true≢false (sym h))

@@ -12,11 +12,11 @@ use Rattle.rangemap_core.specs.engine.Shape.{IsApart, IsSpaced}
 use Rattle.rangemap_core.specs.engine.Stretch.{Every}
 use Rattle.rangemap_core.proofs.ListLemmas.{Every-map, Every-append, Every-right, IsSpaced-left, IsSpaced-right}
 use Rattle.rangemap_core.proofs.InsertPartLemmas.{before_first}
-use Rattle.rangemap_core.proofs.PlaceOrderLemmas.{le_trans, lt_le_trans, le_lt_trans}
+use Rattle.rangemap_core.proofs.PlaceOrderLemmas.{le_trans, lt_le_trans, le_lt_trans, not_lt_ge}
 use Rattle.rangemap_tree.specs.Starts.{past, up_to}
 use Rattle.rangemap_tree.specs.Sides.{shape}
 use Rattle.rangemap_tree.proofs.FilterLemmas.{filter_same}
-use Rattle.rangemap_tree.proofs.SplitLemmas.{split_past, all_full, grouped, not_lt_of_le}
+use Rattle.rangemap_tree.proofs.SplitLemmas.{all_full, grouped, gt_not_le, less_if_above, not_lt_of_le, split_past}
 
 no_and : (a b : Bool) → (b ≡ false → a ≡ false) → (a && not b) ≡ false
 no_and true true h = refl
@@ -27,34 +27,6 @@ not_le_is_lt : (r : Ordering) → not (is_le (ordering_reverse r)) ≡ is_lt r
 not_le_is_lt Less = refl
 not_le_is_lt Equal = refl
 not_le_is_lt Greater = refl
-
-le_no : (r : Ordering) → r ≡ Less → is_le (ordering_reverse r) ≡ false
-le_no Less h = refl
-le_no Equal h = cc
-le_no Greater h = cc
-
-lt_yes_le : (r : Ordering) → r ≡ Less → is_le r ≡ true
-lt_yes_le r h = ap is_le h
-
-not_lt_ge_by : (r : Ordering) → is_lt r ≡ false → is_gt (ordering_reverse r) ≡ false
-not_lt_ge_by Less h = absurd (true≢false h)
-not_lt_ge_by Equal h = refl
-not_lt_ge_by Greater h = refl
-
-pub not_gt_of_lt : (r : Ordering) → is_lt r ≡ true → is_gt r ≡ false
-not_gt_of_lt Less h = refl
-not_gt_of_lt Equal h = refl
-not_gt_of_lt Greater h = absurd (true≢false (sym h))
-
-pub not_gt_of_le : (r : Ordering) → is_le r ≡ true → is_gt r ≡ false
-not_gt_of_le Less h = refl
-not_gt_of_le Equal h = refl
-not_gt_of_le Greater h = absurd (true≢false (sym h))
-
-less_by : (r : Ordering) → is_le r ≡ false → ordering_reverse r ≡ Less
-less_by Less h = absurd (true≢false h)
-less_by Equal h = absurd (true≢false h)
-less_by Greater h = refl
 
 module _ {K : Type 0} {cmp : K → K → Ordering} (o : IsTotalOrder cmp) where
   not_le : (t x : K) → not (is_le (cmp t x)) ≡ is_lt (cmp x t)
@@ -70,8 +42,8 @@ module _ {K : Type 0} {cmp : K → K → Ordering} (o : IsTotalOrder cmp) where
       below : (y : K) (b : Bool) → is_from_start cmp lo y ≡ b → is_le (cmp t y) ≡ false → is_from_start cmp lo y ≡ false
       below y false e q = e
       below y true e q =
-          let y_t : cmp y t ≡ Less = o.antisymm y t ∙ less_by (cmp t y) q in
-          let t_x : is_gt (cmp t x) ≡ false = ap is_gt (o.antisymm t x) ∙ not_lt_ge_by (cmp x t) h in
+          let y_t : cmp y t ≡ Less = less_if_above o t y q in
+          let t_x : is_gt (cmp t x) ≡ false = not_lt_ge o x t h in
           let y_x : cmp y x ≡ Less = lt_le_trans o y t x y_t t_x in
           absurd (true≢false (sym (ap is_gt (o.antisymm x y ∙ ap ordering_reverse y_x)) ∙ above y e))
 
@@ -127,7 +99,7 @@ module _ {K V : Type 0} {cmp : K → K → Ordering} (o : IsTotalOrder cmp) (eq 
     pub reached : cmp q.start a.0.end ≡ Less → filter (λ (p : Range K × V). range_contains cmp (Included a.0.start) (Excluded q.end) p.0.start) ps ≡ overlapped (half_open cmp) ps q
     reached h = whole (Included a.0.start)
         (subst (Every (Tested (Included a.0.start))) (sym is) (Every-append (Tested (Included a.0.start)) us (a ∷ []) (both us first (all_full o eq e us us_spaced)) (tested (Included a.0.start) a true (ap is_le (tied_itself o a.0.start)) (ap is_lt h), tt)))
-        (past_tested (Included a.0.start) (λ y k. lt_yes_le (cmp a.0.start y) (le_lt_trans o a.0.start q.start y a_up k)))
+        (past_tested (Included a.0.start) (λ y k. ap is_le (le_lt_trans o a.0.start q.start y a_up k)))
       where
         us_spaced : IsSpaced (shape cmp eq) us
         us_spaced = IsSpaced-left (shape cmp eq) (place_total o) us (a ∷ past cmp q.start ps) there
@@ -136,7 +108,7 @@ module _ {K V : Type 0} {cmp : K → K → Ordering} (o : IsTotalOrder cmp) (eq 
         both [] f k = tt
         both (w ∷ ws) f k = (
           tested (Included a.0.start) w false
-              (ap is_le (o.antisymm a.0.start w.0.start) ∙ le_no (cmp w.0.start a.0.start) (lt_le_trans o w.0.start w.0.end a.0.start k.0 f.0.before))
+              (ap is_le (o.antisymm a.0.start w.0.start) ∙ gt_not_le (cmp w.0.start a.0.start) (lt_le_trans o w.0.start w.0.end a.0.start k.0 f.0.before))
               (not_lt o w.0.end q.start (le_trans o w.0.end a.0.start q.start f.0.before a_up)),
           both ws f.1 k.1,
         )

@@ -67,7 +67,7 @@ module _ {K V : Type 0} {cmp : K → K → Ordering} (o : IsTotalOrder cmp) wher
       let q = below_test y p l.0 in
       ((λ i. cond (not (q i)) (p ∷ again.0 i) (again.0 i)), (λ i. cond (q i) (p ∷ again.1 i) (again.1 i)))
 
-  pub none_up_to : (y : K) (ps : List (Range K × V)) → Every (λ (p : Range K × V). cmp y p.0.start ≡ Less) ps → (up_to cmp y ps ≡ []) × (past cmp y ps ≡ ps)
+  none_up_to : (y : K) (ps : List (Range K × V)) → Every (λ (p : Range K × V). cmp y p.0.start ≡ Less) ps → (up_to cmp y ps ≡ []) × (past cmp y ps ≡ ps)
   none_up_to y [] h = (refl, refl)
   none_up_to y (p ∷ ps) h =
       let again = none_up_to y ps h.1 in

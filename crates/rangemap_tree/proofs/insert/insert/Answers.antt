@@ -28,37 +28,21 @@ known g c = change g.met.K.Ord.total g.V.PartialEq.eq g.met.V.Eq.laws c.args.pai
 pub starts_between-requires-clause-forward : goal.starts_between-requires-clause-forward
 starts_between-requires-clause-forward g c = (known g (goal.at.starts_between-requires-clause-forward g c).After-unwrap_or-2).full
 
-pub replace-requires-clause-key : goal.replace-requires-clause-key
-replace-requires-clause-key g c = turned g.met.K.Ord.total _ _ (c.requires.faithful_keys _ _ c.in_ok-key.ensures.cases)
-
-pub replace-requires-clause-non_empty : goal.replace-requires-clause-non_empty
-replace-requires-clause-non_empty g c = (known g (goal.at.replace-requires-clause-non_empty g c).After-unwrap_or-2).full
-
-pub replace-requires-clause-cut : goal.replace-requires-clause-cut
-replace-requires-clause-cut g c = (known g (goal.at.replace-requires-clause-cut g c).After-unwrap_or-2).cut_there
-
-pub replace-requires-clause-piece : goal.replace-requires-clause-piece
-replace-requires-clause-piece g c = (known g (goal.at.replace-requires-clause-piece g c).After-unwrap_or-2).new_there
-
-pub replace-requires-clause-starts : goal.replace-requires-clause-starts
-replace-requires-clause-starts g c =
+pub replace-requires : goal.replace-requires
+replace-requires g c =
+    let cmp = g.K.Ord.cmp in
     let m : Range g.row.K.Denot = record { start = c.unwrap_or.result; end = c.unwrap_or-2.result } in
-    subst (AreStarts g.K.Ord.cmp (filter (λ p. range_contains g.K.Ord.cmp (Excluded m.start) (Excluded m.end) p.0.start) c.args.pairs.now)) (sym c.as_slice.ensures.value) c.in_ok-starts-in-Some.ensures
+    let k = known g (goal.at.replace-requires g c).After-unwrap_or-2 in
+    record {
+      key = turned g.met.K.Ord.total _ _ (c.requires.faithful_keys _ _ c.in_ok-key.ensures.cases);
+      non_empty = k.full;
+      cut = k.cut_there;
+      piece = k.new_there;
+      starts = subst (AreStarts cmp (filter (λ p. range_contains cmp (Excluded m.start) (Excluded m.end) p.0.start) c.args.pairs.now)) (sym c.as_slice.ensures.value) c.in_ok-starts-in-Some.ensures;
+    }
 
-pub replace-requires-in_default-clause-key : goal.replace-requires-in_default-clause-key
-replace-requires-in_default-clause-key g c = turned g.met.K.Ord.total _ _ (c.requires.faithful_keys _ _ c.in_ok-key.ensures.cases)
-
-pub replace-requires-in_default-clause-non_empty : goal.replace-requires-in_default-clause-non_empty
-replace-requires-in_default-clause-non_empty g c = (known g (goal.at.replace-requires-in_default-clause-non_empty g c).After-unwrap_or-2).full
-
-pub replace-requires-in_default-clause-cut : goal.replace-requires-in_default-clause-cut
-replace-requires-in_default-clause-cut g c = (known g (goal.at.replace-requires-in_default-clause-cut g c).After-unwrap_or-2).cut_there
-
-pub replace-requires-in_default-clause-piece : goal.replace-requires-in_default-clause-piece
-replace-requires-in_default-clause-piece g c = (known g (goal.at.replace-requires-in_default-clause-piece g c).After-unwrap_or-2).new_there
-
-pub replace-requires-in_default-clause-starts : goal.replace-requires-in_default-clause-starts
-replace-requires-in_default-clause-starts g c =
+pub replace-requires-in_default : goal.replace-requires-in_default
+replace-requires-in_default g c =
     let o = g.met.K.Ord.total in
     let cmp = g.K.Ord.cmp in
     let eq = g.V.PartialEq.eq in
@@ -66,19 +50,26 @@ replace-requires-in_default-clause-starts g c =
     let ps = c.args.pairs.now in
     let r = c.args.range in
     let m : Range g.row.K.Denot = record { start = c.unwrap_or.result; end = c.unwrap_or-2.result } in
+    let k = known g (goal.at.replace-requires-in_default g c).After-unwrap_or-2 in
     let sp = to_spaced (half_open_placed o) eq ps c.requires.canonical in
     let near = c.last_within-near in
     let front = up_to cmp r.end ps in
     let back = past cmp r.end ps in
     let whole : front ++ back ≡ ps = (parts_near o eq e ps sp r (Some c.args.value)).0 in
-    let later : Every (λ (p : Range g.row.K.Denot × g.row.V.Denot). is_gt (cmp m.end p.0.start) ≡ false) back = (known g (goal.at.replace-requires-in_default-clause-starts g c).After-unwrap_or-2).behind in
+    let later : Every (λ (p : Range g.row.K.Denot × g.row.V.Denot). is_gt (cmp m.end p.0.start) ≡ false) back = k.behind in
     let none : filter (λ (p : Range g.row.K.Denot × g.row.V.Denot). range_contains cmp (Excluded m.start) (Excluded m.end) p.0.start) ps ≡ [] = elim c.in_default.branch [
       | in_default-via-in-Some+else-is_gt v ↦
           let a : Range g.row.K.Denot × g.row.V.Denot = (v.in-Some.last.now, v.in-Some.field-0-1.now) in
           none_after o eq e ps sp front back whole near.ensures.0 a (taken_some deref_pair front near.result near.ensures (v.in-Some.last, v.in-Some.field-0-1) v.in-Some.is) m.start m.end later (ap is_gt (sym v.cmp.ensures) ∙ sym v.is_gt.ensures ∙ v.if-is_gt.false)
       | in_default-via-in_default v ↦ none_within o eq e ps sp front back whole (Excluded m.start) m.end (subst (Every (λ (p : Range g.row.K.Denot × g.row.V.Denot). is_lt (cmp m.start p.0.start) ≡ false)) (sym (taken_none deref_pair front near.result near.ensures v.in_default.is)) tt) later
     ] in
-    subst (λ qs. AreStarts cmp qs []) (sym none) tt
+    record {
+      key = turned o _ _ (c.requires.faithful_keys _ _ c.in_ok-key.ensures.cases);
+      non_empty = k.full;
+      cut = k.cut_there;
+      piece = k.new_there;
+      starts = subst (λ qs. AreStarts cmp qs []) (sym none) tt;
+    }
 
 made : (g : _) (c : After-unwrap_or-2 g) {T E : Type 0} (result : Result T E) (new : List (Range g.row.K.Denot × g.row.V.Denot)) → OnOk result (new ≡ recut c.in_ok-left.left.cut (before g.K.Ord.cmp c.unwrap_or.result c.args.pairs.now) ++ (record { start = c.unwrap_or.result; end = c.unwrap_or-2.result }, c.args.value) ∷ (piece_list c.in_ok-right.right.piece ++ from g.K.Ord.cmp c.unwrap_or-2.result c.args.pairs.now))
     → OnOk result (IsChanged g.K.Ord.cmp g.V.PartialEq.eq c.args.pairs.now c.args.range (Some c.args.value) new)
