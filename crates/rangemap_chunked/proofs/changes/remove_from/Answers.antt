@@ -7,28 +7,29 @@ use Rattle.rangemap_chunked.specs.Chunks.{IsCounted, chunk_by, whole}
 use Rattle.rangemap_chunked.proofs.StoreLemmas.{none_in_chunk}
 use Rattle.rangemap_chunked.proofs.TouchLemmas.{below_by}
 use Rattle.rangemap_chunked.proofs.changes.remove_from.Goals as goal
+use Rattle.rangemap_chunked.proofs.changes.remove_from.Goals.{After-may_overflow}
 
-pub returns-then-may_overflow-clause-meets_nothing : goal.returns-then-may_overflow-clause-meets_nothing
-returns-then-may_overflow-clause-meets_nothing g c = λ none.
-    absurd (c.may_overflow.ensures.refused c.if-may_overflow.true (subst (λ (ps : List (List (g.row.R.Denot × g.row.V.Denot))). overlapped g.Q.Kind.kind (whole ps) c.args.range ≡ []) (sym c.deref-3.ensures.value) none))
+-- the chunks, as they were lent to the look for an overflow
+lent : (g : _) (c : After-may_overflow g) → overlapped g.Q.Kind.kind (whole c.args.chunks.now.items) c.args.range ≡ [] → overlapped g.Q.Kind.kind (whole c.deref-3.result.now) c.args.range ≡ []
+lent g c = subst (λ (ps : List (List (g.row.R.Denot × g.row.V.Denot))). overlapped g.Q.Kind.kind (whole ps) c.args.range ≡ []) (sym c.deref-3.ensures.value)
 
-pub returns-in_err-counts-clause-meets_nothing : goal.returns-in_err-counts-clause-meets_nothing
-returns-in_err-counts-clause-meets_nothing g c = λ none.
+-- the chunk where the range starts
+here : (g : _) (c : After-may_overflow g) → overlapped g.Q.Kind.kind (whole c.args.chunks.now.items) c.args.range ≡ [] → overlapped g.Q.Kind.kind (get_or c.args.chunks.now.items c.first_met_chunk-at.result []) c.args.range ≡ []
+here g c none =
     let xs = c.args.chunks.now.items in
     let at = c.first_met_chunk-at.result in
     let l : at < length xs = search rules in
-    let alone = c.may_overflow.ensures.alone (subst (λ (ps : List (List (g.row.R.Denot × g.row.V.Denot))). overlapped g.Q.Kind.kind (whole ps) c.args.range ≡ []) (sym c.deref-3.ensures.value) none) in
-    let here = none_in_chunk (λ (pair : g.row.R.Denot × g.row.V.Denot). g.Q.Kind.kind.meets c.args.range pair.0) xs at (get_or xs at []) l (get_or_default xs at [] (get_or xs at []) l) none in
-    absurd (true≢false (sym (c.in_err-counts.ensures.meets_nothing refl alone here).0))
+    none_in_chunk (λ (pair : (g.row.R.Denot × g.row.V.Denot)). g.Q.Kind.kind.meets c.args.range pair.0) xs at (get_or xs at []) l (get_or_default xs at [] (get_or xs at []) l) none
+
+pub returns-then-may_overflow-clause-meets_nothing : goal.returns-then-may_overflow-clause-meets_nothing
+returns-then-may_overflow-clause-meets_nothing g c = λ none. absurd (c.may_overflow.ensures.refused c.if-may_overflow.true (lent g (goal.at.returns-then-may_overflow-clause-meets_nothing g c).After-may_overflow none))
+
+pub returns-in_err-counts-clause-meets_nothing : goal.returns-in_err-counts-clause-meets_nothing
+returns-in_err-counts-clause-meets_nothing g c = λ none. absurd (true≢false (sym (c.in_err-counts.ensures.meets_nothing refl (c.may_overflow.ensures.alone (lent g (goal.at.returns-in_err-counts-clause-meets_nothing g c).After-may_overflow none)) (here g (goal.at.returns-in_err-counts-clause-meets_nothing g c).After-may_overflow none)).0))
 
 pub returns-clause-meets_nothing : goal.returns-clause-meets_nothing
 returns-clause-meets_nothing g c = λ none.
-    let xs = c.args.chunks.now.items in
-    let at = c.first_met_chunk-at.result in
-    let l : at < length xs = search rules in
-    let alone = c.may_overflow.ensures.alone (subst (λ (ps : List (List (g.row.R.Denot × g.row.V.Denot))). overlapped g.Q.Kind.kind (whole ps) c.args.range ≡ []) (sym c.deref-3.ensures.value) none) in
-    let here = none_in_chunk (λ (pair : g.row.R.Denot × g.row.V.Denot). g.Q.Kind.kind.meets c.args.range pair.0) xs at (get_or xs at []) l (get_or_default xs at [] (get_or xs at []) l) none in
-    (refl, c.settle.ensures.whole ∙ ap (λ (ps : List (List (g.row.R.Denot × g.row.V.Denot))). whole ps) (c.in_ok-counts.ensures.meets_nothing refl alone here).1)
+    (refl, c.settle.ensures.whole ∙ ap (λ (ps : List (List (g.row.R.Denot × g.row.V.Denot))). whole ps) (c.in_ok-counts.ensures.meets_nothing refl (c.may_overflow.ensures.alone (lent g (goal.at.returns-clause-meets_nothing g c).After-may_overflow none)) (here g (goal.at.returns-clause-meets_nothing g c).After-may_overflow none)).1)
 
 pub change_over-requires-clause-begun : goal.change_over-requires-clause-begun
 change_over-requires-clause-begun g c = λ more.
