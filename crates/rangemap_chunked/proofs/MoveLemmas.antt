@@ -1,17 +1,7 @@
 -- One value of a list taken out, and put back.
-use Rattle.std.proofs.Common.{arith, ◌≡◌, ℕ, suc, ◌+◌, ◌<◌, List, [], ◌∷◌, ◌++◌, length, take, drop, get_or, refl, sym, ap, ◌∙◌, length-append, length-drop}
+use Rattle.std.proofs.Common.{arith, ◌≡◌, ℕ, ◌+◌, ◌<◌, List, [], ◌∷◌, ◌++◌, length, take, drop, get_or, sym, ap, ◌∙◌, length-append, length-drop}
 use Rattle.std.proofs.Math.Seq.{drop-cons}
 use Rattle.std.proofs.lemmas.List.{drop-drop, drop_at, length-take-le, take_at, take-append-drop}
-
--- lists that are the same with a value behind
-pub unpushed : {X : Type 0} (xs ys : List X) (x y : X) → xs ++ x ∷ [] ≡ ys ++ y ∷ [] → (xs ≡ ys) × (x ≡ y)
-unpushed [] [] x y e = (refl, cc)
-unpushed [] (b ∷ ys) x y e = let one : 1 ≡ suc (length (ys ++ y ∷ [])) = ap length e in let more : length (ys ++ y ∷ []) ≡ length ys + 1 = length-append ys (y ∷ []) in absurd (omega (arith, one, more))
-unpushed (a ∷ xs) [] x y e = let one : suc (length (xs ++ x ∷ [])) ≡ 1 = ap length e in let more : length (xs ++ x ∷ []) ≡ length xs + 1 = length-append xs (x ∷ []) in absurd (omega (arith, one, more))
-unpushed (a ∷ xs) (b ∷ ys) x y e =
-    let r = unpushed xs ys x y (ap (drop 1) e) in
-    let same : xs ≡ ys = r.0 in
-    (cc, r.1)
 
 module _ {X : Type 0} (xs : List X) (n : ℕ) (l : n < length xs) where
   pub one_at : length (take 1 (drop n xs)) ≡ 1
