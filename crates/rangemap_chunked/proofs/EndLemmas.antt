@@ -1,7 +1,10 @@
 -- The first and the last pair of a list in chunks.
-use Rattle.std.proofs.Common.{arith, ◌≡◌, suc, ◌-◌, ◌<◌, List, [], ◌∷◌, ◌++◌, length, get_or, refl, sym, ap, ◌∙◌, append-nil, length-append}
+use Rattle.std.proofs.Common.{arith, ◌≡◌, suc, ◌-◌, ◌<◌, List, [], ◌∷◌, ◌++◌, length, get_or, Option, Some, None, refl, sym, ap, ◌∙◌, subst, append-nil, length-append}
+use Rattle.std.specs.Map.Iter.{TakesLast}
 use Rattle.std.specs.Prelude.{slice_get}
+use Rattle.rangemap_core.proofs.ListLemmas.{Every-right}
 use Rattle.rangemap_chunked.specs.Chunks.{AreFilled, whole}
+use Rattle.rangemap_chunked.proofs.ChunkLemmas.{last_whole}
 
 module _ {X : Type 0} where
   -- the ends of a list in chunks are those of the outer ones
@@ -24,3 +27,11 @@ module _ {X : Type 0} where
       let more = length-append y (whole rest) in
       let here : suc (suc (length rest)) - 1 ≡ suc (suc (length rest) - 1) = omega arith in
       last_pair (y ∷ rest) chunk (omega arith) filled.1 (is ∙ ap (λ n. get_or (x ∷ y ∷ rest) n chunk) here) ∙ sym (end_behind x (y ++ whole rest) (omega (arith, more, filled.1.0)))
+
+-- the last pair of the last chunk is that of all, where nothing is left behind
+pub last_of_chunk : {A X : Type 0} (shows : A → X) (chunks rest : List (List X)) (front chunk back left : List X) (result : Option A) → chunks ≡ rest ++ chunk ∷ [] → AreFilled chunks → back ≡ [] → TakesLast shows chunk result left → TakesLast shows (front ++ (whole chunks ++ back)) result (front ++ (whole rest ++ left))
+last_of_chunk shows chunks rest front chunk back left None is filled none taken =
+    let some = Every-right (λ c. 0 < length c) rest (chunk ∷ []) (subst AreFilled is filled) in
+    let size = ap length taken.0 in
+    absurd (omega (arith, some.0, size))
+last_of_chunk shows chunks rest front chunk back left (Some x) is filled none taken = last_whole chunks rest chunk is front back left (shows x) none taken

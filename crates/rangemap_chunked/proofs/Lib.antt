@@ -13,4 +13,3 @@ pub mod OverLemmas
 pub mod TouchLemmas
 pub mod HalvesLemmas
 pub mod EndLemmas
-pub mod IterLemmas

@@ -1,19 +1,20 @@
-use Rattle.std.proofs.Common.{◌∙◌, List, ap, subst, sym}
+use Rattle.std.proofs.Common.{◌≡◌, ◌∙◌, List, ap, subst, sym}
 use Rattle.std.specs.Prelude.{slice_get}
 use Rattle.rangemap_chunked.specs.Chunks.{AreFilled, whole}
 use Rattle.rangemap_chunked.proofs.EndLemmas.{first_pair}
 use Rattle.rangemap_chunked.proofs.chunks.ChunksStore.first.Goals as goal
+use Rattle.rangemap_chunked.proofs.chunks.ChunksStore.first.Goals.{After-as_slice}
+
+-- the first pair of the first chunk is that of all
+first_is : (g : _) (c : After-as_slice g) → slice_get c.as_slice.result.now 0 ≡ slice_get c.args.self.now 0
+first_is g c =
+    let item = c.in_ok-chunk.ensures.item in
+    ap (λ (xs : List (g.row.R.Denot × g.row.V.Denot)). slice_get xs 0) c.as_slice.ensures
+    ∙ first_pair c.deref.result.now c.in_ok-chunk.chunk.now item.3.0 (subst (λ (ps : List (List (g.row.R.Denot × g.row.V.Denot))). AreFilled ps) (sym c.deref.ensures.value) c.self.invariant.0.filled) item.1
+    ∙ ap (λ (xs : List (g.row.R.Denot × g.row.V.Denot)). slice_get xs 0) (ap (λ (ps : List (List (g.row.R.Denot × g.row.V.Denot))). whole ps) c.deref.ensures.value ∙ c.self.view_is)
 
 pub returns : goal.returns
-returns g c =
-    let item = c.in_ok-chunk.ensures.item in
-    c.in_ok-pair.ensures.value ∙ ap (λ (xs : List (g.row.R.Denot × g.row.V.Denot)). slice_get xs 0) c.as_slice.ensures
-    ∙ first_pair c.deref.result.now c.in_ok-chunk.chunk.now item.3.0 (subst (λ (ps : List (List (g.row.R.Denot × g.row.V.Denot))). AreFilled ps) (sym c.deref.ensures.value) c.self.invariant.0.filled) item.1
-    ∙ ap (λ (ps : List (g.row.R.Denot × g.row.V.Denot)). slice_get ps 0) (ap (λ (ps : List (List (g.row.R.Denot × g.row.V.Denot))). whole ps) c.deref.ensures.value ∙ c.self.view_is)
+returns g c = c.in_ok-pair.ensures.value ∙ first_is g (goal.at.returns g c).After-as_slice
 
 pub returns-in_err-pair : goal.returns-in_err-pair
-returns-in_err-pair g c =
-    let item = c.in_ok-chunk.ensures.item in
-    rw c.from_residual-in_err-pair.ensures (c.in_err-pair.ensures.value ∙ ap (λ (xs : List (g.row.R.Denot × g.row.V.Denot)). slice_get xs 0) c.as_slice.ensures
-    ∙ first_pair c.deref.result.now c.in_ok-chunk.chunk.now item.3.0 (subst (λ (ps : List (List (g.row.R.Denot × g.row.V.Denot))). AreFilled ps) (sym c.deref.ensures.value) c.self.invariant.0.filled) item.1
-    ∙ ap (λ (ps : List (g.row.R.Denot × g.row.V.Denot)). slice_get ps 0) (ap (λ (ps : List (List (g.row.R.Denot × g.row.V.Denot))). whole ps) c.deref.ensures.value ∙ c.self.view_is))
+returns-in_err-pair g c = rw c.from_residual-in_err-pair.ensures (c.in_err-pair.ensures.value ∙ first_is g (goal.at.returns-in_err-pair g c).After-as_slice)

@@ -1,9 +1,8 @@
-use Rattle.std.proofs.Common.{arith, rules, ◌≡◌, ℕ, ◌<◌, ◌∙◌, List, [], ◌∷◌, ◌++◌, Option, Some, None, MatchOption, ap, subst, sym, append-nil, length, option_map, unwrap_or}
+use Rattle.std.proofs.Common.{arith, rules, ◌≡◌, ℕ, ◌∙◌, List, [], ◌∷◌, ◌++◌, Option, Some, None, MatchOption, subst, sym, append-nil, length, option_map, unwrap_or}
 use Rattle.std.specs.Map.Iter.{TakesLast}
 use Rattle.std.specs.Vec.Iter.{into_iter_items}
-use Rattle.rangemap_core.proofs.ListLemmas.{Every-right}
 use Rattle.rangemap_chunked.specs.Chunks.{AreFilled, whole}
-use Rattle.rangemap_chunked.proofs.ChunkLemmas.{last_whole}
+use Rattle.rangemap_chunked.proofs.EndLemmas.{last_of_chunk}
 use Rattle.rangemap_chunked.proofs.into_iter.IntoIterCursor.take_last.Goals as goal
 
 -- the last pair of the chunk that is begun, or of what is left at the front, is the last of all
@@ -20,13 +19,10 @@ last_taken all front front' back begun left [] [] m n None None is none filled h
 )
 last_taken all front front' back begun left [] [] m n None (Some x) is none filled here there steps begins taken =
     is ∙ (λ i. front ++ none i) ∙ append-nil front ∙ sym begins.0 ∙ taken ∙ (λ i. (sym begins.1 i ++ left) ++ x ∷ [])
-last_taken all front front' back begun left chunks rest m n (Some c) None is none filled here there steps begins taken =
-    let some = Every-right (λ chunk. 0 < length chunk) rest (c ∷ []) (subst AreFilled steps filled) in
-    let empty : c ≡ [] = sym begins.0 ∙ taken.0 in
-    let one : length c ≡ 0 = ap length empty in
-    absurd (omega (arith, some.0, one))
-last_taken all front front' back begun left chunks rest m n (Some c) (Some x) is none filled here there steps begins taken =
-    is ∙ last_whole chunks rest c steps front back left x none (sym begins.0 ∙ taken) ∙ (λ i. (sym begins.1 i ++ (whole rest ++ left)) ++ x ∷ [])
+last_taken {X = X} all front front' back begun left chunks rest m n (Some c) pair is none filled here there steps begins taken =
+    subst (λ (xs : List X). TakesLast (λ p. p) xs pair (front' ++ (whole rest ++ left))) (sym is)
+    (subst (λ (xs : List X). TakesLast (λ p. p) (front ++ (whole chunks ++ back)) pair (xs ++ (whole rest ++ left))) (sym begins.1)
+    (last_of_chunk (λ p. p) chunks rest front c back left pair steps filled none (subst (λ (xs : List X). TakesLast (λ p. p) xs pair left) begins.0 taken)))
 
 pub returns : goal.returns
 returns g c =

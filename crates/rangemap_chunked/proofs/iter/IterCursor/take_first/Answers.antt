@@ -1,22 +1,16 @@
 use Rattle.std.proofs.Common.{arith, ◌≡◌, ◌∙◌, List, [], ◌∷◌, ◌++◌, Option, Some, None, ap, append_assoc, length, subst, sym}
+use Rattle.std.proofs.lemmas.List.{nil_from_length}
 use Rattle.std.specs.Map.Iter.{TakesFirst, deref_pair}
 use Rattle.std.specs.Slice.Iter.{iter_rest}
 use Rattle.rangemap_chunked.specs.Chunks.{AreFilled, whole}
-use Rattle.rangemap_chunked.proofs.IterLemmas.{no_pairs}
 use Rattle.rangemap_chunked.proofs.iter.IterCursor.take_first.Goals as goal
 
 -- the first of a chunk, where nothing is left before it
 first_whole : {X : Type 0} (chunks rest : List (List X)) (front chunk left back : List X) (x : X) → chunks ≡ chunk ∷ rest → front ≡ [] → chunk ≡ x ∷ left → front ++ (whole chunks ++ back) ≡ x ∷ (left ++ (whole rest ++ back))
 first_whole chunks rest front chunk left back x parts none is = (λ i. none i ++ (whole (parts i) ++ back)) ∙ append_assoc chunk (whole rest) back ∙ (λ i. is i ++ (whole rest ++ back))
 
-not_empty : {X : Type 0} (chunks rest : List (List X)) (chunk : List X) → chunks ≡ chunk ∷ rest → AreFilled chunks → chunk ≡ [] → ⊥
-not_empty chunks rest chunk is filled none =
-    let some = subst AreFilled is filled in
-    let one : length chunk ≡ 0 = ap length none in
-    omega (arith, some.0, one)
-
 of_chunk : {A X : Type 0} (shows : A → X) (chunks rest : List (List X)) (front chunk back left : List X) (result : Option A) → chunks ≡ chunk ∷ rest → AreFilled chunks → front ≡ [] → TakesFirst shows chunk result left → TakesFirst shows (front ++ (whole chunks ++ back)) result (left ++ (whole rest ++ back))
-of_chunk shows chunks rest front chunk back left None is filled none taken = absurd (not_empty chunks rest chunk is filled taken.0)
+of_chunk shows chunks rest front chunk back left None is filled none taken = let some = (subst AreFilled is filled).0 in let size = ap length taken.0 in absurd (omega (arith, some, size))
 of_chunk shows chunks rest front chunk back left (Some x) is filled none taken = first_whole chunks rest front chunk left back (shows x) is none taken
 
 -- the first of what is left at the back, where nothing else is
@@ -43,4 +37,4 @@ pub returns : goal.returns
 returns g c =
     subst (λ (all : List (g.row.R.Denot × g.row.V.Denot)). TakesFirst deref_pair all c.take_first-2.result (iter_rest c.take_first.new.self ++ (whole c.self.inside.chunks.now ++ iter_rest c.take_first-2.new.self))) c.self.view_is
     (alone deref_pair (iter_rest c.self.inside.front) (iter_rest c.take_first.new.self) (whole c.self.inside.chunks.now) (iter_rest c.self.inside.back) (iter_rest c.take_first-2.new.self) c.take_first-2.result
-    c.in_default.ensures.0 c.in_default.ensures.1 (no_pairs c.self.inside.chunks.now c.in_default-split_first.ensures.cases) c.take_first-2.ensures)
+    c.in_default.ensures.0 c.in_default.ensures.1 (ap (λ (ps : List (List (g.row.R.Denot × g.row.V.Denot))). whole ps) (nil_from_length c.self.inside.chunks.now c.in_default-split_first.ensures.cases)) c.take_first-2.ensures)

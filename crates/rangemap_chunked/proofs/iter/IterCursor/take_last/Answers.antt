@@ -1,26 +1,15 @@
-use Rattle.std.proofs.Common.{arith, ◌≡◌, ◌<◌, ◌∙◌, List, [], ◌∷◌, ◌++◌, Option, Some, None, ap, append_assoc, append-nil, length, subst, sym}
+use Rattle.std.proofs.Common.{◌≡◌, ◌∙◌, List, [], ◌∷◌, ◌++◌, Option, Some, None, ap, append_assoc, append-nil, subst, sym}
+use Rattle.std.proofs.lemmas.List.{nil_from_length}
 use Rattle.std.specs.Map.Iter.{TakesLast, deref_pair}
 use Rattle.std.specs.Slice.Iter.{iter_rest}
-use Rattle.rangemap_core.proofs.ListLemmas.{Every-right}
-use Rattle.rangemap_chunked.specs.Chunks.{AreFilled, whole}
-use Rattle.rangemap_chunked.proofs.ChunkLemmas.{last_filled, last_whole}
-use Rattle.rangemap_chunked.proofs.IterLemmas.{no_pairs}
+use Rattle.rangemap_chunked.specs.Chunks.{whole}
+use Rattle.rangemap_chunked.proofs.ChunkLemmas.{last_filled}
+use Rattle.rangemap_chunked.proofs.EndLemmas.{last_of_chunk}
 use Rattle.rangemap_chunked.proofs.iter.IterCursor.take_last.Goals as goal
 
 -- the last of what is left at the back
 behind : {X : Type 0} (front middle back left : List X) (x : X) → back ≡ left ++ x ∷ [] → front ++ (middle ++ back) ≡ (front ++ (middle ++ left)) ++ x ∷ []
 behind front middle back left x is = (λ i. front ++ (middle ++ is i)) ∙ simp append_assoc
-
--- a chunk has pairs
-not_empty : {X : Type 0} (chunks rest : List (List X)) (chunk : List X) → chunks ≡ rest ++ chunk ∷ [] → AreFilled chunks → chunk ≡ [] → ⊥
-not_empty chunks rest chunk is filled none =
-    let some = Every-right (λ c. 0 < length c) rest (chunk ∷ []) (subst AreFilled is filled) in
-    let one : length chunk ≡ 0 = ap length none in
-    omega (arith, some.0, one)
-
-of_chunk : {A X : Type 0} (shows : A → X) (chunks rest : List (List X)) (front chunk back left : List X) (result : Option A) → chunks ≡ rest ++ chunk ∷ [] → AreFilled chunks → back ≡ [] → TakesLast shows chunk result left → TakesLast shows (front ++ (whole chunks ++ back)) result (front ++ (whole rest ++ left))
-of_chunk shows chunks rest front chunk back left None is filled none taken = absurd (not_empty chunks rest chunk is filled taken.0)
-of_chunk shows chunks rest front chunk back left (Some x) is filled none taken = last_whole chunks rest chunk is front back left (shows x) none taken
 
 front_alone : {X : Type 0} (front middle back : List X) → middle ≡ [] → back ≡ [] → front ++ (middle ++ back) ≡ front
 front_alone front middle back no_middle no_back = (λ i. front ++ (no_middle i ++ no_back i)) ∙ append-nil front
@@ -43,11 +32,11 @@ returns-in-Some-split_last g c =
     let taken = c.take_last-in-Some-split_last in
     let begun = c.iter-self-inside.ensures.rest ∙ c.as_slice.ensures in
     subst (λ (all : List (g.row.R.Denot × g.row.V.Denot)). TakesLast deref_pair all taken.result (iter_rest c.self.inside.front ++ (whole c.in-Some-split_last.rest.now ++ iter_rest taken.new.self))) c.self.view_is
-    (of_chunk deref_pair c.self.inside.chunks.now c.in-Some-split_last.rest.now (iter_rest c.self.inside.front) c.in-Some-split_last.chunk.now (iter_rest c.self.inside.back) (iter_rest taken.new.self) taken.result
+    (last_of_chunk deref_pair c.self.inside.chunks.now c.in-Some-split_last.rest.now (iter_rest c.self.inside.front) c.in-Some-split_last.chunk.now (iter_rest c.self.inside.back) (iter_rest taken.new.self) taken.result
     c.in-Some-split_last.ensures.cases.0 c.self.invariant c.in_default.ensures.0 (subst (λ (xs : List (g.row.R.Denot × g.row.V.Denot)). TakesLast deref_pair xs taken.result (iter_rest taken.new.self)) begun taken.ensures))
 
 pub returns : goal.returns
 returns g c =
     subst (λ (all : List (g.row.R.Denot × g.row.V.Denot)). TakesLast deref_pair all c.take_last-2.result (iter_rest c.take_last-2.new.self ++ (whole c.self.inside.chunks.now ++ iter_rest c.take_last.new.self))) c.self.view_is
     (alone deref_pair (iter_rest c.self.inside.front) (iter_rest c.take_last-2.new.self) (whole c.self.inside.chunks.now) (iter_rest c.self.inside.back) (iter_rest c.take_last.new.self) c.take_last-2.result
-    (no_pairs c.self.inside.chunks.now c.in_default-split_last.ensures.cases) c.in_default.ensures.0 c.in_default.ensures.1 c.take_last-2.ensures)
+    (ap (λ (ps : List (List (g.row.R.Denot × g.row.V.Denot))). whole ps) (nil_from_length c.self.inside.chunks.now c.in_default-split_last.ensures.cases)) c.in_default.ensures.0 c.in_default.ensures.1 c.take_last-2.ensures)

@@ -1,8 +1,8 @@
 use Rattle.std.proofs.Common.{arith, ◌≡◌, ◌<◌, ◌∙◌, List, [], ◌∷◌, ◌++◌, MatchOption, Option, Some, None, ap, append_assoc, length, subst, sym}
+use Rattle.std.proofs.lemmas.List.{nil_from_length}
 use Rattle.std.specs.Map.Iter.{deref_pair}
 use Rattle.std.specs.Slice.Iter.{iter_rest}
 use Rattle.rangemap_chunked.specs.Chunks.{AreFilled, whole}
-use Rattle.rangemap_chunked.proofs.IterLemmas.{no_pairs}
 use Rattle.rangemap_chunked.proofs.iter.IterPeek.peek.Goals as goal
 
 -- the first of a chunk that has pairs is that of all
@@ -36,7 +36,7 @@ returns-in-Some-split_first g c =
 
 pub returns : goal.returns
 returns g c =
-    let none = no_pairs c.self.inside.chunks.now c.in_default-split_first.ensures.cases in
+    let none = ap (λ (ps : List (List (g.row.R.Denot × g.row.V.Denot))). whole ps) (nil_from_length c.self.inside.chunks.now c.in_default-split_first.ensures.cases) in
     let all_is : c.args.self.now ≡ iter_rest c.self.inside.back = sym c.self.view_is ∙ (λ i. c.in_default.ensures.first i ++ (none i ++ iter_rest c.self.inside.back)) in
     record {
       same = (λ i. c.in_default.ensures.same i ++ (whole c.self.inside.chunks.now ++ c.peek-2.ensures.same i)) ∙ c.self.view_is;
