@@ -1,16 +1,16 @@
 -- What a change of one chunk makes of the whole list.
 use Rattle.std.proofs.Common.{◌≡◌, ◌⊎◌, inl, inr, Bool, true, false, cond, List, [], ◌∷◌, ◌++◌, Option, Some, None, refl, sym, ap, ◌∙◌, subst, true≢false, Ordering, Less, Equal, Greater, is_gt}
-use Rattle.std.specs.Option.{option_eq}
+use Rattle.std.specs.Option.{IfSome, option_eq}
 use Rattle.std.specs.Cmp.{IsTotalOrder, IsEquivalence}
-use Rattle.rangemap_core.specs.Ranges.{RangeKind, IsStorable, IsCanonical, IsCanonOf, IsNewest, value_at, override, erase}
+use Rattle.rangemap_core.specs.Ranges.{RangeKind, IsStorable, IsCanonical, IsNewest, value_at}
 use Rattle.rangemap_core.specs.engine.Endpoints.{IsPlaced, EndpointOf}
 use Rattle.rangemap_core.specs.engine.Places.{place_cmp}
 use Rattle.rangemap_core.specs.engine.Shape.{Shape, has_place, place_value, IsApart, IsApartFromNext, IsSpaced}
 use Rattle.rangemap_core.specs.engine.Stretch.{Every}
 use Rattle.rangemap_core.proofs.PlaceLemmas.{S, places, AreStorable, to_spaced, from_spaced, holds_is, value_is}
 use Rattle.rangemap_core.proofs.StoredLemmas.{all_storable}
-use Rattle.rangemap_core.proofs.PlaceOrderLemmas.{lt_le}
 use Rattle.rangemap_core.proofs.ListLemmas.{Every-append, Every-right, Every-map, next_from_all, IsSpaced-left, IsSpaced-right, IsSpaced-cross, IsSpaced-append}
+use Rattle.rangemap_sorted.specs.Changes.{IsChanged}
 use Rattle.rangemap_chunked.proofs.BorderLemmas.{Every-left, Every-zip, Every-all, EndIsAt, left_border, right_border, around_alike, within_is}
 
 none_last : {K : Type 0} (cmp : K → K → Ordering) (q : Option K) → place_cmp cmp None q ≡ Less → ⊥
@@ -131,49 +131,43 @@ module _ {K X : Type 0} {k : RangeKind K X} {end_place : X → Option K} {chunk 
     pub joined_inside : (x : K) → k.is_key x → k.holds r x ≡ true → value_at k (pre ++ (new ++ post)) x ≡ value_at k new x
     joined_inside x key h = value_is p eq (pre ++ (new ++ post)) x storable_all key ∙ within_is s o e pre post new r (Some x) before behind (sym (holds_is p eq r x stored key) ∙ h) ∙ sym (value_is p eq new x storable_new key)
 
-  module _ (pre mid post new : List (X × V)) (r : X) (canonical : IsCanonical k eq (pre ++ (mid ++ post))) (stored : IsStorable k r) (before : Every (λ a. place_cmp k.cmp (end_place a.0) (Some (k.start r)) ≡ Less) pre) where
-    -- what an insert makes of a chunk
-    module _ (v : V) (h : IsCanonOf k eq (override k (value_at k mid) r v) new) (behind : Every (λ b. place_cmp k.cmp (end_place r) (Some (k.start b.0)) ≡ Less) post) where
-      override_outside : (x : K) → k.is_key x → k.holds r x ≡ false → option_eq eq (value_at k new x) (value_at k mid x) ≡ true
-      override_outside x key n = sym (ap (λ b. option_eq eq (value_at k new x) (cond b (Some v) (value_at k mid x))) n) ∙ h.represents x key
+  is_none : (m : Option V) → option_eq eq m None ≡ true → m ≡ None
+  is_none None h = refl
+  is_none (Some v) h = absurd (true≢false (sym h))
 
-      past : Every (λ b. is_gt (place_cmp k.cmp (end_place r) (Some (k.start b.0))) ≡ false) post
-      past = Every-map _ _ post (λ b l. lt_le (places p eq) (end_place r) (Some (k.start b.0)) l) behind
+  module _ (pre mid post new : List (X × V)) (r : X) (canonical : IsCanonical k eq (pre ++ (mid ++ post))) (stored : IsStorable k r) (before : Every (λ a. place_cmp k.cmp (end_place a.0) (Some (k.start r)) ≡ Less) pre)
+      (m : Option V) (h : IsChanged k eq (value_at k mid) r m new) (past : Every (λ b. is_gt (place_cmp k.cmp (end_place r) (Some (k.start b.0))) ≡ false) post) (clear : IfSome m (λ _. Every (λ b. place_cmp k.cmp (end_place r) (Some (k.start b.0)) ≡ Less) post)) where
+    at_key : (x : K) → k.is_key x → (b : Bool) → k.holds r x ≡ b → option_eq eq (value_at k new x) (cond b m (value_at k mid x)) ≡ true
+    at_key x key b t = sym (ap (λ b. option_eq eq (value_at k new x) (cond b m (value_at k mid x))) t) ∙ h.canon.represents x key
 
-      pub override_joined : IsCanonOf k eq (override k (value_at k (pre ++ (mid ++ post))) r v) (pre ++ (new ++ post))
-      override_joined = record {
-        canonical = joined_canonical pre mid post new r canonical stored h.canonical override_outside before past (inl behind);
+    outside_alike : (x : K) → k.is_key x → k.holds r x ≡ false → option_eq eq (value_at k new x) (value_at k mid x) ≡ true
+    outside_alike x key t = at_key x key false t
+
+    free_of : (Every (λ b. place_cmp k.cmp (end_place r) (Some (k.start b.0)) ≡ Less) post) ⊎ ((x : K) → k.is_key x → k.holds r x ≡ true → value_at k new x ≡ None)
+    free_of = go m (λ x key t. at_key x key true t) clear
+      where
+        go : (m : Option V) → ((x : K) → k.is_key x → k.holds r x ≡ true → option_eq eq (value_at k new x) m ≡ true) → IfSome m (λ _. Every (λ b. place_cmp k.cmp (end_place r) (Some (k.start b.0)) ≡ Less) post)
+            → (Every (λ b. place_cmp k.cmp (end_place r) (Some (k.start b.0)) ≡ Less) post) ⊎ ((x : K) → k.is_key x → k.holds r x ≡ true → value_at k new x ≡ None)
+        go None inside clear = inr (λ x key t. is_none (value_at k new x) (inside x key t))
+        go (Some v) inside clear = inl clear
+
+    inside_same : (x : K) → k.is_key x → k.holds r x ≡ true → value_at k (pre ++ (new ++ post)) x ≡ value_at k new x
+    inside_same x key t = joined_inside pre mid post new r canonical stored h.canon.canonical outside_alike before past free_of x key t
+
+    -- what a change of a chunk makes of the whole list
+    pub changed_joined : IsChanged k eq (value_at k (pre ++ (mid ++ post))) r m (pre ++ (new ++ post))
+    changed_joined = record {
+      canon = record {
+        canonical = joined_canonical pre mid post new r canonical stored h.canon.canonical outside_alike before past free_of;
         represents = λ x key. go x key (k.holds r x) refl;
-      }
-        where
-          go : (x : K) → k.is_key x → (b : Bool) → k.holds r x ≡ b → option_eq eq (value_at k (pre ++ (new ++ post)) x) (cond b (Some v) (value_at k (pre ++ (mid ++ post)) x)) ≡ true
-          go x key true t =
-              ap (λ u. option_eq eq u (Some v)) (joined_inside pre mid post new r canonical stored h.canonical override_outside before past (inl behind) x key t)
-              ∙ sym (ap (λ b. option_eq eq (value_at k new x) (cond b (Some v) (value_at k mid x))) t) ∙ h.represents x key
-          go x key false t = joined_outside pre mid post new r canonical stored h.canonical override_outside before past (inl behind) x key t
+      };
+      newest = newest m h.newest;
+    }
+      where
+        go : (x : K) → k.is_key x → (b : Bool) → k.holds r x ≡ b → option_eq eq (value_at k (pre ++ (new ++ post)) x) (cond b m (value_at k (pre ++ (mid ++ post)) x)) ≡ true
+        go x key true t = ap (λ u. option_eq eq u m) (inside_same x key t) ∙ at_key x key true t
+        go x key false t = joined_outside pre mid post new r canonical stored h.canon.canonical outside_alike before past free_of x key t
 
-      -- the very value that a chunk has on the range
-      pub newest_joined : IsNewest k r v new → IsNewest k r v (pre ++ (new ++ post))
-      newest_joined n x key t = joined_inside pre mid post new r canonical stored h.canonical override_outside before past (inl behind) x key t ∙ n x key t
-
-    -- what a removal makes of a chunk
-    module _ (h : IsCanonOf k eq (erase k (value_at k mid) r) new) (behind : Every (λ b. is_gt (place_cmp k.cmp (end_place r) (Some (k.start b.0))) ≡ false) post) where
-      erase_outside : (x : K) → k.is_key x → k.holds r x ≡ false → option_eq eq (value_at k new x) (value_at k mid x) ≡ true
-      erase_outside x key n = sym (ap (λ b. option_eq eq (value_at k new x) (cond b None (value_at k mid x))) n) ∙ h.represents x key
-
-      erase_inside : (x : K) → k.is_key x → k.holds r x ≡ true → value_at k new x ≡ None
-      erase_inside x key t = is_none (value_at k new x) (sym (ap (λ b. option_eq eq (value_at k new x) (cond b None (value_at k mid x))) t) ∙ h.represents x key)
-        where
-          is_none : (m : Option V) → option_eq eq m None ≡ true → m ≡ None
-          is_none None g = refl
-          is_none (Some v) g = absurd (true≢false (sym g))
-
-      pub erase_joined : IsCanonOf k eq (erase k (value_at k (pre ++ (mid ++ post))) r) (pre ++ (new ++ post))
-      erase_joined = record {
-        canonical = joined_canonical pre mid post new r canonical stored h.canonical erase_outside before behind (inr erase_inside);
-        represents = λ x key. go x key (k.holds r x) refl;
-      }
-        where
-          go : (x : K) → k.is_key x → (b : Bool) → k.holds r x ≡ b → option_eq eq (value_at k (pre ++ (new ++ post)) x) (cond b None (value_at k (pre ++ (mid ++ post)) x)) ≡ true
-          go x key true t = ap (λ u. option_eq eq u None) (joined_inside pre mid post new r canonical stored h.canonical erase_outside before behind (inr erase_inside) x key t ∙ erase_inside x key t)
-          go x key false t = joined_outside pre mid post new r canonical stored h.canonical erase_outside before behind (inr erase_inside) x key t
+        newest : (m : Option V) → IfSome m (λ v. IsNewest k r v new) → IfSome m (λ v. IsNewest k r v (pre ++ (new ++ post)))
+        newest None n = n
+        newest (Some v) n = λ x key t. inside_same x key t ∙ n x key t

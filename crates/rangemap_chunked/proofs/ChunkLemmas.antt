@@ -1,10 +1,11 @@
 -- A list in chunks, and the chunks in which a place or a range can be.
-use Rattle.std.proofs.Common.{arith, ◌≡◌, inl, inr, ℕ, zero, suc, ◌+◌, ◌-◌, ◌<◌, ◌≤◌, Bool, true, false, not, List, [], ◌∷◌, ◌++◌, length, take, drop, get_or, Option, Some, None, refl, sym, ap, ◌∙◌, subst, append_assoc, append-nil, Ordering, Less, is_lt, is_gt}
+use Rattle.std.proofs.Common.{arith, ◌≡◌, inl, inr, ℕ, zero, suc, ◌+◌, ◌-◌, ◌<◌, ◌≤◌, Bool, true, false, not, List, [], ◌∷◌, ◌++◌, length, take, drop, get_or, Option, Some, None, refl, sym, ap, ◌∙◌, subst, append_assoc, append-nil, length-drop, Ordering, Less, is_lt, is_gt}
 use Rattle.std.specs.Prelude.{slice_get}
 use Rattle.std.specs.List.{AllWithin}
 use Rattle.std.specs.List.Sorted.{IsPartitionedBy}
 use Rattle.std.specs.Cmp.{IsTotalOrder, IsEquivalence}
 use Rattle.std.proofs.lemmas.Bool.{cases_Bool, cases_lt}
+use Rattle.std.proofs.lemmas.List.{drop-drop, get_or-drop, take-append-drop, take_more}
 use Rattle.rangemap_core.specs.Ranges.{RangeKind, IsStorable, covering}
 use Rattle.rangemap_core.specs.engine.Endpoints.{IsPlaced, EndpointOf}
 use Rattle.rangemap_core.specs.engine.Places.{place_cmp}
@@ -29,10 +30,29 @@ module _ {X : Type 0} where
   pub whole_around : (chunks : List (List X)) (at : ℕ) (d : List X) → at < length chunks → whole chunks ≡ whole (take at chunks) ++ (get_or chunks at d ++ whole (drop (suc at) chunks))
   whole_around chunks at d l = ap whole (around chunks at d l) ∙ whole_append (take at chunks) (get_or chunks at d ∷ drop (suc at) chunks)
 
+  pub whole_parts : (n : ℕ) (chunks : List (List X)) → whole chunks ≡ whole (take n chunks) ++ whole (drop n chunks)
+  whole_parts n chunks = ap whole (sym (take-append-drop n chunks)) ∙ whole_append (take n chunks) (drop n chunks)
+
+  pub whole_last : (xs : List (List X)) (x : List X) → whole (xs ++ x ∷ []) ≡ whole xs ++ x
+  whole_last xs x = whole_append xs (x ∷ []) ∙ ap (λ ys. whole xs ++ ys) (append-nil x)
+
+  pub whole_more : (chunks : List (List X)) (n : ℕ) (d : List X) → n < length chunks → whole (take (n + 1) chunks) ≡ whole (take n chunks) ++ get_or chunks n d
+  whole_more chunks n d l = ap whole (take_more chunks n d l) ∙ whole_last (take n chunks) (get_or chunks n d)
+
+  -- the pairs of the chunks between two
+  abbrev pub between : (chunks : List (List X)) (at last : ℕ) → List X
+  between chunks at last = whole (take (last - suc at) (drop (suc at) chunks))
+
+  pub whole_behind : (chunks : List (List X)) (at last : ℕ) → at < last → last < length chunks → whole (drop (suc at) chunks) ≡ between chunks at last ++ (get_or chunks last [] ++ whole (drop (suc last) chunks))
+  whole_behind chunks at last order bound =
+      let dropped = length-drop (suc at) chunks in
+      let here : suc at + (last - suc at) ≡ last = omega arith in
+      let next : suc at + suc (last - suc at) ≡ suc last = omega arith in
+      whole_around (drop (suc at) chunks) (last - suc at) [] (omega (arith, dropped))
+      ∙ (λ i. between chunks at last ++ ((get_or-drop (suc at) chunks (last - suc at) [] ∙ ap (λ n. get_or chunks n []) here) i ++ whole ((drop-drop (suc (last - suc at)) (suc at) chunks ∙ ap (λ n. drop n chunks) next) i)))
+
   pub Every-chunk : (Q : X → Type 0) (chunks : List (List X)) → Every Q (whole chunks) → (at : ℕ) (d : List X) → at < length chunks → Every Q (get_or chunks at d)
-  Every-chunk Q [] h at d l = absurd (omega arith)
-  Every-chunk Q (x ∷ xs) h zero d l = Every-left Q x (whole xs) h
-  Every-chunk Q (x ∷ xs) h (suc at) d l = Every-chunk Q xs (Every-right Q x (whole xs) h) at d (omega arith)
+  Every-chunk Q chunks h at d l = Every-left Q (get_or chunks at d) (whole (drop (suc at) chunks)) (Every-right Q (whole (take at chunks)) (get_or chunks at d ++ whole (drop (suc at) chunks)) (subst (Every Q) (whole_around chunks at d l) h))
 
   pub Every-whole : (Q : X → Type 0) (chunks : List (List X)) → Every (Every Q) chunks → Every Q (whole chunks)
   Every-whole Q [] h = tt
@@ -40,14 +60,10 @@ module _ {X : Type 0} where
 
   -- what holds of all pairs behind a place
   pub Every-further : (Q : X → Type 0) (chunks : List (List X)) (n m : ℕ) → n ≤ m → Every Q (whole (drop n chunks)) → Every Q (whole (drop m chunks))
-  Every-further Q [] zero zero l h = h
-  Every-further Q [] zero (suc m) l h = h
-  Every-further Q [] (suc n) zero l h = h
-  Every-further Q [] (suc n) (suc m) l h = h
-  Every-further Q (x ∷ xs) zero zero l h = h
-  Every-further Q (x ∷ xs) zero (suc m) l h = Every-further Q xs zero m (omega arith) (Every-right Q x (whole xs) h)
-  Every-further Q (x ∷ xs) (suc n) zero l h = absurd (omega arith)
-  Every-further Q (x ∷ xs) (suc n) (suc m) l h = Every-further Q xs n m (omega arith) h
+  Every-further Q chunks n m l h =
+      let sum : n + (m - n) ≡ m = omega arith in
+      subst (λ ps. Every Q (whole ps)) (drop-drop (m - n) n chunks ∙ ap (λ k. drop k chunks) sum)
+      (Every-right Q (whole (take (m - n) (drop n chunks))) (whole (drop (m - n) (drop n chunks))) (subst (Every Q) (whole_parts (m - n) (drop n chunks)) h))
 
   -- the first value of a chunk that has some
   pub filled_is : (chunk : List X) → 0 < length chunk → (a : X) × (rest : List X) × (chunk ≡ a ∷ rest)
@@ -215,8 +231,8 @@ module _ {K X V : Type 0} {k : RangeKind K X} {end_place : X → Option K} {chun
 module _ {X : Type 0} (chunks rest : List (List X)) (chunk : List X) (parts_are : chunks ≡ rest ++ chunk ∷ []) where
   pub last_whole : (front back left : List X) (item : X) → back ≡ [] → chunk ≡ left ++ item ∷ [] → front ++ (whole chunks ++ back) ≡ (front ++ (whole rest ++ left)) ++ item ∷ []
   last_whole front back left item none is =
-      (λ i. front ++ (whole (parts_are i) ++ none i)) ∙ ap (λ xs. front ++ xs) (append-nil (whole (rest ++ chunk ∷ []))) ∙ ap (λ xs. front ++ xs) (whole_append rest (chunk ∷ []))
-      ∙ ap (λ xs. front ++ (whole rest ++ xs)) (append-nil chunk ∙ is) ∙ ap (λ xs. front ++ xs) (sym (append_assoc (whole rest) left (item ∷ []))) ∙ sym (append_assoc front (whole rest ++ left) (item ∷ []))
+      (λ i. front ++ (whole (parts_are i) ++ none i)) ∙ ap (λ xs. front ++ xs) (append-nil (whole (rest ++ chunk ∷ [])) ∙ whole_last rest chunk ∙ ap (λ xs. whole rest ++ xs) is ∙ sym (append_assoc (whole rest) left (item ∷ [])))
+      ∙ sym (append_assoc front (whole rest ++ left) (item ∷ []))
 
   pub last_filled : AreFilled chunks → AreFilled rest
   last_filled h = Every-left (λ (xs : List X). 0 < length xs) rest (chunk ∷ []) (subst AreFilled parts_are h)

@@ -1,11 +1,10 @@
 -- Copies of the chunks of a list, one by one, are a copy of the list.
-use Rattle.std.proofs.Common.{arith, ◌≡◌, ◌<◌, ◌+◌, Bool, true, List, [], ◌∷◌, ◌++◌, length, sym, ap, ◌∙◌, refl, true≢false, append-nil, get_or, take, ℕ, suc, subst}
-use Rattle.std.proofs.lemmas.List.{take_more}
+use Rattle.std.proofs.Common.{arith, ◌≡◌, ◌<◌, ◌+◌, Bool, true, List, [], ◌∷◌, ◌++◌, length, sym, ap, ◌∙◌, refl, true≢false, get_or, take, ℕ, suc, subst}
 use Rattle.rangemap_core.specs.Ranges.{RangeKind, same_pairs}
 use Rattle.rangemap_core.specs.engine.Stretch.{Every}
 use Rattle.rangemap_core.proofs.ListLemmas.{Every-append}
 use Rattle.rangemap_chunked.specs.Chunks.{whole}
-use Rattle.rangemap_chunked.proofs.ChunkLemmas.{whole_append}
+use Rattle.rangemap_chunked.proofs.ChunkLemmas.{whole_last, whole_more}
 
 module _ {K X V : Type 0} (k : RangeKind K X) (eq : V → V → Bool) where
   pub same_append : (xs bs cs ds : List (X × V)) → same_pairs k eq xs bs ≡ true → same_pairs k eq cs ds ≡ true → same_pairs k eq (xs ++ cs) (bs ++ ds) ≡ true
@@ -25,12 +24,9 @@ module _ {K X V : Type 0} (k : RangeKind K X) (eq : V → V → Bool) where
 
   -- one more chunk
   module _ (chunks copies : List (List (X × V))) (n : ℕ) (chunk copy : List (X × V)) (l : n < length chunks) (is : chunk ≡ get_or chunks n chunk) where
-    whole_last : (xs : List (List (X × V))) (x : List (X × V)) → whole (xs ++ x ∷ []) ≡ whole xs ++ x
-    whole_last xs x = whole_append xs (x ∷ []) ∙ ap (λ ys. whole xs ++ ys) (append-nil x)
-
     pub copied_more : same_pairs k eq (whole (take n chunks)) (whole copies) ≡ true → same_pairs k eq chunk copy ≡ true → same_pairs k eq (whole (take (n + 1) chunks)) (whole (copies ++ copy ∷ [])) ≡ true
     copied_more h s =
-        (λ i. same_pairs k eq ((ap whole (take_more chunks n chunk l) ∙ whole_last (take n chunks) (get_or chunks n chunk) ∙ ap (λ ys. whole (take n chunks) ++ ys) (sym is)) i) (whole_last copies copy i))
+        (λ i. same_pairs k eq ((whole_more chunks n chunk l ∙ ap (λ ys. whole (take n chunks) ++ ys) (sym is)) i) (whole_last copies copy i))
         ∙ same_append (whole (take n chunks)) (whole copies) chunk copy h s
 
     pub every_more : (Q : X × V → Type 0) → Every Q (whole copies) → Every Q copy → Every Q (whole (copies ++ copy ∷ []))

@@ -1,21 +1,9 @@
 -- A canonical list in parts.
-use Rattle.std.proofs.Common.{arith, ℕ, zero, suc, ◌<◌, Bool, List, [], ◌∷◌, ◌++◌, length, take, drop, get_or}
+use Rattle.std.proofs.Common.{arith, ℕ, zero, suc, ◌<◌, Bool, List, [], ◌∷◌, ◌++◌, length, get_or}
 use Rattle.rangemap_core.specs.Ranges.{RangeKind, IsCanonical}
 use Rattle.rangemap_chunked.specs.Chunks.{whole}
 
 module _ {K X V : Type 0} (k : RangeKind K X) (eq : V → V → Bool) where
-  pub canonical_take : (n : ℕ) (xs : List (X × V)) → IsCanonical k eq xs → IsCanonical k eq (take n xs)
-  canonical_take zero xs c = tt
-  canonical_take (suc n) [] c = tt
-  canonical_take (suc zero) (a ∷ xs) c = (c.0, tt, tt)
-  canonical_take (suc (suc n)) (a ∷ []) c = (c.0, tt, tt)
-  canonical_take (suc (suc n)) (a ∷ b ∷ xs) c = (c.0, c.1, canonical_take (suc n) (b ∷ xs) c.2)
-
-  pub canonical_drop : (n : ℕ) (xs : List (X × V)) → IsCanonical k eq xs → IsCanonical k eq (drop n xs)
-  canonical_drop zero xs c = c
-  canonical_drop (suc n) [] c = tt
-  canonical_drop (suc n) (a ∷ xs) c = canonical_drop n xs c.2
-
   pub canonical_left : (xs ys : List (X × V)) → IsCanonical k eq (xs ++ ys) → IsCanonical k eq xs
   canonical_left [] ys c = tt
   canonical_left (a ∷ []) ys c = (c.0, tt, tt)

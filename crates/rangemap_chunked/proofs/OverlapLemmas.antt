@@ -1,6 +1,6 @@
 -- Which pairs of a list in chunks a query meets: some of the chunk where it starts, all of those behind it, and some of the last.
 use Rattle.std.proofs.Common.{arith, ◌≡◌, ℕ, suc, ◌+◌, ◌-◌, ◌<◌, ◌≤◌, Bool, true, false, ◌&&◌, cond, List, [], ◌∷◌, ◌++◌, length, take, drop, get_or, Option, Some, refl, sym, ap, ◌∙◌, subst, append-nil, length-drop, add-one, Less, is_lt, is_gt}
-use Rattle.std.proofs.lemmas.List.{drop-drop, get_or-drop, get_or-take, get_or_default, length-take-le}
+use Rattle.std.proofs.lemmas.List.{get_or-drop, get_or-take, get_or_default, length-take-le}
 use Rattle.std.proofs.lemmas.List.Elements.{filter-append}
 use Rattle.std.specs.List.{AllWithin, filter}
 use Rattle.std.specs.Cmp.{IsTotalOrder, IsEquivalence}
@@ -18,7 +18,7 @@ use Rattle.rangemap_core.proofs.StoredLemmas.{all_storable}
 use Rattle.rangemap_core.specs.engine.EndpointKinds.{lt_is}
 use Rattle.rangemap_chunked.specs.Chunks.{IsClearBefore, AreChunks, IsPastBehind, IsPastStart, chunk_below, starts_below, whole}
 use Rattle.rangemap_chunked.proofs.BorderLemmas.{Every-left, Every-zip}
-use Rattle.rangemap_chunked.proofs.ChunkLemmas.{Every-chunk, Every-further, before_first, filled_is, passed_first, spaced_whole, whole_around}
+use Rattle.rangemap_chunked.proofs.ChunkLemmas.{Every-chunk, Every-further, before_first, between, filled_is, passed_first, spaced_whole, whole_around, whole_behind}
 
 filter_all : {Y : Type 0} (f : Y → Bool) (ys : List Y) → Every (λ y. f y ≡ true) ys → filter f ys ≡ ys
 filter_all f [] h = refl
@@ -54,12 +54,6 @@ module _ {K X : Type 0} {k : RangeKind K X} {end_place : X → Option K} {chunk 
   stored : Every (λ a. IsStorable k a.0) (whole chunks)
   stored = all_storable k eq (whole chunks) h.canonical
 
-  first : List (X × V)
-  first = get_or chunks at []
-
-  tail : List (List (X × V))
-  tail = drop (suc at) chunks
-
   stored_around : Every (λ a. IsStorable k a.0) (whole (take at chunks) ++ (get_or chunks at [] ++ whole (drop (suc at) chunks)))
   stored_around = subst (Every (λ a. IsStorable k a.0)) (whole_around chunks at [] here) stored
 
@@ -80,29 +74,20 @@ module _ {K X : Type 0} {k : RangeKind K X} {end_place : X → Option K} {chunk 
 
   -- and where it ends in a later one
   module _ (last : ℕ) (is : end ≡ suc last) (more : at + 1 ≤ last) (past : IsPastStart (S p eq) chunks q (at + 1)) (begun : AllWithin (λ xs. chunk_below (S p eq) (end_place q) xs ≡ true) chunks 0 end) where
-    m : ℕ
-    m = last - (at + 1)
-
-    in_tail : last - (at + 1) < length (drop (suc at) chunks)
+    in_tail : last - suc at < length (drop (suc at) chunks)
     in_tail = omega (arith, length-drop (suc at) chunks)
 
-    at_last : get_or (drop (suc at) chunks) (last - (at + 1)) [] ≡ get_or chunks last []
-    at_last = let place : suc at + (last - (at + 1)) ≡ last = omega arith in get_or-drop (suc at) chunks (last - (at + 1)) [] ∙ ap (λ n. get_or chunks n []) place
+    at_last : get_or (drop (suc at) chunks) (last - suc at) [] ≡ get_or chunks last []
+    at_last = let place : suc at + (last - suc at) ≡ last = omega arith in get_or-drop (suc at) chunks (last - suc at) [] ∙ ap (λ n. get_or chunks n []) place
 
-    behind_last : drop (suc (last - (at + 1))) (drop (suc at) chunks) ≡ drop end chunks
-    behind_last = let place : suc at + suc (last - (at + 1)) ≡ end = omega arith in drop-drop (suc (last - (at + 1))) (suc at) chunks ∙ ap (λ n. drop n chunks) place
+    whole_tail : whole (drop (suc at) chunks) ≡ between chunks at last ++ (get_or chunks last [] ++ whole (drop end chunks))
+    whole_tail = whole_behind chunks at last (omega arith) (omega arith) ∙ ap (λ n. between chunks at last ++ (get_or chunks last [] ++ whole (drop n chunks))) (sym is)
 
-    mid : List (List (X × V))
-    mid = take (last - (at + 1)) (drop (suc at) chunks)
-
-    whole_tail : whole (drop (suc at) chunks) ≡ whole (take (last - (at + 1)) (drop (suc at) chunks)) ++ (get_or chunks last [] ++ whole (drop end chunks))
-    whole_tail = whole_around (drop (suc at) chunks) (last - (at + 1)) [] in_tail ∙ (λ i. whole (take (last - (at + 1)) (drop (suc at) chunks)) ++ (at_last i ++ whole (behind_last i)))
-
-    stored_parts : Every (λ a. IsStorable k a.0) (whole (take (last - (at + 1)) (drop (suc at) chunks)) ++ (get_or chunks last [] ++ whole (drop end chunks)))
+    stored_parts : Every (λ a. IsStorable k a.0) (between chunks at last ++ (get_or chunks last [] ++ whole (drop end chunks)))
     stored_parts = subst (Every (λ a. IsStorable k a.0)) whole_tail stored_tail
 
-    past_mid : Every (λ (b : X × V). is_gt (place_cmp k.cmp (Some (k.start q)) (Some (k.start b.0))) ≡ false) (whole (take (last - (at + 1)) (drop (suc at) chunks)))
-    past_mid = Every-left (λ (b : X × V). is_gt (place_cmp k.cmp (Some (k.start q)) (Some (k.start b.0))) ≡ false) (whole (take (last - (at + 1)) (drop (suc at) chunks))) (get_or chunks last [] ++ whole (drop end chunks))
+    past_mid : Every (λ (b : X × V). is_gt (place_cmp k.cmp (Some (k.start q)) (Some (k.start b.0))) ≡ false) (between chunks at last)
+    past_mid = Every-left (λ (b : X × V). is_gt (place_cmp k.cmp (Some (k.start q)) (Some (k.start b.0))) ≡ false) (between chunks at last) (get_or chunks last [] ++ whole (drop end chunks))
         (subst (Every (λ (b : X × V). is_gt (place_cmp k.cmp (Some (k.start q)) (Some (k.start b.0))) ≡ false)) whole_tail (subst (λ n. IsPastStart (S p eq) chunks q n) (add-one at) past))
 
     spaced_tail : IsSpaced (S p eq) (whole (drop (suc at) chunks))
@@ -132,37 +117,37 @@ module _ {K X : Type 0} {k : RangeKind K X} {end_place : X → Option K} {chunk 
     pub last_past : Every (λ (b : X × V). is_gt (place_cmp k.cmp (Some (k.start q)) (Some (k.start b.0))) ≡ false) (get_or chunks last [])
     last_past =
         Every-left (λ (b : X × V). is_gt (place_cmp k.cmp (Some (k.start q)) (Some (k.start b.0))) ≡ false) (get_or chunks last []) (whole (drop end chunks))
-        (Every-right (λ (b : X × V). is_gt (place_cmp k.cmp (Some (k.start q)) (Some (k.start b.0))) ≡ false) (whole (take (last - (at + 1)) (drop (suc at) chunks))) (get_or chunks last [] ++ whole (drop end chunks))
+        (Every-right (λ (b : X × V). is_gt (place_cmp k.cmp (Some (k.start q)) (Some (k.start b.0))) ≡ false) (between chunks at last) (get_or chunks last [] ++ whole (drop end chunks))
         (subst (Every (λ (b : X × V). is_gt (place_cmp k.cmp (Some (k.start q)) (Some (k.start b.0))) ≡ false)) whole_tail (subst (λ n. IsPastStart (S p eq) chunks q n) (add-one at) past)))
 
-    starts_before : Every (λ (a : X × V). place_cmp k.cmp (Some (k.start a.0)) (end_place q) ≡ Less) (whole (take (last - (at + 1)) (drop (suc at) chunks)))
+    starts_before : Every (λ (a : X × V). place_cmp k.cmp (Some (k.start a.0)) (end_place q) ≡ Less) (between chunks at last)
     starts_before =
         let b = first_of_last in
-        Every-zip (λ (a : X × V). is_gt (place_cmp k.cmp (end_place a.0) (Some (k.start b.0.0))) ≡ false) (λ (a : X × V). IsStorable k a.0) (λ (a : X × V). place_cmp k.cmp (Some (k.start a.0)) (end_place q) ≡ Less) (whole (take (last - (at + 1)) (drop (suc at) chunks)))
+        Every-zip (λ (a : X × V). is_gt (place_cmp k.cmp (end_place a.0) (Some (k.start b.0.0))) ≡ false) (λ (a : X × V). IsStorable k a.0) (λ (a : X × V). place_cmp k.cmp (Some (k.start a.0)) (end_place q) ≡ Less) (between chunks at last)
         (λ a apart st. o.trans (Some (k.start a.0)) (Some (k.start b.0.0)) (end_place q) (lt_le_trans o (Some (k.start a.0)) (end_place a.0) (Some (k.start b.0.0)) (p.non_empty a.0 st) apart) last_below)
-        (before_first (S p eq) o e (drop (suc at) chunks) spaced_tail (last - (at + 1)) [] in_tail b.0 b.1 (at_last ∙ b.2))
-        (Every-left (λ (a : X × V). IsStorable k a.0) (whole (take (last - (at + 1)) (drop (suc at) chunks))) (get_or chunks last [] ++ whole (drop end chunks)) stored_parts)
+        (before_first (S p eq) o e (drop (suc at) chunks) spaced_tail (last - suc at) [] in_tail b.0 b.1 (at_last ∙ b.2))
+        (Every-left (λ (a : X × V). IsStorable k a.0) (between chunks at last) (get_or chunks last [] ++ whole (drop end chunks)) stored_parts)
 
-    all_meet : Every (λ (a : X × V). k.meets q a.0 ≡ true) (whole (take (last - (at + 1)) (drop (suc at) chunks)))
+    all_meet : Every (λ (a : X × V). k.meets q a.0 ≡ true) (between chunks at last)
     all_meet =
-        Every-zip (λ (a : X × V). IsStorable k a.0) (λ (a : X × V). (is_gt (place_cmp k.cmp (Some (k.start q)) (Some (k.start a.0))) ≡ false) × (place_cmp k.cmp (Some (k.start a.0)) (end_place q) ≡ Less)) (λ (a : X × V). k.meets q a.0 ≡ true) (whole (take (last - (at + 1)) (drop (suc at) chunks)))
+        Every-zip (λ (a : X × V). IsStorable k a.0) (λ (a : X × V). (is_gt (place_cmp k.cmp (Some (k.start q)) (Some (k.start a.0))) ≡ false) × (place_cmp k.cmp (Some (k.start a.0)) (end_place q) ≡ Less)) (λ (a : X × V). k.meets q a.0 ≡ true) (between chunks at last)
         (λ a st both.
         let above : place_cmp k.cmp (Some (k.start q)) (end_place a.0) ≡ Less = le_lt_trans o (Some (k.start q)) (Some (k.start a.0)) (end_place a.0) both.0 (p.non_empty a.0 st) in
         p.meets q a.0 q_asked st ∙ (λ i. is_lt (above i) && is_lt (both.1 i)))
-        (Every-left (λ (a : X × V). IsStorable k a.0) (whole (take (last - (at + 1)) (drop (suc at) chunks))) (get_or chunks last [] ++ whole (drop end chunks)) stored_parts)
-        (Every-zip (λ (a : X × V). is_gt (place_cmp k.cmp (Some (k.start q)) (Some (k.start a.0))) ≡ false) (λ (a : X × V). place_cmp k.cmp (Some (k.start a.0)) (end_place q) ≡ Less) (λ (a : X × V). (is_gt (place_cmp k.cmp (Some (k.start q)) (Some (k.start a.0))) ≡ false) × (place_cmp k.cmp (Some (k.start a.0)) (end_place q) ≡ Less)) (whole (take (last - (at + 1)) (drop (suc at) chunks))) (λ a s t. (s, t)) past_mid starts_before)
+        (Every-left (λ (a : X × V). IsStorable k a.0) (between chunks at last) (get_or chunks last [] ++ whole (drop end chunks)) stored_parts)
+        (Every-zip (λ (a : X × V). is_gt (place_cmp k.cmp (Some (k.start q)) (Some (k.start a.0))) ≡ false) (λ (a : X × V). place_cmp k.cmp (Some (k.start a.0)) (end_place q) ≡ Less) (λ (a : X × V). (is_gt (place_cmp k.cmp (Some (k.start q)) (Some (k.start a.0))) ≡ false) × (place_cmp k.cmp (Some (k.start a.0)) (end_place q) ≡ Less)) (between chunks at last) (λ a s t. (s, t)) past_mid starts_before)
 
     stored_last : Every (λ a. IsStorable k a.0) (get_or chunks last [] ++ whole (drop end chunks))
-    stored_last = Every-right (λ (a : X × V). IsStorable k a.0) (whole (take (last - (at + 1)) (drop (suc at) chunks))) (get_or chunks last [] ++ whole (drop end chunks)) stored_parts
+    stored_last = Every-right (λ (a : X × V). IsStorable k a.0) (between chunks at last) (get_or chunks last [] ++ whole (drop end chunks)) stored_parts
 
-    met_tail : overlapped k (whole (drop (suc at) chunks)) q ≡ whole (take (last - (at + 1)) (drop (suc at) chunks)) ++ overlapped k (get_or chunks last []) q
+    met_tail : overlapped k (whole (drop (suc at) chunks)) q ≡ between chunks at last ++ overlapped k (get_or chunks last []) q
     met_tail =
-        ap (λ xs. overlapped k xs q) whole_tail ∙ overlapped_append k q (whole (take (last - (at + 1)) (drop (suc at) chunks))) (get_or chunks last [] ++ whole (drop end chunks))
-        ∙ ap (λ xs. xs ++ overlapped k (get_or chunks last [] ++ whole (drop end chunks)) q) (filter_all (λ (a : X × V). k.meets q a.0) (whole (take (last - (at + 1)) (drop (suc at) chunks))) all_meet)
-        ∙ ap (λ xs. whole (take (last - (at + 1)) (drop (suc at) chunks)) ++ xs)
+        ap (λ xs. overlapped k xs q) whole_tail ∙ overlapped_append k q (between chunks at last) (get_or chunks last [] ++ whole (drop end chunks))
+        ∙ ap (λ xs. xs ++ overlapped k (get_or chunks last [] ++ whole (drop end chunks)) q) (filter_all (λ (a : X × V). k.meets q a.0) (between chunks at last) all_meet)
+        ∙ ap (λ xs. between chunks at last ++ xs)
         (overlapped_append k q (get_or chunks last []) (whole (drop end chunks))
         ∙ ap (λ xs. overlapped k (get_or chunks last []) q ++ xs) (behind_missed (whole (drop end chunks)) (Every-right (λ (a : X × V). IsStorable k a.0) (get_or chunks last []) (whole (drop end chunks)) stored_last) behind)
         ∙ append-nil (overlapped k (get_or chunks last []) q))
 
     pub met_over : overlapped k (whole chunks) q ≡ overlapped k (get_or chunks at []) q ++ (whole (take (last - (at + 1)) (drop (at + 1) chunks)) ++ overlapped k (get_or chunks last []) q)
-    met_over = from_first ∙ ap (λ xs. overlapped k (get_or chunks at []) q ++ xs) (met_tail ∙ ap (λ n. whole (take (last - (at + 1)) (drop n chunks)) ++ overlapped k (get_or chunks last []) q) (sym (add-one at)))
+    met_over = from_first ∙ ap (λ xs. overlapped k (get_or chunks at []) q ++ xs) (met_tail ∙ ap (λ n. whole (take (last - n) (drop n chunks)) ++ overlapped k (get_or chunks last []) q) (sym (add-one at)))

@@ -1,14 +1,12 @@
 -- The last pair of a chunk that starts no later than a range ends, found by a search; and how many pairs chunks have.
 use Rattle.std.proofs.Common.{arith, ◌≡◌, inl, inr, ℕ, zero, suc, ◌+◌, ◌-◌, ◌<◌, ◌≤◌, true, false, List, [], ◌∷◌, length, take, drop, get_or, refl, sym, ap, ◌∙◌, true≢false, length-append, Less, is_gt}
 use Rattle.std.proofs.lemmas.Bool.{cases_lt}
-use Rattle.std.proofs.lemmas.List.{take-append-drop}
 use Rattle.std.specs.Cmp.{IsTotalOrder}
 use Rattle.rangemap_core.specs.engine.Shape.{PassesUpTo, Shape, starts_by}
 use Rattle.rangemap_core.specs.engine.Stretch.{Every}
 use Rattle.rangemap_core.proofs.SearchLemmas.{Every-drop}
 use Rattle.rangemap_chunked.specs.Chunks.{IsLastTouched, chunk_below, chunk_by, starts_below, whole}
-use Rattle.rangemap_chunked.proofs.ChunkLemmas.{whole_append}
-use Rattle.rangemap_chunked.proofs.JoinLemmas.{whole_more}
+use Rattle.rangemap_chunked.proofs.ChunkLemmas.{whole_more, whole_parts}
 
 one_passes : {X : Type 0} (Q : X → Type 0) (xs : List X) (at : ℕ) → ((k : ℕ) (d : X) → k < at + 1 → k < length xs → Q (get_or xs k d)) → Every Q (take 1 (drop at xs))
 one_passes Q [] zero f = tt
@@ -54,7 +52,6 @@ module _ {X : Type 0} (chunks : List (List X)) (n : ℕ) (chunk : List X) (l : n
 
   pub counted_fits : length (whole (take n chunks)) + length chunk ≤ length (whole chunks)
   counted_fits =
-      let parts = ap length (sym (whole_append (take (n + 1) chunks) (drop (n + 1) chunks)) ∙ ap whole (take-append-drop (n + 1) chunks)) in
-      let both = length-append (whole (take (n + 1) chunks)) (whole (drop (n + 1) chunks)) in
+      let parts = ap length (whole_parts (n + 1) chunks) ∙ length-append (whole (take (n + 1) chunks)) (whole (drop (n + 1) chunks)) in
       let more = counted_more in
-      omega (arith, parts, both, more)
+      omega (arith, parts, more)

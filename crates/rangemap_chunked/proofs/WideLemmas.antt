@@ -15,7 +15,7 @@ use Rattle.rangemap_core.proofs.ListLemmas.{Every-append, Every-right, Every-map
 use Rattle.rangemap_sorted.specs.Changes.{IsChanged}
 use Rattle.rangemap_chunked.proofs.CutLemmas.{canonical_left, canonical_right}
 use Rattle.rangemap_chunked.proofs.BorderLemmas.{Every-left, Every-zip}
-use Rattle.rangemap_chunked.proofs.ChangeLemmas.{erase_joined, newest_joined, override_joined}
+use Rattle.rangemap_chunked.proofs.ChangeLemmas.{changed_joined}
 
 module _ {G P V : Type 0} (s : Shape G P V) (o : IsTotalOrder s.order) (r : G) where
   -- the pair's range is a part of the given one
@@ -106,18 +106,10 @@ module _ {K X : Type 0} {k : RangeKind K X} {end_place : X → Option K} {part :
     first_canonical = canonical_left k eq (a ++ one) (rest ++ post) (canonical_right k eq pre ((a ++ one) ++ (rest ++ post)) left_canonical)
 
     module _ (new : List (X × V)) (before : Every (λ b. place_cmp k.cmp (end_place b.0) (Some (k.start r)) ≡ Less) pre) where
-      changed_joined : (m : Option V) → IsChanged k eq (value_at k (a ++ one)) r m new → Every (λ b. is_gt (place_cmp k.cmp (end_place r) (Some (k.start b.0))) ≡ false) (rest ++ post)
-          → IfSome m (λ _. Every (λ b. place_cmp k.cmp (end_place r) (Some (k.start b.0)) ≡ Less) (rest ++ post)) → IsChanged k eq (value_at k (pre ++ ((a ++ one) ++ (rest ++ post)))) r m (pre ++ (new ++ (rest ++ post)))
-      changed_joined None h behind clear = record { canon = erase_joined p e pre (a ++ one) (rest ++ post) new r left_canonical stored before h.canon behind; newest = tt }
-      changed_joined (Some v) h behind clear = record {
-        canon = override_joined p e pre (a ++ one) (rest ++ post) new r left_canonical stored before v h.canon clear;
-        newest = newest_joined p e pre (a ++ one) (rest ++ post) new r left_canonical stored before v h.canon clear h.newest;
-      }
-
       pub wide_changed : (m : Option V) → IsChanged k eq (value_at k (a ++ one)) r m new → Every (λ b. is_gt (place_cmp k.cmp (end_place r) (Some (k.start b.0))) ≡ false) (rest ++ post)
           → IfSome m (λ _. Every (λ b. place_cmp k.cmp (end_place r) (Some (k.start b.0)) ≡ Less) (rest ++ post)) → IsChanged k eq (value_at k all) r m (pre ++ (new ++ (rest ++ post)))
       wide_changed m h behind clear =
           subst (λ zs. IsChanged k eq (value_at k zs) r m (pre ++ (new ++ (rest ++ post)))) (sym all_by)
           (changed_without (pre ++ a) gone (one ++ (rest ++ post)) canonical_by within m (pre ++ (new ++ (rest ++ post)))
           (subst (λ zs. IsChanged k eq (value_at k zs) r m (pre ++ (new ++ (rest ++ post)))) (sym left_by)
-          (changed_joined m h behind clear)))
+          (changed_joined p e pre (a ++ one) (rest ++ post) new r left_canonical stored before m h behind clear)))
