@@ -115,6 +115,11 @@ module _ {G P V : Type 0} (s : Shape G P V) (o : IsTotalOrder s.order) (e : IsEq
     -- the list `new` stands for `mid`, as far as no place of r is asked
     module _ (mid new : List (G × V)) (r : G) (spaced_mid : IsSpaced s mid) (spaced_new : IsSpaced s new) (starts : Every (λ n. At (s.start_place n.0)) new) (ends : Every EndIsAt mid)
         (outside : (q : P) → At q → has_place s r q ≡ false → option_eq s.same (place_value s new q) (place_value s mid q) ≡ true) where
+      each_new : (Q : G × V → Type 0) → ((n : G × V) → IsValued new n → s.order (s.start_place n.0) (s.end_place n.0) ≡ Less → At (s.start_place n.0) → Q n) → Every Q new
+      each_new Q f =
+          Every-zip (IsValued new) (λ n. (s.order (s.start_place n.0) (s.end_place n.0) ≡ Less) × At (s.start_place n.0)) Q new (λ n valued h. f n valued h.0 h.1)
+          (values_within new spaced_new) (Every-zip _ _ _ new (λ n full at_start. (full, at_start)) (fulls new spaced_new) starts)
+
       there : (n : G × V) → IsValued new n → (q : P) → At q → has_place s r q ≡ false → is_gt (s.order (s.start_place n.0) q) ≡ false → s.order q (s.end_place n.0) ≡ Less → option_eq s.same (place_value s mid q) (Some n.1) ≡ true
       there n valued q at_q out from to = same_turned e (Some n.1) (place_value s mid q) (sym (ap (λ u. option_eq s.same u (place_value s mid q)) (valued q from to)) ∙ outside q at_q out)
 
@@ -131,10 +136,7 @@ module _ {G P V : Type 0} (s : Shape G P V) (o : IsTotalOrder s.order) (e : IsEq
           }
 
       pub left_border : (pre : List (G × V)) → Every (λ a. Every (IsApart s a) mid) pre → Every (λ a. s.order (s.end_place a.0) (s.start_place r) ≡ Less) pre → Every (λ a. Every (IsApart s a) new) pre
-      left_border pre cross clear = Every-zip _ _ (λ a. Every (IsApart s a) new) pre (λ a apart c.
-          Every-zip (IsValued new) (λ n. (s.order (s.start_place n.0) (s.end_place n.0) ≡ Less) × At (s.start_place n.0)) (IsApart s a) new (λ n valued f. apart_left a apart c n valued f.0 f.1)
-          (values_within new spaced_new)
-          (Every-zip _ _ _ new (λ n f t. (f, t)) (fulls new spaced_new) starts)) cross clear
+      left_border pre cross clear = Every-zip _ _ (λ a. Every (IsApart s a) new) pre (λ a apart c. each_new (IsApart s a) (apart_left a apart c)) cross clear
 
       -- the first pair behind
       module _ (b : G × V) (at_b : At (s.start_place b.0)) (apart : Every (λ m. IsApart s m b) mid) (r_full : s.order (s.start_place r) (s.end_place r) ≡ Less) (r_start : At (s.start_place r)) (r_end : (q : P) → s.order (s.end_place r) q ≡ Less → At (s.end_place r))
@@ -192,9 +194,7 @@ module _ {G P V : Type 0} (s : Shape G P V) (o : IsTotalOrder s.order) (e : IsEq
           apart_right = record { before = ends_before; differs_at_touch = λ h. differs h }
 
         pub right_border : Every (λ n. IsApart s n b) new
-        right_border = Every-zip (IsValued new) (λ n. (s.order (s.start_place n.0) (s.end_place n.0) ≡ Less) × At (s.start_place n.0)) (λ n. IsApart s n b) new (λ n valued f. apart_right n valued f.0 f.1)
-            (values_within new spaced_new)
-            (Every-zip _ _ _ new (λ n f t. (f, t)) (fulls new spaced_new) starts)
+        right_border = each_new (λ n. IsApart s n b) apart_right
 
   -- ---- values in lists that were put together
 

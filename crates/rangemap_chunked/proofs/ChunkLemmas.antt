@@ -4,7 +4,7 @@ use Rattle.std.specs.Prelude.{slice_get}
 use Rattle.std.specs.List.{AllWithin}
 use Rattle.std.specs.List.Sorted.{IsPartitionedBy}
 use Rattle.std.specs.Cmp.{IsTotalOrder, IsEquivalence}
-use Rattle.std.proofs.lemmas.Bool.{cases_Bool, cases_lt}
+use Rattle.std.proofs.lemmas.Bool.{cases_Bool}
 use Rattle.std.proofs.lemmas.List.{drop-drop, get_or-drop, take-append-drop, take_more}
 use Rattle.rangemap_core.specs.Ranges.{RangeKind, IsStorable, covering}
 use Rattle.rangemap_core.specs.engine.Endpoints.{IsPlaced, EndpointOf}
@@ -73,9 +73,6 @@ module _ {X : Type 0} where
   pub passed_first : (test : X → Bool) (chunk : List X) (a : X) (rest : List X) (b : Bool) → chunk ≡ a ∷ rest → first_passes test (slice_get chunk 0) ≡ b → test a ≡ b
   passed_first test chunk a rest b is h = sym (ap (λ xs. first_passes test (slice_get xs 0)) is) ∙ h
 
-  passes_first : (test : X → Bool) (chunk : List X) (a : X) (rest : List X) (b : Bool) → chunk ≡ a ∷ rest → test a ≡ b → first_passes test (slice_get chunk 0) ≡ b
-  passes_first test chunk a rest b is h = ap (λ xs. first_passes test (slice_get xs 0)) is ∙ h
-
 module _ {G P V : Type 0} (s : Shape G P V) (o : IsTotalOrder s.order) (e : IsEquivalence s.same) where
   -- a test that the pairs of a spaced list pass up to one of them
   module _ (test : G × V → Bool) (falls : (a b : G × V) → s.order (s.start_place a.0) (s.start_place b.0) ≡ Less → test b ≡ true → test a ≡ true) where
@@ -93,7 +90,7 @@ module _ {G P V : Type 0} (s : Shape G P V) (o : IsTotalOrder s.order) (e : IsEq
     parts_chunked (x ∷ xs) c filled (suc i) (suc j) d l m h = parts_chunked xs (IsSpaced-right s o x (whole xs) c) filled.1 i j d (omega arith) (omega arith) h
     parts_chunked (x ∷ xs) c filled zero (suc j) d l m h =
         let a = filled_is x filled.0 in
-        passes_first test x a.0 a.1 true a.2 (first_of_all a.0 a.1 xs (subst (λ ys. IsSpaced s (ys ++ whole xs)) a.2 c) filled.1 j d (omega arith) h)
+        ap (λ ys. first_passes test (slice_get ys 0)) a.2 ∙ (first_of_all a.0 a.1 xs (subst (λ ys. IsSpaced s (ys ++ whole xs)) a.2 c) filled.1 j d (omega arith) h)
 
   by_falls : (q : P) (a b : G × V) → s.order (s.start_place a.0) (s.start_place b.0) ≡ Less → starts_by s q b ≡ true → starts_by s q a ≡ true
   by_falls q a b l h = elim (cases_Bool (is_lt (s.order q (s.start_place a.0)))) [
@@ -162,7 +159,8 @@ module _ {G P V : Type 0} (s : Shape G P V) (o : IsTotalOrder s.order) (e : IsEq
     covering_part q point at is l d =
         ap (λ xs. place_covering s xs q) (whole_around chunks at d l)
         ∙ covering_past s o (whole (take at chunks)) (get_or chunks at d ++ whole (drop (suc at) chunks)) q (before at is l)
-        ∙ behind at is l
+        ∙ covering_before (get_or chunks at d) (whole (drop (suc at) chunks)) q
+        (covering_below s o (whole (drop (suc at) chunks)) q (Every-further (λ b. s.order q (s.start_place b.0) ≡ Less) chunks n (suc at) (omega arith) (clear_behind q point.1)))
       where
         before : (at : ℕ) → at ≡ n - 1 → at < length chunks → place_covering s (whole (take at chunks)) q ≡ None
         before zero is l = refl
@@ -170,19 +168,6 @@ module _ {G P V : Type 0} (s : Shape G P V) (o : IsTotalOrder s.order) (e : IsEq
             let a = first_at (suc m) l in
             let by : is_gt (s.order (s.start_place a.0.0) q) ≡ false = not_lt_ge o _ _ (let t : starts_by s q a.0 ≡ true = passed_first (starts_by s q) (get_or chunks (suc m) []) a.0 a.1 true a.2 (point.0 (suc m) [] (omega arith) (omega arith)) in grind (arith, t)) in
             covering_above s o (whole (take (suc m) chunks)) q (Every-map _ _ (whole (take (suc m) chunks)) (λ b h. le_trans o _ _ _ h by) (before_first chunks c (suc m) [] l a.0 a.1 a.2))
-
-        behind : (at : ℕ) → at ≡ n - 1 → at < length chunks → place_covering s (get_or chunks at d ++ whole (drop (suc at) chunks)) q ≡ place_covering s (get_or chunks at d) q
-        behind at is l = elim (cases_lt 0 n) [
-          | inl some ↦
-              let next : suc at ≡ n = omega arith in
-              covering_before (get_or chunks at d) (whole (drop (suc at) chunks)) q (covering_below s o (whole (drop (suc at) chunks)) q (subst (λ m. Every (λ b. s.order q (s.start_place b.0) ≡ Less) (whole (drop m chunks))) (sym next) (clear_behind q point.1)))
-          | inr none ↦
-              let zero_n : n ≡ 0 = omega arith in
-              let all : Every (λ b. s.order q (s.start_place b.0) ≡ Less) (whole chunks) = subst (λ m. Every (λ b. s.order q (s.start_place b.0) ≡ Less) (whole (drop m chunks))) zero_n (clear_behind q point.1) in
-              let rest : Every (λ b. s.order q (s.start_place b.0) ≡ Less) (get_or chunks at d ++ whole (drop (suc at) chunks)) = Every-right _ (whole (take at chunks)) (get_or chunks at d ++ whole (drop (suc at) chunks)) (subst (Every (λ b. s.order q (s.start_place b.0) ≡ Less)) (whole_around chunks at d l) all) in
-              covering_below s o (get_or chunks at d ++ whole (drop (suc at) chunks)) q rest
-              ∙ sym (covering_below s o (get_or chunks at d) q (Every-left _ (get_or chunks at d) (whole (drop (suc at) chunks)) rest))
-        ]
 
 -- what one look at the first pair of a chunk tells
 pub by_is : {G P V : Type 0} (s : Shape G P V) (p : P) (chunk : List (G × V)) (a : G × V) (r : Ordering) → Some a ≡ slice_get chunk 0 → s.order p (s.start_place a.0) ≡ r → not (is_lt r) ≡ chunk_by s p chunk
