@@ -18,7 +18,7 @@ use Rattle.rangemap_core.proofs.StoredLemmas.{all_storable}
 use Rattle.rangemap_core.specs.engine.EndpointKinds.{lt_is}
 use Rattle.rangemap_chunked.specs.Chunks.{IsClearBefore, AreChunks, IsPastBehind, IsPastStart, chunk_below, starts_below, whole}
 use Rattle.rangemap_chunked.proofs.BorderLemmas.{Every-left, Every-zip}
-use Rattle.rangemap_chunked.proofs.ChunkLemmas.{Every-chunk, Every-further, before_first, between, filled_is, passed_first, spaced_whole, whole_around, whole_behind}
+use Rattle.rangemap_chunked.proofs.ChunkLemmas.{Every-chunk, Every-further, before_first, between, filled_is, passed_first, spaced_whole, whole_around, whole_behind, whole_parts}
 
 filter_all : {Y : Type 0} (f : Y → Bool) (ys : List Y) → Every (λ y. f y ≡ true) ys → filter f ys ≡ ys
 filter_all f [] h = refl
@@ -54,23 +54,20 @@ module _ {K X : Type 0} {k : RangeKind K X} {end_place : X → Option K} {chunk 
   stored : Every (λ a. IsStorable k a.0) (whole chunks)
   stored = all_storable k eq (whole chunks) h.canonical
 
-  stored_around : Every (λ a. IsStorable k a.0) (whole (take at chunks) ++ (get_or chunks at [] ++ whole (drop (suc at) chunks)))
-  stored_around = subst (Every (λ a. IsStorable k a.0)) (whole_around chunks at [] here) stored
-
-  stored_tail : Every (λ a. IsStorable k a.0) (whole (drop (suc at) chunks))
-  stored_tail = Every-right (λ (a : X × V). IsStorable k a.0) (get_or chunks at []) (whole (drop (suc at) chunks)) (Every-right (λ (a : X × V). IsStorable k a.0) (whole (take at chunks)) (get_or chunks at [] ++ whole (drop (suc at) chunks)) stored_around)
+  stored_from : (n : ℕ) → Every (λ a. IsStorable k a.0) (whole (drop n chunks))
+  stored_from n = Every-further (λ (a : X × V). IsStorable k a.0) chunks 0 n (omega arith) stored
 
   from_first : overlapped k (whole chunks) q ≡ overlapped k (get_or chunks at []) q ++ overlapped k (whole (drop (suc at) chunks)) q
   from_first =
       ap (λ xs. overlapped k xs q) (whole_around chunks at [] here) ∙ overlapped_append k q (whole (take at chunks)) (get_or chunks at [] ++ whole (drop (suc at) chunks))
-      ∙ ap (λ xs. xs ++ overlapped k (get_or chunks at [] ++ whole (drop (suc at) chunks)) q) (before_missed (whole (take at chunks)) (Every-left (λ (a : X × V). IsStorable k a.0) (whole (take at chunks)) (get_or chunks at [] ++ whole (drop (suc at) chunks)) stored_around) clear)
+      ∙ ap (λ xs. xs ++ overlapped k (get_or chunks at [] ++ whole (drop (suc at) chunks)) q) (before_missed (whole (take at chunks)) (Every-left (λ (a : X × V). IsStorable k a.0) (whole (take at chunks)) (whole (drop at chunks)) (subst (Every (λ a. IsStorable k a.0)) (whole_parts at chunks) stored)) clear)
       ∙ overlapped_append k q (get_or chunks at []) (whole (drop (suc at) chunks))
 
   -- where the query ends in the chunk where it starts
   pub met_alone : end ≤ at + 1 → overlapped k (whole chunks) q ≡ overlapped k (get_or chunks at []) q
   met_alone le =
       let past : IsPastBehind (S p eq) chunks q (suc at) = Every-further (λ (b : X × V). is_gt (place_cmp k.cmp (end_place q) (Some (k.start b.0))) ≡ false) chunks end (suc at) (omega arith) behind in
-      from_first ∙ ap (λ xs. overlapped k (get_or chunks at []) q ++ xs) (behind_missed (whole (drop (suc at) chunks)) stored_tail past) ∙ append-nil (overlapped k (get_or chunks at []) q)
+      from_first ∙ ap (λ xs. overlapped k (get_or chunks at []) q ++ xs) (behind_missed (whole (drop (suc at) chunks)) (stored_from (suc at)) past) ∙ append-nil (overlapped k (get_or chunks at []) q)
 
   -- and where it ends in a later one
   module _ (last : ℕ) (is : end ≡ suc last) (more : at + 1 ≤ last) (past : IsPastStart (S p eq) chunks q (at + 1)) (begun : AllWithin (λ xs. chunk_below (S p eq) (end_place q) xs ≡ true) chunks 0 end) where
@@ -84,7 +81,7 @@ module _ {K X : Type 0} {k : RangeKind K X} {end_place : X → Option K} {chunk 
     whole_tail = whole_behind chunks at last (omega arith) (omega arith) ∙ ap (λ n. between chunks at last ++ (get_or chunks last [] ++ whole (drop n chunks))) (sym is)
 
     stored_parts : Every (λ a. IsStorable k a.0) (between chunks at last ++ (get_or chunks last [] ++ whole (drop end chunks)))
-    stored_parts = subst (Every (λ a. IsStorable k a.0)) whole_tail stored_tail
+    stored_parts = subst (Every (λ a. IsStorable k a.0)) whole_tail (stored_from (suc at))
 
     past_mid : Every (λ (b : X × V). is_gt (place_cmp k.cmp (Some (k.start q)) (Some (k.start b.0))) ≡ false) (between chunks at last)
     past_mid = Every-left (λ (b : X × V). is_gt (place_cmp k.cmp (Some (k.start q)) (Some (k.start b.0))) ≡ false) (between chunks at last) (get_or chunks last [] ++ whole (drop end chunks))
@@ -137,16 +134,13 @@ module _ {K X : Type 0} {k : RangeKind K X} {end_place : X → Option K} {chunk 
         (Every-left (λ (a : X × V). IsStorable k a.0) (between chunks at last) (get_or chunks last [] ++ whole (drop end chunks)) stored_parts)
         (Every-zip (λ (a : X × V). is_gt (place_cmp k.cmp (Some (k.start q)) (Some (k.start a.0))) ≡ false) (λ (a : X × V). place_cmp k.cmp (Some (k.start a.0)) (end_place q) ≡ Less) (λ (a : X × V). (is_gt (place_cmp k.cmp (Some (k.start q)) (Some (k.start a.0))) ≡ false) × (place_cmp k.cmp (Some (k.start a.0)) (end_place q) ≡ Less)) (between chunks at last) (λ a s t. (s, t)) past_mid starts_before)
 
-    stored_last : Every (λ a. IsStorable k a.0) (get_or chunks last [] ++ whole (drop end chunks))
-    stored_last = Every-right (λ (a : X × V). IsStorable k a.0) (between chunks at last) (get_or chunks last [] ++ whole (drop end chunks)) stored_parts
-
     met_tail : overlapped k (whole (drop (suc at) chunks)) q ≡ between chunks at last ++ overlapped k (get_or chunks last []) q
     met_tail =
         ap (λ xs. overlapped k xs q) whole_tail ∙ overlapped_append k q (between chunks at last) (get_or chunks last [] ++ whole (drop end chunks))
         ∙ ap (λ xs. xs ++ overlapped k (get_or chunks last [] ++ whole (drop end chunks)) q) (filter_all (λ (a : X × V). k.meets q a.0) (between chunks at last) all_meet)
         ∙ ap (λ xs. between chunks at last ++ xs)
         (overlapped_append k q (get_or chunks last []) (whole (drop end chunks))
-        ∙ ap (λ xs. overlapped k (get_or chunks last []) q ++ xs) (behind_missed (whole (drop end chunks)) (Every-right (λ (a : X × V). IsStorable k a.0) (get_or chunks last []) (whole (drop end chunks)) stored_last) behind)
+        ∙ ap (λ xs. overlapped k (get_or chunks last []) q ++ xs) (behind_missed (whole (drop end chunks)) (stored_from end) behind)
         ∙ append-nil (overlapped k (get_or chunks last []) q))
 
     pub met_over : overlapped k (whole chunks) q ≡ overlapped k (get_or chunks at []) q ++ (whole (take (last - (at + 1)) (drop (at + 1) chunks)) ++ overlapped k (get_or chunks last []) q)
