@@ -1,18 +1,12 @@
 -- What it tells of keys that a range, or each range of a list, is covered, or is not.
-use Rattle.std.proofs.Common.{arith, ◌≡◌, ◌↔◌, IsTrue, Option, subst, Bool, true, false, not, ◌&&◌, ◌||◌, List, [], ◌∷◌, length, nat_eq, nat_lt, refl, sym, ap, ◌∙◌, true≢false, Some, cond, is_lt}
-use Rattle.std.specs.Cmp.{IsTotalOrder, second_so}
+use Rattle.std.proofs.Common.{arith, ◌≡◌, ◌↔◌, IsTrue, Option, subst, Bool, true, false, not, ◌&&◌, ◌||◌, List, [], ◌∷◌, length, nat_eq, nat_lt, refl, sym, ap, ◌∙◌, true≢false}
 use Rattle.std.proofs.lemmas.Bool.Decides.{nat_tests}
 use Rattle.rangemap_core.specs.Ranges.{RangeKind, IsCanonical, IsCanonOfPoints, IsStorable, covers, overlapped, value_at}
 use Rattle.rangemap_core.specs.Sets.{AreCovered, AreDisjoint, IsEach, ranges}
-use Rattle.rangemap_core.specs.engine.Endpoints.{EndpointOf, AtStart, AtEnd, IsAsked, IsPlaced, gaps_from, is_before}
-use Rattle.rangemap_core.specs.engine.EndpointKinds.{lt_is}
-use Rattle.rangemap_core.specs.engine.Places.{place_cmp}
-use Rattle.rangemap_core.specs.engine.PlacedKinds.{place_total}
-use Rattle.rangemap_core.specs.laws.Orders.{le_lt, lt_lt}
+use Rattle.rangemap_core.specs.engine.Endpoints.{EndpointOf, AtStart, IsAsked, IsPlaced, gaps_from}
 use Rattle.rangemap_core.proofs.GapLemmas.{are_gaps, covers-cons}
 use Rattle.rangemap_core.proofs.StoredKeyLemmas.{free_where_none_meets, holds_start, none_meets_where_free}
 use Rattle.rangemap_core.proofs.UnitValueLemmas.{value_covers}
-use Rattle.rangemap_containers.specs.Covered.{EndsWithRange}
 use Rattle.rangemap_containers.specs.Histories.{IsDefinedOn}
 
 left_tests : (h c : Bool) → false ≡ (h && not c) → h ≡ true → c ≡ true
@@ -24,13 +18,6 @@ free_tests true false e = (refl, refl)
 free_tests false c e = absurd (true≢false e)
 
 module _ {K X : Type 0} {k : RangeKind K X} {end_place : X → Option K} {part : EndpointOf X → EndpointOf X → X} (p : IsPlaced k end_place part) where
-  o : IsTotalOrder (place_cmp k.cmp)
-  o = place_total p.total
-
-  false_by : (b : Bool) → (b ≡ true → ⊥) → b ≡ false
-  false_by true h = absurd (h refl)
-  false_by false h = refl
-
   -- nothing is left of the keys that pass a test exactly where each of them is covered
   pub covered_where_none_left : (test : K → Bool) (rs rest : List X) → IsCanonOfPoints k (λ x. test x && not (covers k rs x)) rest → IsTrue (nat_eq (length rest) 0) ↔ AreCovered k test rs
   covered_where_none_left test rs [] h = (λ _ x key here. left_tests (test x) (covers k rs x) (h.points x key) here, λ _. refl)
@@ -47,30 +34,6 @@ module _ {K X : Type 0} {k : RangeKind K X} {end_place : X → Option K} {part :
 
       free : (test at ≡ true) × (covers k rs at ≡ false)
       free = free_tests (test at) (covers k rs at) (sym (covers-cons k r rest at ∙ ap (λ b. b || covers k rest at) (holds_start p r stored)) ∙ h.points at key)
-
-  module _ {V : Type 0} (eq : V → V → Bool) (q : X) (q_asked : IsAsked k q) where
-    -- a pair behind one that ends where q does, or behind, does not meet q
-    none_behind : (a : X × V) (list : List (X × V)) → IsCanonical k eq (a ∷ list) → is_before k end_place (AtEnd a.0) (AtEnd q) ≡ false → overlapped k list q ≡ []
-    none_behind a [] can ends = refl
-    none_behind a (b ∷ list) can ends = go (k.meets q b.0) refl (none_behind b list can.2 (false_by _ later))
-      where
-        starts : is_lt (place_cmp k.cmp (Some (k.start b.0)) (end_place q)) ≡ true → ⊥
-        starts s = true≢false (sym (ap is_lt (le_lt o {a = end_place a.0} {b = Some (k.start b.0)} {c = end_place q} (p.before a.0 b.0 can.0 can.2.0 can.1.0) (lt_is _ s))) ∙ ends)
-
-        later : is_lt (place_cmp k.cmp (end_place b.0) (end_place q)) ≡ true → ⊥
-        later l = starts (ap is_lt (lt_lt o {a = Some (k.start b.0)} {b = end_place b.0} {c = end_place q} (p.non_empty b.0 can.2.0) (lt_is _ l)))
-
-        go : (t : Bool) → k.meets q b.0 ≡ t → overlapped k list q ≡ [] → cond t (b ∷ overlapped k list q) (overlapped k list q) ≡ []
-        go true e rest = absurd (starts (second_so (is_lt (place_cmp k.cmp (Some (k.start q)) (end_place b.0))) (is_lt (place_cmp k.cmp (Some (k.start b.0)) (end_place q))) (sym (p.meets q b.0 q_asked can.2.0) ∙ e)))
-        go false e rest = rest
-
-    pub ends_with_range : (list : List (X × V)) → IsCanonical k eq list → EndsWithRange k end_place q (overlapped k list q)
-    ends_with_range [] can = tt
-    ends_with_range (a ∷ list) can = go (k.meets q a.0) (ends_with_range list can.2)
-      where
-        go : (t : Bool) → EndsWithRange k end_place q (overlapped k list q) → EndsWithRange k end_place q (cond t (a ∷ overlapped k list q) (overlapped k list q))
-        go true rest = (none_behind a list can, rest)
-        go false rest = rest
 
   module _ {V : Type 0} (eq : V → V → Bool) (list : List (X × V)) (can : IsCanonical k eq list) (q : X) where
     pub covered_by_gaps_from : IsAsked k q → IsTrue (nat_eq (length (gaps_from k end_place part (AtStart q) q (overlapped k list q))) 0) ↔ AreCovered k (k.holds q) (ranges list)

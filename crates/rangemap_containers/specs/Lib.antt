@@ -1,3 +1,2 @@
-pub mod Covered
 pub mod Histories
 pub mod Updates

@@ -17,13 +17,10 @@ pub struct IsCovered<'q, Q, R>(PhantomData<(Q, &'q R)>);
 impl<'q, Q: Kind<R>, R: KeyRange, V> Reader<R, V> for IsCovered<'q, Q, R> {
     ghost use Rattle.std.specs.Prelude.{◌≡◌, length, nat_eq};
     ghost use Rattle.rangemap_core.specs.engine.Endpoints.{AtStart, gaps_from};
-    ghost use Rattle.rangemap_containers.specs.Covered.{EndsWithRange};
 
     type State = &'q R;
 
     type Answer = bool;
-
-    ghost may_read = { λ pairs range. EndsWithRange Q.kind Q.end_place range.now pairs };
 
     ghost reads = { λ pairs range result _. result ≡ nat_eq (length (gaps_from Q.kind Q.end_place Q.part_of (AtStart range.now) range.now pairs)) 0 };
 
@@ -35,12 +32,7 @@ impl<'q, Q: Kind<R>, R: KeyRange, V> Reader<R, V> for IsCovered<'q, Q, R> {
         let mut last = None;
         'passed: while let Some(next) = rest.take_first() {
             let from = start_of::<C>(&last, *range);
-            let is_free = Q::is_before(from, Endpoint::Start(C::parts(&next).0));
-            if !Q::is_before(Endpoint::End(C::parts(&next).0), Endpoint::End(*range)) {
-                // Most queries end within the first pair, so this is told before what is free.
-                return !is_free;
-            }
-            if is_free {
+            if Q::is_before(from, Endpoint::Start(C::parts(&next).0)) {
                 return false;
             }
             last = Some(next);

@@ -1,6 +1,6 @@
 use Rattle.std.proofs.Common.{◌↔◌, IsTrue, subst, sym}
 use Rattle.rangemap_core.specs.Sets.{AreCovered, ranges}
-use Rattle.rangemap_containers.proofs.CoveredLemmas.{covered_by_gaps_from, ends_with_range}
+use Rattle.rangemap_containers.proofs.CoveredLemmas.{covered_by_gaps_from}
 use Rattle.rangemap_containers.proofs.container.covered.covers.Goals as goal
 
 pub returns : goal.returns
@@ -10,6 +10,3 @@ returns g c =
     let q = c.args.range.now in
     subst (λ b. IsTrue b ↔ AreCovered k (k.holds q) (ranges list)) (sym c.read_overlapping.ensures)
     (covered_by_gaps_from g.met.S.Kind.Kind.placed g.S.Value.PartialEq.eq list c.known.ensures q c.known_ends.ensures)
-
-pub read_overlapping-requires : goal.read_overlapping-requires
-read_overlapping-requires g c = ends_with_range g.met.S.Kind.Kind.placed g.S.Value.PartialEq.eq c.args.range.now c.known_ends.ensures (g.S.Store.pairs c.args.stored.now) c.known.ensures
