@@ -109,7 +109,7 @@ where
     ///
     /// # Errors
     ///
-    /// An insert was refused. Nothing is made then.
+    /// An insert was refused. Nothing is made then. If no item comes, the call succeeds.
     pub fn from_iter<I: IntoIterator<Item = (S::Range, S::Value)>>(
         alloc: S::Alloc,
         iter: I,
@@ -118,7 +118,8 @@ where
         requires non_empty { (it : I.IntoIter) → I.into_iter_gives iter it → GivesNonEmpty S.Kind.kind I.IntoIter.next_gives it }
         requires faithful_keys { KeysCloneFaithfully S.Range.Key.is_clone S.Range.Key.cmp }
         requires faithful_values { ValuesCloneFaithfully S.Value.is_clone S.Value.eq }
-        ensures { IfOk result (λ all. (it : I.IntoIter) × (pairs : List _) × I.into_iter_gives iter it × Drains I.IntoIter.next_gives it pairs × IsCanonOf S.Kind.kind S.Value.eq (override_all S.Kind.kind nothing pairs) all) }
+        ensures items { IfOk result (λ all. (it : I.IntoIter) × (pairs : List _) × I.into_iter_gives iter it × Drains I.IntoIter.next_gives it pairs × IsCanonOf S.Kind.kind S.Value.eq (override_all S.Kind.kind nothing pairs) all) }
+        ensures of_nothing { ((it : I.IntoIter) → I.into_iter_gives iter it → GivesNothing I.IntoIter.next_gives it) → IsOk result }
     {
         let mut all = Map::new(alloc);
         all.extend(iter)?;

@@ -1,8 +1,8 @@
 //! The JSON form of a map.
-ghost use Rattle.std.specs.Prelude.{IfErr, IfOk};
+ghost use Rattle.std.specs.Prelude.{◌≡◌, [], IfErr, IfOk, IsOk, Some as SomeWord};
 ghost use Rattle.std.specs.Fn.{FnReturnsAt};
 ghost use Rattle.rangemap_core.specs.Clones.{KeysCloneFaithfully, ValuesCloneFaithfully};
-ghost use Rattle.rangemap_formats.specs.Json.{IsForm, IsReading, IsRefusedForMemoryAlone, RefusesToRead, RefusesToWrite, map_reader, map_writer};
+ghost use Rattle.rangemap_formats.specs.Json.{IsForm, IsReading, IsRefusedForMemoryAlone, RefusesToRead, RefusesToWrite, list_of, map_reader, map_writer};
 
 use super::Map;
 use rangemap_core::key_range::KeyRange;
@@ -87,7 +87,7 @@ where
     /// 7. its insert (`OutOfMemory`).
     ///
     /// A half-open range is empty if its start is not less than its end, a closed one if its start
-    /// is greater.
+    /// is greater. An empty list is never refused.
     ///
     /// # Examples
     ///
@@ -116,6 +116,7 @@ where
         ensures ok { IfOk result (IsReading S.Kind.kind (map_reader (FnReturnsAt RK.Fn read_key) (FnReturnsAt RV.Fn read_value)) S.Value.eq form value.now) }
         ensures err { IfErr result (RefusesToRead S.Kind.kind (map_reader (FnReturnsAt RK.Fn read_key) (FnReturnsAt RV.Fn read_value)) S.Value.eq form value.now) }
         ensures exact { IfErr result (IsRefusedForMemoryAlone S.Kind.kind (map_reader (FnReturnsAt RK.Fn read_key) (FnReturnsAt RV.Fn read_value)) S.Value.eq form value.now) }
+        ensures of_nothing { list_of value.now ≡ SomeWord [] → IsOk result }
     {
         let reader = MapReader {
             read_key,

@@ -23,4 +23,4 @@ returns g c =
     let list = c.args.map in
     IfOk-weaker c.from_iter.result _ (λ again. same_pairs k eq list again ≡ true)
     (λ again h. canon_unique k p eq e (override_all k nothing list) list again (own k p eq e list h.2.1) (made_again k eq h.0 list h.1 again h.2.0 (all_shown (λ left. left) (taken_as_shown (shown g.S.IntoIter.Cursor.given g.S.IntoIter.Cursor.given_value) g.met.S.HandsOver.gives) h.0 h.1 h.3) h.4))
-    c.from_iter.ensures
+    c.from_iter.ensures.items

@@ -12,4 +12,4 @@ from_iter-requires-clause-non_empty g c it h =
 
 pub returns : goal.returns
 returns g c =
-    IfOk-weaker c.from_iter.result _ _ (λ all h. subst (λ (ps : List (g.row.S-Range.Denot × g.row.S-Value.Denot)). IsCanonOf g.S.Kind.Kind.kind g.S.Value.PartialEq.eq (override_all g.S.Kind.Kind.kind nothing ps) all) (All-taken h.0 h.1 h.3 ∙ (h.2.0 ∙ c.in_ok-pairs.ensures.items)) h.4) c.from_iter.ensures
+    IfOk-weaker c.from_iter.result _ _ (λ all h. subst (λ (ps : List (g.row.S-Range.Denot × g.row.S-Value.Denot)). IsCanonOf g.S.Kind.Kind.kind g.S.Value.PartialEq.eq (override_all g.S.Kind.Kind.kind nothing ps) all) (All-taken h.0 h.1 h.3 ∙ (h.2.0 ∙ c.in_ok-pairs.ensures.items)) h.4) c.from_iter.ensures.items

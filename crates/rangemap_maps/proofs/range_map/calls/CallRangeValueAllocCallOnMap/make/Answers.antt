@@ -31,7 +31,7 @@ returns-in-FromIter-clause-made g c =
     maps c.push_made-in-FromIter.new.containers.items c.from_iter.result c.push_made-in-FromIter.result
     (from_iter_made k g.met.S.Value.Eq.laws maps pairs)
     (λ fs h. (fs, refl, h))
-    (IfOk-weaker c.from_iter.result _ _ (λ map made. subst (λ ps. IsCanonOf k g.S.Value.PartialEq.eq (override_all k nothing ps) map) (All-taken made.0 made.1 made.3 ∙ made.2.0) made.4) c.from_iter.ensures)
+    (IfOk-weaker c.from_iter.result _ _ (λ map made. subst (λ ps. IsCanonOf k g.S.Value.PartialEq.eq (override_all k nothing ps) map) (All-taken made.0 made.1 made.3 ∙ made.2.0) made.4) c.from_iter.ensures.items)
     c.push_made-in-FromIter.ensures.answer c.push_made-in-FromIter.ensures.ok c.push_made-in-FromIter.ensures.err)
 
 pub extend-requires-clause-non_empty : goal.extend-requires-clause-non_empty
