@@ -1,6 +1,4 @@
-use Rattle.std.proofs.Common.{◌↔◌, IsTrue, subst, sym}
 use Rattle.rangemap_core.specs.Ranges.{with_unit}
-use Rattle.rangemap_core.specs.Sets.{AreCovered}
 use Rattle.rangemap_containers.proofs.CoveredLemmas.{defined_where_covered}
 use Rattle.rangemap_unions.proofs.UnitValueLemmas.{ranges_with}
 use Rattle.rangemap.proofs.range_set.container.SetContainer.covers.Goals as goal
@@ -9,6 +7,4 @@ pub returns : goal.returns
 returns g c =
     let k = g.S.Kind.Kind.kind in
     let list = c.args.self.now in
-    let q = c.args.range.now in
-    defined_where_covered k (with_unit k list) q c.covers.result
-    (subst (λ rs. IsTrue c.covers.result ↔ AreCovered k (k.holds q) rs) (sym (ranges_with k list)) c.covers.ensures)
+    defined_where_covered k (with_unit k list) c.args.range.now c.covers.result (rw (ranges_with k list) c.covers.ensures)
