@@ -1,5 +1,5 @@
 //! The parts of a query, in order, each with its value or with none.
-ghost use Rattle.std.specs.Prelude.{◌&&◌, if◌then◌else◌, IfOk, OnOk, Some as SomeWord};
+ghost use Rattle.std.specs.Prelude.{◌≡◌, ◌&&◌, if◌then◌else◌, IfOk, IsOk, OnOk, Some as SomeWord, false};
 ghost use Rattle.rangemap_core.specs.Clones.{KeysCloneFaithfully, ValuesCloneFaithfully};
 ghost use Rattle.rangemap_core.specs.Ranges.{IsCanonOf, value_at};
 ghost use Rattle.rangemap_core.specs.Segments.{segments_of};
@@ -7,7 +7,7 @@ ghost use Rattle.rangemap_core.specs.Segments.{segments_of};
 use rangemap_containers::container::Container;
 use rangemap_core::common::common;
 use rangemap_core::cursor::Cursor;
-use rangemap_core::kind::known_ends;
+use rangemap_core::kind::{Endpoint, Kind, known_ends};
 use rangemap_core::store::StoreMut;
 use rangemap_maps::range_map::Map;
 use rangemap_sorted::SortedVec;
@@ -32,7 +32,8 @@ use std::iter::IntoIterator;
 ///
 /// # Errors
 ///
-/// Memory, or a clone of a key, of a value or of `alloc`, was refused.
+/// Memory, or a clone of a key, of a value or of `alloc`, was refused. If the query has no key, the
+/// call takes no memory and succeeds.
 ///
 /// # Examples
 ///
@@ -42,6 +43,26 @@ use std::iter::IntoIterator;
 /// // (2..3, Some('a')), (3..5, None), (5..7, Some('b')), (7..9, None)
 /// ```
 pub fn segments<M: Container, B: Allocator + Clone>(
+    alloc: B,
+    container: &M,
+    query: &M::Range,
+) -> Result<Map<SortedVec<M::Kind, M::Range, Option<M::Value>, B>>, AllocError>
+    requires faithful_keys { KeysCloneFaithfully M.Range.Key.is_clone M.Range.Key.cmp }
+    requires faithful_values { ValuesCloneFaithfully M.Value.is_clone M.Value.eq }
+    ensures parts { IfOk result (IsCanonOf M.Kind.kind ⟦<Option<M::Value> as PartialEq>⟧.eq (segments_of M.Kind.kind (value_at M.Kind.kind (M.pairs container.now)) query.now)) }
+    ensures of_nothing { ((key : M.Range.Key) → M.Kind.kind.is_key key → M.Kind.kind.holds query.now key ≡ false) → IsOk result }
+{
+    known_ends::<M::Kind, M::Range>(query);
+    if M::Kind::is_before(Endpoint::Start(query), Endpoint::End(query)) {
+        divided(alloc, container, query)
+    } else {
+        // The query has no key.
+        Ok(Map::new_with_step_fns(alloc))
+    }
+}
+
+// Returns what `segments` does, of any query. It takes a clone of `alloc` even if the query has no key.
+fn divided<M: Container, B: Allocator + Clone>(
     alloc: B,
     container: &M,
     query: &M::Range,

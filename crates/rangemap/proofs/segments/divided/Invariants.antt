@@ -4,7 +4,7 @@ use Rattle.std.specs.Vec.Iter.{into_iter_items}
 use Rattle.rangemap_core.specs.Ranges.{Alike, value_at}
 use Rattle.rangemap_core.specs.Segments.{segments_of}
 use Rattle.rangemap_core.proofs.SegmentLemmas.{clipped}
-use Rattle.rangemap.proofs.segments.segments.Given as goal
+use Rattle.rangemap.proofs.segments.divided.Given as goal
 
 -- what is left of the pairs makes of what was made so far the whole
 abbrev pub invariant-pairs : goal.invariant-pairs
