@@ -102,7 +102,7 @@ where
     ///
     /// # Errors
     ///
-    /// An insert was refused. Nothing is made then.
+    /// An insert was refused. Nothing is made then. If no item comes, the call succeeds.
     pub fn from_iter<I: IntoIterator<Item = S::Range>>(
         alloc: S::Alloc,
         iter: I,
@@ -110,7 +110,8 @@ where
         requires ends { IsFiniteIterable I.into_iter_gives I.IntoIter.can_next I.IntoIter.remaining iter }
         requires non_empty { (it : I.IntoIter) → I.into_iter_gives iter it → GivesNonEmptyRanges S.Kind.kind I.IntoIter.next_gives it }
         requires faithful_keys { KeysCloneFaithfully S.Range.Key.is_clone S.Range.Key.cmp }
-        ensures { IfOk result (λ all. (it : I.IntoIter) × (ranges : List _) × I.into_iter_gives iter it × Drains I.IntoIter.next_gives it ranges × IsCanonOfPoints S.Kind.kind (covers S.Kind.kind ranges) all) }
+        ensures items { IfOk result (λ all. (it : I.IntoIter) × (ranges : List _) × I.into_iter_gives iter it × Drains I.IntoIter.next_gives it ranges × IsCanonOfPoints S.Kind.kind (covers S.Kind.kind ranges) all) }
+        ensures of_nothing { ((it : I.IntoIter) → I.into_iter_gives iter it → GivesNothing I.IntoIter.next_gives it) → IsOk result }
     {
         let mut all = Set::new(alloc);
         all.extend(iter)?;

@@ -1,8 +1,8 @@
 //! The JSON form of a set.
-ghost use Rattle.std.specs.Prelude.{IfErr, IfOk};
+ghost use Rattle.std.specs.Prelude.{◌≡◌, [], IfErr, IfOk, IsOk, Some as SomeWord};
 ghost use Rattle.std.specs.Fn.{FnReturnsAt};
 ghost use Rattle.rangemap.specs.Clones.{KeysCloneFaithfully};
-ghost use Rattle.rangemap.specs.Json.{IsForm, IsReading, IsRefusedForMemoryAlone, RefusesToRead, RefusesToWrite, set_reader, set_writer};
+ghost use Rattle.rangemap.specs.Json.{IsForm, IsReading, IsRefusedForMemoryAlone, RefusesToRead, RefusesToWrite, list_of, set_reader, set_writer};
 ghost use Rattle.rangemap.specs.Ranges.{unit_eq, with_unit};
 
 use super::Set;
@@ -82,7 +82,7 @@ where
     /// 6. its insert (`OutOfMemory`).
     ///
     /// A half-open range is empty if its start is not less than its end, a closed one if its start
-    /// is greater.
+    /// is greater. An empty list is never refused.
     ///
     /// # Examples
     ///
@@ -104,6 +104,7 @@ where
         ensures ok { IfOk result (λ all. IsReading S.Kind.kind (set_reader (FnReturnsAt RK.Fn read_key)) (unit_eq S.Kind.kind) form value.now (with_unit S.Kind.kind all)) }
         ensures err { IfErr result (RefusesToRead S.Kind.kind (set_reader (FnReturnsAt RK.Fn read_key)) (unit_eq S.Kind.kind) form value.now) }
         ensures exact { IfErr result (IsRefusedForMemoryAlone S.Kind.kind (set_reader (FnReturnsAt RK.Fn read_key)) (unit_eq S.Kind.kind) form value.now) }
+        ensures of_nothing { list_of value.now ≡ SomeWord [] → IsOk result }
     {
         let reader = SetReader { read_key };
         let stored = read(alloc, form, value, &reader)?;

@@ -21,4 +21,4 @@ returns g c =
     let same : (range : g.row.S-Range.Denot) → g.S.IntoIter.Cursor.given range ≡ range = λ range. ap (λ pair. pair.0) (g.met.S.HandsOver.gives (range, tt)) in
     IfOk-weaker c.from_iter.result _ (λ again. same_ranges k list again ≡ true)
     (λ again h. same_points k g.met.S.Kind.Kind.placed list again c.known.ensures (made_again k h.0 list h.1 again h.2.0 (all_shown (λ left. left) (taken_as_shown g.S.IntoIter.Cursor.given same) h.0 h.1 h.3) h.4))
-    c.from_iter.ensures
+    c.from_iter.ensures.items

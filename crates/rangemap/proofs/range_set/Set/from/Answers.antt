@@ -12,4 +12,4 @@ from_iter-requires-clause-non_empty g c it h =
 
 pub returns : goal.returns
 returns g c =
-    IfOk-weaker c.from_iter.result _ _ (λ all h. subst (λ (rs : List g.row.S-Range.Denot). IsCanonOfPoints g.S.Kind.Kind.kind (covers g.S.Kind.Kind.kind rs) all) (All-taken h.0 h.1 h.3 ∙ (h.2.0 ∙ c.in_ok-ranges.ensures.items)) h.4) c.from_iter.ensures
+    IfOk-weaker c.from_iter.result _ _ (λ all h. subst (λ (rs : List g.row.S-Range.Denot). IsCanonOfPoints g.S.Kind.Kind.kind (covers g.S.Kind.Kind.kind rs) all) (All-taken h.0 h.1 h.3 ∙ (h.2.0 ∙ c.in_ok-ranges.ensures.items)) h.4) c.from_iter.ensures.items

@@ -35,7 +35,7 @@ returns-in-FromIter-clause-made g c =
     sets c.push_made-in-FromIter.new.containers.items c.from_iter.result c.push_made-in-FromIter.result
     (from_iter_made k sets given)
     (λ fs h. (fs, refl, h))
-    (IfOk-weaker c.from_iter.result _ _ (λ set made. subst (λ rs. IsCanonOfPoints k (covers k rs) set) (All-taken made.0 made.1 made.3 ∙ made.2.0) made.4) c.from_iter.ensures)
+    (IfOk-weaker c.from_iter.result _ _ (λ set made. subst (λ rs. IsCanonOfPoints k (covers k rs) set) (All-taken made.0 made.1 made.3 ∙ made.2.0) made.4) c.from_iter.ensures.items)
     c.push_made-in-FromIter.ensures.answer c.push_made-in-FromIter.ensures.ok c.push_made-in-FromIter.ensures.err)
 
 pub extend-requires-clause-non_empty : goal.extend-requires-clause-non_empty
