@@ -19,5 +19,5 @@ pub mod SetChangeLemmas
 pub mod SetMetLemmas
 pub mod JsonLemmas
 pub mod TextKeys
-pub mod JoinedLemmas
+pub mod DefinedInLemmas
 mod SetReplayLemmas

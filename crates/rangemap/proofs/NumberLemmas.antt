@@ -10,11 +10,11 @@ use Rattle.std.specs.Prelude.{nat_eq, ⊤, ℤ}
 use Rattle.std.specs.declared.alloc.AllocError.{AllocError}
 use Rattle.rangemap_core.specs.MadeRanges.{GivesRange}
 use Rattle.rangemap_core.specs.Ranges.{AreGaps, IsCanonOf, IsCanonical, IsStorable, covering, erase, overlapped, override, value_at}
-use Rattle.rangemap_laws.specs.DefinedIn.{IsDefinedIn}
+use Rattle.rangemap.specs.DefinedIn.{IsDefinedIn}
 use Rattle.rangemap_containers.specs.Histories.{IsUndefinedOn}
 use Rattle.rangemap.proofs.CallerLemmas.{exact_option, insert_outside, insert_within, remove_outside, remove_within}
 use Rattle.rangemap_core.proofs.StoredKeyLemmas.{changes_behind, covering_holds, covering_same, holds_start}
-use Rattle.rangemap_laws.proofs.OverlapLemmas.{defined_by_overlaps, defined_where_one_meets, undefined_by_overlaps, undefined_where_none_meets}
+use Rattle.rangemap.proofs.DefinedInLemmas.{defined_by_overlaps, defined_where_one_meets, undefined_by_overlaps, undefined_where_none_meets}
 use Rattle.rangemap.proofs.GapLoopLemmas.{IsWithin, free_in_earlier, free_in_given, item_stored, item_undefined, item_within}
 use Rattle.rangemap.proofs.Loops.{AsksForGaps}
 use Rattle.rangemap.proofs.NumberKinds.{NumberKind}

@@ -10,9 +10,9 @@ use Rattle.rangemap_core.specs.engine.Endpoints.{EndpointOf, IsPlaced}
 use Rattle.rangemap_core.specs.Ranges.{IsCanonical, IsStorable, RangeKind, closed, covers, half_open, overlapped, unit_eq, value_at, with_unit}
 use Rattle.rangemap_core.specs.Sets.{IsCanonicalSet, met}
 use Rattle.rangemap_core.proofs.SetLemmas.{met_count, valued_where_covered}
-use Rattle.rangemap_laws.specs.DefinedIn.{IsDefinedIn}
+use Rattle.rangemap.specs.DefinedIn.{IsDefinedIn}
 use Rattle.rangemap_core.proofs.StoredKeyLemmas.{meets_where_shared, shared_where_meets}
-use Rattle.rangemap_laws.proofs.OverlapLemmas.{none_meets_where_undefined, overlaps_some, defined_by_overlaps, undefined_by_overlaps}
+use Rattle.rangemap.proofs.DefinedInLemmas.{none_meets_where_undefined, overlaps_some, defined_by_overlaps, undefined_by_overlaps}
 use Rattle.rangemap.proofs.LoopLemmas.{LacksBetween}
 use Rattle.rangemap.proofs.NumberKinds.{NumberKind, NumberOrder}
 use Rattle.rangemap.proofs.NumberLemmas.{IsFreeBetween, IsHeldBetween}

@@ -22,10 +22,5 @@ pub use Rattle.rangemap_steps.specs.CharLaws
 pub mod Histories
 pub use Rattle.rangemap_containers.specs.Updates
 pub mod SetHistories
-pub use Rattle.rangemap_laws.specs.DefinedIn
-pub use Rattle.rangemap_laws.specs.GapPartition
-pub use Rattle.rangemap_laws.specs.SmallLists
-pub use Rattle.rangemap_laws.specs.IteratorEnds
-pub use Rattle.rangemap_laws.specs.Runs
-pub use Rattle.rangemap_laws.specs.Refusals
+pub mod DefinedIn
 pub mod Joined

@@ -100,13 +100,14 @@ pub type Gaps<'a, T, StepFnsT = T> = gaps::Gaps<
 /// The ranges of two sets, joined where they overlap, in order.
 ///
 /// `Union::new` knows no steps and takes every value of the type for a key. A set's `union` and
-/// `laws::sets::closed_operations` describe its items by the steps of the set.
+/// `rangemap_laws::sets::closed_operations` describe its items by the steps of the set.
 pub type Union<'a, T> = unions::Union<slice::Iter<'a, (RangeInclusive<T>, ())>>;
 
 /// The parts that two sets have in common, in order.
 ///
 /// `Intersection::new` knows no steps and takes every value of the type for a key. A set's
-/// `intersection`, `&` and `laws::sets::closed_operations` describe its items by the steps of the set.
+/// `intersection`, `&` and `rangemap_laws::sets::closed_operations` describe its items by the steps of
+/// the set.
 pub type Intersection<'a, T> = unions::Intersection<slice::Iter<'a, (RangeInclusive<T>, ())>>;
 
 /// The parts of one set's ranges that another set leaves free, in order.

@@ -33,8 +33,9 @@
 //! | `tree_map::RangeMap`, `tree_set::RangeSet` | as `RangeMap`, in a B-tree |
 //!
 //! Each container is an alias of `map::Map` or `set::Set`, where its calls are described with their
-//! contracts. `container` has the trait for code that works on any container. `laws` has what holds
-//! for every container. `replay`, in the module of each container, makes any list of calls.
+//! contracts. `container` has the trait for code that works on any container. `replay`, in the module
+//! of each container, makes any list of calls. Laws of all containers are in the crate
+//! `rangemap_laws`.
 //!
 //! `with_room` has maps in a sorted vector that are made with room for a number of ranges. Their
 //! changes are proved to succeed if there is room.
@@ -49,7 +50,6 @@ pub mod chunked;
 pub mod container;
 pub mod inclusive_map;
 pub mod inclusive_set;
-pub mod laws;
 mod macros;
 pub mod map;
 pub mod range_set;

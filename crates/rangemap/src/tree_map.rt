@@ -1,5 +1,5 @@
-//! The map over half-open ranges that keeps them in a tree, the run of any calls that make or
-//! change such maps, and the run of commands on any map, in a tree or not.
+//! The map over half-open ranges that keeps them in a tree, and the run of any calls that make or
+//! change such maps.
 
 pub use crate::container::Container;
 use rangemap_containers::calls;
@@ -7,7 +7,6 @@ pub use rangemap_containers::replay::replay;
 use rangemap_core::gaps;
 use rangemap_core::half_open::HalfOpen;
 use rangemap_core::pair_iter::{OverlappingPairs, PairIter};
-pub use rangemap_laws::commands::{Answer, Command, Outcome, run};
 pub use rangemap_maps::range_map::Map;
 use rangemap_maps::range_map::calls as map_calls;
 use rangemap_tree::pairs::Pairs;

@@ -1,4 +1,3 @@
-pub mod DefinedIn
 pub mod GapPartition
 pub mod SmallLists
 pub mod IteratorEnds

@@ -20,7 +20,7 @@ use std::marker::Model;
 /// The intersection of two lists of ranges: the parts that both have, in order.
 ///
 /// For closed ranges the contract of `Intersection::new` counts every value of the key type as a key,
-/// because it knows no steps. `laws::sets::closed_operations` of `rangemap` and a set's own
+/// because it knows no steps. `sets::closed_operations` of `rangemap_laws` and a set's own
 /// `intersection` describe the same items by the steps of the keys.
 #[derive(Drop)]
 pub struct Intersection<C: Cursor<Range: KeyRange>> {

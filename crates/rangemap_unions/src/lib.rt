@@ -10,7 +10,6 @@ mod edges;
 pub mod inserts;
 mod intersection;
 mod item;
-pub mod laws;
 mod ranges;
 mod symmetric_difference;
 mod union;

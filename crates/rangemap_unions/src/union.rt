@@ -21,7 +21,7 @@ use std::marker::Model;
 /// that only touch stay apart.
 ///
 /// For closed ranges the contract of `Union::new` counts every value of the key type as a key, because
-/// it knows no steps. `laws::sets::closed_operations` of `rangemap` and a set's own `union` describe the
+/// it knows no steps. `sets::closed_operations` of `rangemap_laws` and a set's own `union` describe the
 /// same items by the steps of the keys.
 #[derive(Drop)]
 pub struct Union<C: Cursor<Range: KeyRange>> {

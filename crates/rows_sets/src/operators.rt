@@ -1,14 +1,14 @@
 //! The laws of operators, run on a set and on others that a question has.
 
 use crate::any_steps::made_of;
-use rangemap::laws::sets::{
-    Operator, absorbs, associates, cancels, commutes, distributes, is_either_without_common,
-    is_idempotent, is_subset_exactly_where_nothing_is_left, makes_up, turns_over,
-};
 use rangemap::set::Set;
 use rangemap_core::key_range::KeyRange;
 use rangemap_core::kind::Kind;
 use rangemap_core::store::{HandsOver, StoreMut};
+use rangemap_laws::sets::{
+    Operator, absorbs, associates, cancels, commutes, distributes, is_either_without_common,
+    is_idempotent, is_subset_exactly_where_nothing_is_left, makes_up, turns_over,
+};
 use rows_text::{Fault, FromEnds, Memory, OwnRanges, Question, Word, first_word, write_all};
 use std::alloc::AllocError;
 

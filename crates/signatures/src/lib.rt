@@ -1,7 +1,8 @@
-//! Names every public item of `rangemap`, from `rangemap` alone, and every call of a container but those
-//! by which the library's crates make and read parts for one another: `over`, `cursor`, `into_cursor`,
-//! `as_slice` and `new` of iterators other than `Union` and `Intersection`; the methods of `Operator` and
-//! of both `Functions`; and a loop over `&map`, which wants the crate `rangemap_maps` listed too.
+//! Names every public item of `rangemap` and of `rangemap_laws`, from these two alone, and every call of
+//! a container but those by which the library's crates make and read parts for one another: `over`,
+//! `cursor`, `into_cursor`, `as_slice` and `new` of iterators other than `Union` and `Intersection`; the
+//! methods of `Operator` and of both `Functions`; and a loop over `&map`, which wants the crate
+//! `rangemap_maps` listed too.
 //!
 //! Each call is named once over any keys, values and allocators, with the types of what it takes and
 //! gives: `maps`, `sets`, and `closed` for what steps change. The ten containers are aliases of two

@@ -1,8 +1,8 @@
 //! What the library has of its own: laws, replays and their calls, runs of commands, and what code
 //! over any container names.
 
-use rangemap::laws;
 use rangemap::tree_map::Container;
+use rangemap_laws::comparisons;
 use std::alloc::{AllocError, Global};
 use std::ops::Range;
 
@@ -33,8 +33,7 @@ pub use rangemap::map::{Call as CallOfMaps, Change as ChangeOfMaps, replay as re
 pub use rangemap::range_set::calls::SetCall;
 pub use rangemap::set::{Call as CallOfSets, Change as ChangeOfSets, replay as replay_of_sets};
 pub use rangemap::tree_map::{
-    Answer, Call as CallOfTrees, Change as ChangeOfTrees, Command, Outcome,
-    replay as replay_of_trees, run,
+    Call as CallOfTrees, Change as ChangeOfTrees, replay as replay_of_trees,
 };
 pub use rangemap::tree_set::{
     Call as CallOfSetsInTrees, Change as ChangeOfSetsInTrees, replay as replay_of_sets_in_trees,
@@ -65,36 +64,42 @@ pub use rangemap::chunked::{
 };
 
 // every law
-pub use rangemap::laws::comparisons::{equal_containers_hash_alike, equality_agrees_with_order};
-pub use rangemap::laws::definitions::{
+pub use rangemap_laws::changes::{
+    insert_changes_its_range_alone, insert_twice_equals_once, inserts_commute,
+    remove_after_insert_equals_remove, remove_changes_its_range_alone,
+};
+pub use rangemap_laws::comparisons::{
+    equal_containers_hash_alike, equal_exactly_when_alike, equality_agrees_with_order,
+    lists_are_unique,
+};
+pub use rangemap_laws::definitions::{
     closed_rows, json_rows, list_rows, query_rows, set_and_text_rows,
 };
-pub use rangemap::laws::iterators::{
+pub use rangemap_laws::gaps::gaps_and_covered_keys_make_up_a_range;
+pub use rangemap_laws::iterators::{
     items_go_to_the_end, next_back_ends_both_ends, next_ends_both_ends, next_ends_tries,
     next_stays_ended, try_next_ends_tries,
 };
-pub use rangemap::laws::overlaps::{
+pub use rangemap_laws::map_round_trips::{Functions, from_iter_of_into_iter_is_equal};
+pub use rangemap_laws::overlaps::{
     covers_exactly_where_no_gap_lies, covers_only_where_overlaps, overlaps_exactly_where_covered,
 };
-pub use rangemap::laws::round_trips::{Functions, from_iter_of_into_iter_is_equal};
-pub use rangemap::laws::runs::accepted_runs_answer_alike;
-pub use rangemap::laws::set_round_trips::{
+pub use rangemap_laws::runs::accepted_runs_answer_alike;
+pub use rangemap_laws::set_round_trips::{
     Functions as FunctionsOfSets, from_iter_of_into_iter_is_equal as from_iter_of_a_set_is_equal,
 };
-pub use rangemap::laws::sets::{
+pub use rangemap_laws::sets::{
     Operator, absorbs, associates, cancels, closed_operations, commutes, distributes,
     is_either_without_common, is_idempotent, is_subset_exactly_where_nothing_is_left, makes_up,
     turns_over,
 };
-pub use rangemap::laws::texts::{
+pub use rangemap_laws::texts::{
     ascii_text, set_texts_are_joined, signed_text, texts_are_joined, unsigned_set_text,
     unsigned_text,
 };
-pub use rangemap::laws::{
-    equal_exactly_when_alike, gaps_and_covered_keys_make_up_a_range,
-    insert_changes_its_range_alone, insert_twice_equals_once, inserts_commute, lists_are_unique,
-    remove_after_insert_equals_remove, remove_changes_its_range_alone,
-};
+
+// commands on any container
+pub use rangemap_laws::commands::{Answer, Command, Outcome, run};
 
 pub fn represented<M: Container<Range = Range<u32>, Value = char>>(
     map: &M,
@@ -108,5 +113,5 @@ pub fn represented<M: Container<Range = Range<u32>, Value = char>>(
 }
 
 pub fn laws_alike<M: Container>(left: &M, right: &M) -> (bool, bool) {
-    laws::equal_exactly_when_alike(left, right)
+    comparisons::equal_exactly_when_alike(left, right)
 }

@@ -5,8 +5,9 @@ use crate::checks::assert_same;
 use crate::tallied::{Counts, Tallied, Tally};
 use rangemap::RangeMap;
 use rangemap::container::Container;
-use rangemap::laws::comparisons::{equal_containers_hash_alike, equality_agrees_with_order};
-use rangemap::laws::equal_exactly_when_alike;
+use rangemap_laws::comparisons::{
+    equal_containers_hash_alike, equal_exactly_when_alike, equality_agrees_with_order,
+};
 use std::alloc::{AllocError, Global};
 use std::cmp::Ordering;
 use std::hash::{DefaultHasher, Hash, Hasher};

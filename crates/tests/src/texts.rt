@@ -1,8 +1,8 @@
 //! The laws of texts, which say what is written of numbers and of ASCII texts.
 
 use crate::checks::assert_same;
-use rangemap::laws::texts::{ascii_text, signed_text, unsigned_set_text, unsigned_text};
 use rangemap::{range_inclusive_map, range_map, range_set};
+use rangemap_laws::texts::{ascii_text, signed_text, unsigned_set_text, unsigned_text};
 use std::alloc::AllocError;
 use std::process::Abort;
 

@@ -93,13 +93,14 @@ pub type Gaps<'a, T, StepFnsT = T, A = Global> = gaps::Gaps<
 /// The ranges of two sets, joined where they overlap, in order.
 ///
 /// `Union::new` knows no steps and takes every value of the type for a key. A set's `union` and
-/// `laws::sets::closed_operations` describe its items by the steps of the set.
+/// `rangemap_laws::sets::closed_operations` describe its items by the steps of the set.
 pub type Union<'a, T, A = Global> = unions::Union<iter::Iter<'a, RangeInclusive<T>, (), A>>;
 
 /// The parts that two sets have in common, in order.
 ///
 /// `Intersection::new` knows no steps and takes every value of the type for a key. A set's
-/// `intersection`, `&` and `laws::sets::closed_operations` describe its items by the steps of the set.
+/// `intersection`, `&` and `rangemap_laws::sets::closed_operations` describe its items by the steps of
+/// the set.
 pub type Intersection<'a, T, A = Global> = unions::Intersection<
     iter::Iter<'a, RangeInclusive<T>, (), A>,
 >;

@@ -257,7 +257,7 @@ where
     }
 }
 
-/// One of the operators `|` and `&`, as an argument of their laws.
+/// One of the operators `|` and `&`, as an argument of their laws (`sets` of `rangemap_laws`).
 #[derive(Clone, Copy, Debug, PartialEq, Eq)]
 pub enum Operator {
     /// `|`, the keys of either set.

@@ -5,7 +5,7 @@ ghost use Rattle.rangemap_laws.specs.declared.commands.command.Command.TheVarian
 
 use super::command::{Answer, Command};
 use super::runs::Outcome;
-use rangemap_containers::container::Container;
+use rangemap::container::Container;
 use rangemap_core::key_range::KeyRange;
 use rangemap_core::pairs::clone_pair;
 use std::alloc::Allocator;

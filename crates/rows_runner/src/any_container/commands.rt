@@ -1,13 +1,13 @@
 //! Commands that are run on a clone of a container, and what they answer.
 ghost use Rattle.std.specs.Prelude.{IfOk};
 ghost use Rattle.std.specs.List.{AllByRecursion};
-ghost use Rattle.rangemap.specs.Runs.{IsAllowed};
+ghost use Rattle.rangemap_laws.specs.Runs.{IsAllowed};
 
 use super::lists::{write_container, write_pairs};
 use rangemap::container::Container;
-use rangemap::tree_map::{Answer, Command, Outcome, run};
 use rangemap_core::key_range::KeyRange;
 use rangemap_core::kind::Kind;
+use rangemap_laws::commands::{Answer, Command, Outcome, run};
 use rows_text::{
     Fault, FromEnds, Memory, Question, Word, first_word, pair_of, query_of, range_of, write_pair,
 };

@@ -2,11 +2,16 @@
 
 use super::lists::{write_container, write_ranges};
 use rangemap::container::Container;
-use rangemap::laws;
-use rangemap::laws::overlaps::{
+use rangemap_core::key_range::KeyRange;
+use rangemap_laws::changes::{
+    insert_changes_its_range_alone, insert_twice_equals_once, inserts_commute,
+    remove_after_insert_equals_remove, remove_changes_its_range_alone,
+};
+use rangemap_laws::comparisons::equal_exactly_when_alike;
+use rangemap_laws::gaps::gaps_and_covered_keys_make_up_a_range;
+use rangemap_laws::overlaps::{
     covers_exactly_where_no_gap_lies, covers_only_where_overlaps, overlaps_exactly_where_covered,
 };
-use rangemap_core::key_range::KeyRange;
 use rows_text::{Fault, FromEnds, Memory, Question, Word, first_word, pair_of, query_of, range_of};
 
 /// Runs the law that a question names, and appends what it leaves.
@@ -42,7 +47,7 @@ where
 {
     let (range, value) = pair_of::<M::Kind, M::Range, M::Value, M::Alloc>(alloc, pair)?;
     let mut changed = container.clone()?;
-    laws::insert_changes_its_range_alone(&mut changed, range, value)?;
+    insert_changes_its_range_alone(&mut changed, range, value)?;
     write_container(&changed, out)
 }
 
@@ -53,7 +58,7 @@ where
 {
     let range = range_of::<M::Kind, M::Range, M::Alloc>(alloc, range)?;
     let mut changed = container.clone()?;
-    laws::remove_changes_its_range_alone(&mut changed, range)?;
+    remove_changes_its_range_alone(&mut changed, range)?;
     write_container(&changed, out)
 }
 
@@ -63,7 +68,7 @@ where
     M: Container<Alloc: Memory, Range: FromEnds<Key: Word<M::Alloc>>, Value: Word<M::Alloc>>,
 {
     let outer: M::Range = query_of(alloc, outer)?;
-    let gaps = laws::gaps_and_covered_keys_make_up_a_range(alloc, container, &outer)?;
+    let gaps = gaps_and_covered_keys_make_up_a_range(alloc, container, &outer)?;
     write_ranges::<M::Range, M::Alloc>(gaps.as_slice(), out)
 }
 
@@ -129,10 +134,10 @@ where
     }
     let mut forth = container.clone()?;
     let mut back = container.clone()?;
-    if laws::equal_exactly_when_alike(&forth, &back) != (true, false) {
+    if equal_exactly_when_alike(&forth, &back) != (true, false) {
         return Err(Fault::Differs);
     }
-    laws::inserts_commute(
+    inserts_commute(
         &mut forth,
         &mut back,
         (&first.0, &first.1),
@@ -159,10 +164,10 @@ where
 {
     let (range, value) = pair_of::<M::Kind, M::Range, M::Value, M::Alloc>(alloc, pair)?;
     let (mut once, mut twice) = (container.clone()?, container.clone()?);
-    if laws::equal_exactly_when_alike(&once, &twice) != (true, false) {
+    if equal_exactly_when_alike(&once, &twice) != (true, false) {
         return Err(Fault::Differs);
     }
-    laws::insert_twice_equals_once(&mut once, &mut twice, &range, &value)?;
+    insert_twice_equals_once(&mut once, &mut twice, &range, &value)?;
     write_both(&once, &twice, out)
 }
 
@@ -173,10 +178,10 @@ where
 {
     let (range, value) = pair_of::<M::Kind, M::Range, M::Value, M::Alloc>(alloc, pair)?;
     let (mut changed, mut removed) = (container.clone()?, container.clone()?);
-    if laws::equal_exactly_when_alike(&changed, &removed) != (true, false) {
+    if equal_exactly_when_alike(&changed, &removed) != (true, false) {
         return Err(Fault::Differs);
     }
-    laws::remove_after_insert_equals_remove(&mut changed, &mut removed, &range, &value)?;
+    remove_after_insert_equals_remove(&mut changed, &mut removed, &range, &value)?;
     write_both(&changed, &removed, out)
 }
 
@@ -187,11 +192,11 @@ where
 {
     let (range, value) = pair_of::<M::Kind, M::Range, M::Value, M::Alloc>(alloc, pair)?;
     let mut changed = container.clone()?;
-    if laws::equal_exactly_when_alike(container, &changed) != (true, false) {
+    if equal_exactly_when_alike(container, &changed) != (true, false) {
         return Err(Fault::Differs);
     }
     changed.insert(range, value)?;
-    if laws::equal_exactly_when_alike(container, &changed) != (false, true) {
+    if equal_exactly_when_alike(container, &changed) != (false, true) {
         return Err(Fault::Differs);
     }
     write_container(&changed, out)

@@ -4,11 +4,11 @@ use super::maps::change;
 use super::parts::{read_number, write_number};
 use super::readings::{fault_of, write_value};
 use rangemap::Form;
-use rangemap::laws::round_trips;
 use rangemap::map::Map;
 use rangemap_core::key_range::KeyRange;
 use rangemap_core::kind::Kind;
 use rangemap_core::store::{HandsOver, Store, StoreMut};
+use rangemap_laws::map_round_trips;
 use rows_text::{Fault, FromEnds, Memory, Question, Subject};
 use serde_json::Value;
 
@@ -65,7 +65,7 @@ where
         return Err(Fault::Differs);
     }
     let copy = map.clone()?;
-    let again: Map<S> = round_trips::from_iter_of_into_iter_is_equal(*map.allocator(), copy)?;
+    let again: Map<S> = map_round_trips::from_iter_of_into_iter_is_equal(*map.allocator(), copy)?;
     check_same(map, &again, out)?;
     write_value(&any, out)
 }
@@ -76,7 +76,7 @@ where
     S: StoreMut<Alloc: Memory, Range: FromEnds<Key = u32>, Value = u32> + Drop,
     S::Kind: Kind<S::Range, Steps = <S::Range as KeyRange>::Key>,
 {
-    let functions = round_trips::Functions {
+    let functions = map_round_trips::Functions {
         write_key: write_number,
         write_value: write_number,
         read_key: read_number,

@@ -4,11 +4,11 @@ use super::parts::{read_number, write_number};
 use super::readings::{fault_of, write_value};
 use super::sets::change;
 use rangemap::Form;
-use rangemap::laws::set_round_trips;
 use rangemap::set::Set;
 use rangemap_core::key_range::KeyRange;
 use rangemap_core::kind::Kind;
 use rangemap_core::store::{HandsOver, Store, StoreMut};
+use rangemap_laws::set_round_trips;
 use rows_text::{Fault, FromEnds, Memory, Question, Subject};
 use serde_json::Value;
 

@@ -1,5 +1,5 @@
 use Rattle.std.specs.List.{AllByRecursion}
-use Rattle.rangemap.specs.Runs.{IsAllowed}
+use Rattle.rangemap_laws.specs.Runs.{IsAllowed}
 use Rattle.rows_runner.proofs.any_container.commands.commands_of.Given as goal
 
 abbrev pub invariant-loop-command : goal.invariant-loop-command
