@@ -7,7 +7,6 @@ pub mod CommonLemmas
 pub mod EndpointLemmas
 pub mod EqualListLemmas
 pub mod GapLemmas
-pub mod HandedLemmas
 pub mod IncomingLemmas
 pub mod IncomingRangeLemmas
 pub mod InsertPartLemmas

@@ -2,7 +2,7 @@ use Rattle.std.proofs.Common.{true, ◌≡◌}
 use Rattle.std.proofs.lemmas.Result.{IfOk-weaker}
 use Rattle.rangemap_core.specs.Ranges.{nothing, override_all, same_pairs}
 use Rattle.rangemap_core.specs.Shown.{shown}
-use Rattle.rangemap_core.proofs.HandedLemmas.{all_shown, handed}
+use Rattle.rangemap_laws.proofs.HandedLemmas.{all_shown, handed}
 use Rattle.rangemap_core.proofs.IncomingLemmas.{canonical_non_empty}
 use Rattle.rangemap_core.proofs.OwnPairLemmas.{made_again, own}
 use Rattle.rangemap_core.proofs.UniquenessLemmas.{canon_unique}

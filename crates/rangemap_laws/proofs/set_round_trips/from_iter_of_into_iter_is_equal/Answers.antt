@@ -1,7 +1,7 @@
 use Rattle.std.proofs.Common.{true, ◌≡◌, ap}
 use Rattle.std.proofs.lemmas.Result.{IfOk-weaker}
 use Rattle.rangemap_core.specs.Ranges.{same_ranges}
-use Rattle.rangemap_core.proofs.HandedLemmas.{all_shown}
+use Rattle.rangemap_laws.proofs.HandedLemmas.{all_shown}
 use Rattle.rangemap_laws.proofs.GivenLemmas.{taken_as_shown}
 use Rattle.rangemap_unions.proofs.CanonicalSetLemmas.{canonical_non_empty}
 use Rattle.rangemap.proofs.SetRoundTripLemmas.{made_again, owned, same_points}
