@@ -8,6 +8,7 @@ pub mod NumberKinds
 pub mod NumberLemmas
 pub mod SetNumberLemmas
 pub mod SetRoundTripLemmas
+pub mod ItemsLemmas
 pub mod PairLoopLemmas
 pub mod SetCallerLemmas
 pub mod LoopLemmas
