@@ -1,4 +1,3 @@
-mod ArrayLemmas
 mod ChangeLemmas
 mod CidrLemmas
 mod ExtentLemmas

@@ -1,15 +1,17 @@
-//! Snippets of README.md and docs/PROVING.md, whole, and a caller of each other lemma that
+//! Snippets of README.md and docs/PROVING.md, whole, and callers of other lemmas that
 //! docs/LEMMAS.md names.
 //!
 //! A function that returns a `Result` returns `Err` if memory or a clone was refused. Its clauses say
 //! what it requires and what then holds.
-ghost use Rattle.std.specs.Prelude.{◌≡◌, ◌≢◌, ◌+◌, ◌<◌, ◌≤◌, ◌^◌, ◌&&◌, ◌||◌, ℕ, IfNone, IfOk, IfSome, OnErr, OnOk, map, nat_le, nat_lt, Some, None, false, true};
+ghost use Rattle.std.specs.Prelude.{◌≡◌, ◌≢◌, ◌+◌, ◌<◌, ◌≤◌, ◌^◌, ◌/◌, ◌&&◌, ◌||◌, ℕ, [], IfNone, IfOk, IfSome, OnErr, OnOk, map, nat_le, nat_lt, option_map, Some, None, false, true};
 ghost use Rattle.std.specs.Ordering.{nan_last_cmp, nat_cmp};
 ghost use Rattle.std.specs.String.{string_cmp};
-ghost use Rattle.rangemap.specs.Ranges.{AreGaps, closed, covers, half_open, value_at};
+ghost use Rattle.rangemap.specs.Clones.{KeysCloneFaithfully, ValuesCloneFaithfully};
+ghost use Rattle.rangemap.specs.Ranges.{AreGaps, IsCanonOf, closed, covers, half_open, overlapped, override, value_at};
 ghost use Rattle.rangemap.specs.Sets.{AreCommon, CoverEither};
 
-use rangemap::{RangeInclusiveMap, RangeInclusiveSet, RangeMap, RangeSet, tree_map, tree_set};
+use rangemap::container::{Container, update};
+use rangemap::{RangeInclusiveMap, RangeMap, RangeSet, tree_map, tree_set};
 use std::alloc::{AllocError, Global};
 use std::cmp::OrderedFloat;
 use std::ops::Range;
@@ -31,11 +33,13 @@ pub fn assign(
     shifts.insert(from..to, person)
 }
 
-/// Returns who is on at an hour.
-pub fn on_at(shifts: &RangeMap<u32, u32>, hour: u32) -> Option<u32>
-    ensures { result ≡ value_at (half_open nat_cmp) shifts.now hour }
+/// Puts one person on from 0 up to 5, and then another from 3 up to 9.
+pub fn put_both(shifts: &mut RangeMap<u32, u32>, one: u32, other: u32) -> Result<(), AllocError>
+    ensures early { OnOk result ((hour : ℕ) → hour < 3 → value_at (half_open nat_cmp) shifts.new hour ≡ Some one) }
+    ensures late { OnOk result ((hour : ℕ) → 3 ≤ hour → hour < 9 → value_at (half_open nat_cmp) shifts.new hour ≡ Some other) }
+    ensures behind { OnOk result ((hour : ℕ) → 9 ≤ hour → value_at (half_open nat_cmp) shifts.new hour ≡ value_at (half_open nat_cmp) shifts.old hour) }
 {
-    shifts.get(&hour).copied()
+    shifts.extend([(0..5, one), (3..9, other)])
 }
 
 /// Returns a map of three inserts, whose value at each end the clauses say.
@@ -152,18 +156,39 @@ pub fn free_until(map: &RangeMap<u64, u8>, at: u64, limit: u64) -> Result<u64, A
     }
 }
 
-/// Returns where the gap ends that begins at `at`, at most `limit`.
-pub fn gap_end(map: &RangeMap<u64, u8>, at: u64, limit: u64) -> u64
-    requires forward { at < limit }
-    requires free { value_at (half_open nat_cmp) map.now at ≡ None }
-    ensures { (at < result) × (result ≤ limit) × ((key : ℕ) → at ≤ key → key < result → value_at (half_open nat_cmp) map.now key ≡ None) × (result < limit → value_at (half_open nat_cmp) map.now result ≢ None) }
+/// Halves the prices of the hours from `from` up to `to`. Hours without a price stay without one.
+pub fn halve(
+    alloc: Global,
+    prices: &mut RangeMap<u32, u32>,
+    from: u32,
+    to: u32,
+) -> Result<(), AllocError>
+    ensures within { OnOk result ((hour : ℕ) → from ≤ hour → hour < to → value_at (half_open nat_cmp) prices.new hour ≡ option_map (λ price. price / 2) (value_at (half_open nat_cmp) prices.old hour)) }
+    ensures before { OnOk result ((hour : ℕ) → hour < from → value_at (half_open nat_cmp) prices.new hour ≡ value_at (half_open nat_cmp) prices.old hour) }
+    ensures behind { OnOk result ((hour : ℕ) → to ≤ hour → value_at (half_open nat_cmp) prices.new hour ≡ value_at (half_open nat_cmp) prices.old hour) }
 {
-    let rest = at..limit;
-    match map.gaps(&rest).try_next() {
-        Ok(Some(gap)) => gap.end,
-        Ok(None) => unreachable!(),
-        Err(AllocError) => unreachable!(),
+    update(alloc, prices, &(from..to), |price| Ok(*price / 2))
+}
+
+/// Gives the keys of a range a value if no stored range overlaps it, and returns whether it did.
+pub fn put_if_free<M: Container>(
+    container: &mut M,
+    range: M::Range,
+    value: M::Value,
+) -> Result<bool, AllocError>
+    requires non_empty { M.Kind.kind.IsNonEmpty range }
+    requires faithful_keys { KeysCloneFaithfully M.Range.Key.is_clone M.Range.Key.cmp }
+    requires faithful_values { ValuesCloneFaithfully M.Value.is_clone M.Value.eq }
+    ensures put { IfOk result (λ put. put ≡ true → IsCanonOf M.Kind.kind M.Value.eq (override M.Kind.kind (value_at M.Kind.kind (M.pairs container.old)) range value) (M.pairs container.new)) }
+    ensures free { IfOk result (λ put. put ≡ true → overlapped M.Kind.kind (M.pairs container.old) range ≡ []) }
+    ensures kept { IfOk result (λ put. put ≡ false → M.pairs container.new ≡ M.pairs container.old) }
+    ensures refused { OnErr result (M.pairs container.new ≡ M.pairs container.old) }
+{
+    if container.overlaps(&range) {
+        return Ok(false);
     }
+    container.insert(range, value)?;
+    Ok(true)
 }
 
 /// Returns true only where every person's number is below a limit.
@@ -184,18 +209,6 @@ pub fn is_below(set: &RangeSet<u32>, limit: u32) -> bool
 {
     for range in set.iter() {
         if range.end > limit {
-            return false;
-        }
-    }
-    true
-}
-
-/// Returns true only where every key of a set of closed ranges is at most a limit.
-pub fn is_at_most(set: &RangeInclusiveSet<u32>, limit: u32) -> bool
-    ensures { result ≡ true → (key : ℕ) → key < 2 ^ 32 → covers (closed (λ x. x < 2 ^ 32) nat_cmp) set.now key ≡ true → key ≤ limit }
-{
-    for range in set.iter() {
-        if *range.end() > limit {
             return false;
         }
     }

@@ -4,12 +4,10 @@
 use crate::checks::assert_same;
 use examples::calling::{
     add, add_all, add_shifts, add_texts, all_below, are_below, are_equal, assign, chain, class_at,
-    classify, either_way, ends, free_until, gap_end, has_text, intersection_of, is_at_most,
-    is_below, note, on_at, room_for, uncovered, union_of,
+    classify, either_way, ends, free_until, halve, has_text, intersection_of, is_below, note,
+    put_both, put_if_free, room_for, uncovered, union_of,
 };
-use rangemap::{
-    RangeInclusiveMap, RangeMap, RangeSet, range_inclusive_set, range_set, tree_map, tree_set,
-};
+use rangemap::{RangeInclusiveMap, RangeMap, RangeSet, range_map, range_set, tree_map, tree_set};
 use std::cmp::OrderedFloat;
 use std::process::Abort;
 use std::test::Fail;
@@ -18,7 +16,7 @@ use std::test::Fail;
 fn snippets_with_shifts_answer(rt: HostRuntime) -> Result<(), Fail> {
     let mut shifts = RangeMap::new(rt.alloc());
     assign(&mut shifts, 2, 5, 7)?;
-    let found = (on_at(&shifts, 4), on_at(&shifts, 5));
+    let found = (shifts.get(&4).copied(), shifts.get(&5).copied());
     assert_same(&rt, found, (Some(7), None));
     let hours = uncovered(rt.alloc(), &shifts, &(0..9))?;
     assert_same(&rt, hours.as_slice(), [0..2u32, 5..9].as_slice());
@@ -31,17 +29,15 @@ fn snippets_with_shifts_answer(rt: HostRuntime) -> Result<(), Fail> {
 fn snippets_with_gaps_answer(rt: HostRuntime) -> Result<(), Fail> {
     let mut map = RangeMap::new(rt.alloc());
     map.insert(4..6, 1)?;
-    // Both are to be asked where a key has no value, which what `get` answers shows.
+    // It is to be asked where a key has no value, which what `get` answers shows.
     let None = map.get(&1) else {
         return Err(Fail::new("1 has a value"));
     };
-    let found = (free_until(&map, 1, 9)?, gap_end(&map, 1, 9));
-    assert_same(&rt, found, (4, 4));
+    assert_same(&rt, free_until(&map, 1, 9)?, 4);
     let None = map.get(&6) else {
         return Err(Fail::new("6 has a value"));
     };
-    let found = (free_until(&map, 6, 9)?, gap_end(&map, 6, 9));
-    assert_same(&rt, found, (9, 9));
+    assert_same(&rt, free_until(&map, 6, 9)?, 9);
     let held = range_set![in rt.alloc(); 0..5u32, 7..9]?;
     let found = (room_for(&held, &(0..20), 2), room_for(&held, &(0..20), 3));
     assert_same(&rt, found, (Some(5), Some(9)));
@@ -70,14 +66,6 @@ fn check_shifts<R: AllocGlobal + Abort>(rt: &R) -> Result<(), Fail> {
     Ok(())
 }
 
-// Asks the same of a set of closed ranges.
-fn check_days<R: AllocGlobal + Abort>(rt: &R) -> Result<(), Fail> {
-    let days = range_inclusive_set![in rt.alloc(); 0..=4u32, 7..=8]?;
-    let found = (is_at_most(&days, 8), is_at_most(&days, 7));
-    assert_same(rt, found, (true, false));
-    Ok(())
-}
-
 // Notes a range in a set in a tree.
 fn check_noted<R: AllocGlobal + Abort>(rt: &R) -> Result<(), Fail> {
     let mut seen = tree_set::RangeSet::new(rt.alloc());
@@ -91,7 +79,6 @@ fn check_noted<R: AllocGlobal + Abort>(rt: &R) -> Result<(), Fail> {
 fn snippets_with_one_set_answer(rt: HostRuntime) -> Result<(), Fail> {
     check_added(&rt)?;
     check_shifts(&rt)?;
-    check_days(&rt)?;
     check_noted(&rt)
 }
 
@@ -127,6 +114,28 @@ fn check_either_way<R: AllocGlobal + Abort>(rt: &R) -> Result<(), Fail> {
     Ok(())
 }
 
+// Puts two people on, of whom the second takes hours of the first.
+fn check_both<R: AllocGlobal + Abort>(rt: &R) -> Result<(), Fail> {
+    let mut shifts = RangeMap::new(rt.alloc());
+    put_both(&mut shifts, 1, 2)?;
+    let expected = range_map! { in rt.alloc(); 0..3u32 => 1u32, 3..9 => 2 }?;
+    assert_same(rt, shifts == expected, true);
+    Ok(())
+}
+
+// Halves some prices, and puts a pair where none is stored.
+fn check_prices<R: AllocGlobal + Abort>(rt: &R) -> Result<(), Fail> {
+    let mut prices = range_map! { in rt.alloc(); 0..4u32 => 8u32, 6..9 => 4 }?;
+    halve(rt.alloc(), &mut prices, 2, 8)?;
+    let halved = range_map! { in rt.alloc(); 0..2u32 => 8u32, 2..4 => 4, 6..8 => 2, 8..9 => 4 }?;
+    assert_same(rt, prices == halved, true);
+    assert_same(rt, put_if_free(&mut prices, 3..5, 1)?, false);
+    assert_same(rt, prices == halved, true);
+    assert_same(rt, put_if_free(&mut prices, 4..5, 1)?, true);
+    assert_same(rt, prices.get(&4).copied(), Some(1));
+    Ok(())
+}
+
 // Asks whether a stock lies below a number.
 fn check_stock<R: AllocGlobal + Abort>(rt: &R) -> Result<(), Fail> {
     let mut stock = tree_map::RangeMap::new(rt.alloc());
@@ -140,6 +149,8 @@ fn check_stock<R: AllocGlobal + Abort>(rt: &R) -> Result<(), Fail> {
 fn snippets_with_other_maps_answer(rt: HostRuntime) -> Result<(), Fail> {
     check_ends(&rt)?;
     check_either_way(&rt)?;
+    check_both(&rt)?;
+    check_prices(&rt)?;
     check_stock(&rt)
 }
 
