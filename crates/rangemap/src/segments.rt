@@ -49,8 +49,11 @@ pub fn segments<M: Container, B: Allocator + Clone>(
 ) -> Result<Map<SortedVec<M::Kind, M::Range, Option<M::Value>, B>>, AllocError>
     requires faithful_keys { KeysCloneFaithfully M.Range.Key.is_clone M.Range.Key.cmp }
     requires faithful_values { ValuesCloneFaithfully M.Value.is_clone M.Value.eq }
-    ensures parts { IfOk result (IsCanonOf M.Kind.kind ⟦<Option<M::Value> as PartialEq>⟧.eq (segments_of M.Kind.kind (value_at M.Kind.kind (M.pairs container.now)) query.now)) }
-    ensures of_nothing { ((key : M.Range.Key) → M.Kind.kind.is_key key → M.Kind.kind.holds query.now key ≡ false) → IsOk result }
+    ensures parts { IfOk result (IsCanonOf M.Kind.kind ⟦<Option<M::Value> as PartialEq>⟧.eq
+        (segments_of M.Kind.kind (value_at M.Kind.kind (M.pairs container.now)) query.now)) }
+    ensures of_nothing { ((key : M.Range.Key) → M.Kind.kind.is_key key
+        → M.Kind.kind.holds query.now key ≡ false)
+        → IsOk result }
 {
     known_ends::<M::Kind, M::Range>(query);
     if M::Kind::is_before(Endpoint::Start(query), Endpoint::End(query)) {
@@ -69,7 +72,8 @@ fn divided<M: Container, B: Allocator + Clone>(
 ) -> Result<Map<SortedVec<M::Kind, M::Range, Option<M::Value>, B>>, AllocError>
     requires faithful_keys { KeysCloneFaithfully M.Range.Key.is_clone M.Range.Key.cmp }
     requires faithful_values { ValuesCloneFaithfully M.Value.is_clone M.Value.eq }
-    ensures { IfOk result (IsCanonOf M.Kind.kind ⟦<Option<M::Value> as PartialEq>⟧.eq (segments_of M.Kind.kind (value_at M.Kind.kind (M.pairs container.now)) query.now)) }
+    ensures { IfOk result (IsCanonOf M.Kind.kind ⟦<Option<M::Value> as PartialEq>⟧.eq
+        (segments_of M.Kind.kind (value_at M.Kind.kind (M.pairs container.now)) query.now)) }
 {
     known_ends::<M::Kind, M::Range>(query);
     container.known();
@@ -96,7 +100,10 @@ fn insert_shared<S: StoreMut>(
 ) -> Result<(), AllocError>
     requires faithful_keys { KeysCloneFaithfully S.Range.Key.is_clone S.Range.Key.cmp }
     requires faithful_values { ValuesCloneFaithfully S.Value.is_clone S.Value.eq }
-    ensures { OnOk result (IsCanonOf S.Kind.kind S.Value.eq (λ key. if S.Kind.kind.holds query.now key && S.Kind.kind.holds range.now key then SomeWord value else value_at S.Kind.kind map.old key) map.new) }
+    ensures { OnOk result (IsCanonOf S.Kind.kind S.Value.eq
+        (λ key. if S.Kind.kind.holds query.now key && S.Kind.kind.holds range.now key
+        then SomeWord value else value_at S.Kind.kind map.old key)
+        map.new) }
 {
     let Some(shared) = common::<S::Kind, S::Range>(query, range)? else {
         map.known();

@@ -30,10 +30,12 @@ pub fn insert_into<Q: Kind<R>, R: KeyRange, V: Eq + Clone, A: Allocator + Clone,
     requires non_empty { Q.kind.IsNonEmpty range }
     requires faithful_keys { KeysCloneFaithfully R.Key.is_clone R.Key.cmp }
     requires faithful_values { ValuesCloneFaithfully V.is_clone V.eq }
-    ensures ok { OnOk result (IsChanged Q.kind V.eq (value_at Q.kind (whole chunks.old.items)) range (SomeWord value) (whole chunks.new.items)) }
+    ensures ok { OnOk result (IsChanged Q.kind V.eq (value_at Q.kind (whole chunks.old.items)) range
+        (SomeWord value) (whole chunks.new.items)) }
     ensures filled { AreFilled chunks.new.items }
     ensures err { OnErr result (whole chunks.new.items ≡ whole chunks.old.items) }
-    ensures counted { IfOk result (λ counts. IsCounted V.eq 2 (whole chunks.old.items) (whole chunks.new.items) counts.before counts.after) }
+    ensures counted { IfOk result (λ counts. IsCounted V.eq 2
+        (whole chunks.old.items) (whole chunks.new.items) counts.before counts.after) }
 {
     if chunks.is_empty() {
         known_ends::<Q, R>(&range);
@@ -71,12 +73,15 @@ pub fn remove_from<Q: Kind<R>, R: KeyRange, V: Eq + Clone, A: Allocator + Clone,
     requires non_empty { Q.kind.IsNonEmpty range }
     requires faithful_keys { KeysCloneFaithfully R.Key.is_clone R.Key.cmp }
     requires faithful_values { ValuesCloneFaithfully V.is_clone V.eq }
-    ensures ok { OnOk result (IsCanonOf Q.kind V.eq (erase Q.kind (value_at Q.kind (whole chunks.old.items)) range) (whole chunks.new.items)) }
+    ensures ok { OnOk result (IsCanonOf Q.kind V.eq
+        (erase Q.kind (value_at Q.kind (whole chunks.old.items)) range) (whole chunks.new.items)) }
     ensures filled { AreFilled chunks.new.items }
     ensures err { OnErr result (whole chunks.new.items ≡ whole chunks.old.items) }
-    ensures counted { IfOk result (λ counts. IsCounted V.eq 1 (whole chunks.old.items) (whole chunks.new.items) counts.before counts.after) }
+    ensures counted { IfOk result (λ counts. IsCounted V.eq 1
+        (whole chunks.old.items) (whole chunks.new.items) counts.before counts.after) }
     ensures fits { IfOk result (λ _. length (whole chunks.new.items) ≤ usize.MAX) }
-    ensures meets_nothing { overlapped Q.kind (whole chunks.old.items) range ≡ [] → IsOk result × (whole chunks.new.items ≡ whole chunks.old.items) }
+    ensures meets_nothing { overlapped Q.kind (whole chunks.old.items) range ≡ []
+        → IsOk result × (whole chunks.new.items ≡ whole chunks.old.items) }
 {
     if chunks.is_empty() {
         return Ok(Counts {

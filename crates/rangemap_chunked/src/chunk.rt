@@ -127,8 +127,10 @@ impl<R: KeyRange, V: Eq + Clone, A: Allocator> Chunk<R, V, A> {
         ensures ok { OnOk result (IsChanged Q.kind V.eq (value_at Q.kind self.old) range value self.new) }
         ensures err { OnErr result (self.new ≡ self.old) }
         ensures growth { OnOk result (length self.new ≤ length self.old + grown value) }
-        ensures growth_where_all_are_equal { OnOk result (((v w : V) → V.eq v w ≡ true) → length self.new ≤ length self.old + 1) }
-        ensures meets_nothing { value ≡ NoneWord → overlapped Q.kind self.old range ≡ [] → IsOk result × (self.new ≡ self.old) }
+        ensures growth_where_all_are_equal { OnOk result (((v w : V) → V.eq v w ≡ true)
+            → length self.new ≤ length self.old + 1) }
+        ensures meets_nothing { value ≡ NoneWord → overlapped Q.kind self.old range ≡ []
+            → IsOk result × (self.new ≡ self.old) }
     {
         changes::change::<Q, R, V, A>(&mut self.pairs, range, value)
     }
@@ -155,11 +157,13 @@ impl<R: KeyRange, V: Eq + Clone, A: Allocator> Chunk<R, V, A> {
         requires non_empty { Q.kind.IsNonEmpty range }
         requires faithful_keys { KeysCloneFaithfully R.Key.is_clone R.Key.cmp }
         requires faithful_values { ValuesCloneFaithfully V.is_clone V.eq }
-        ensures ok { OnOk result (IsChanged Q.kind V.eq (value_at Q.kind (self.old ++ take 1 (drop place other.old))) range value self.new) }
+        ensures ok { OnOk result (IsChanged Q.kind V.eq
+            (value_at Q.kind (self.old ++ take 1 (drop place other.old))) range value self.new) }
         ensures rest { OnOk result (other.new ≡ drop (place + 1) other.old) }
         ensures err { OnErr result ((self.new ≡ self.old) × (other.new ≡ other.old)) }
         ensures growth { OnOk result (length self.new ≤ length self.old + 1 + grown value) }
-        ensures growth_where_all_are_equal { OnOk result (((v w : V) → V.eq v w ≡ true) → length self.new ≤ length self.old + 2) }
+        ensures growth_where_all_are_equal { OnOk result (((v w : V) → V.eq v w ≡ true)
+            → length self.new ≤ length self.old + 2) }
     {
         let pairs = &mut self.pairs;
         let others = &mut other.pairs;

@@ -30,7 +30,8 @@ impl<R, V, A: Allocator> Model for IntoIter<R, V, A> {
 
     ghost Value = { List (R × V) };
 
-    ghost view = { λ s. left_of into_iter_items s.front ++ (whole (into_iter_items s.chunks) ++ left_of into_iter_items s.back) };
+    ghost view = { λ s. left_of into_iter_items s.front
+        ++ (whole (into_iter_items s.chunks) ++ left_of into_iter_items s.back) };
 
     ghost invariant = { λ s. AreFilled (into_iter_items s.chunks) };
 }
@@ -91,8 +92,10 @@ fn next_pairs<R, V, A: Allocator>(
     other_end: &mut Option<vec::IntoIter<(R, V), A>>,
 ) -> Option<vec::IntoIter<(R, V), A>>
     ensures { MatchOption chunk
-        ((left_of into_iter_items result ≡ left_of into_iter_items other_end.old) × (left_of into_iter_items other_end.new ≡ []))
-        (λ pairs. (left_of into_iter_items result ≡ pairs) × (left_of into_iter_items other_end.new ≡ left_of into_iter_items other_end.old)) }
+        ((left_of into_iter_items result ≡ left_of into_iter_items other_end.old)
+        × (left_of into_iter_items other_end.new ≡ []))
+        (λ pairs. (left_of into_iter_items result ≡ pairs)
+        × (left_of into_iter_items other_end.new ≡ left_of into_iter_items other_end.old)) }
 {
     match chunk {
         Some(chunk) => Some(chunk.into_pairs()),
@@ -104,7 +107,8 @@ fn next_pairs<R, V, A: Allocator>(
 fn first_of<R: Drop, V: Drop, A: Allocator>(
     pairs: &mut Option<vec::IntoIter<(R, V), A>>,
 ) -> Option<(R, V)>
-    ensures { TakesFirst (λ pair. pair) (left_of into_iter_items pairs.old) result (left_of into_iter_items pairs.new) }
+    ensures { TakesFirst (λ pair. pair) (left_of into_iter_items pairs.old) result
+        (left_of into_iter_items pairs.new) }
 {
     pairs.as_mut()?.next()
 }
@@ -113,7 +117,8 @@ fn first_of<R: Drop, V: Drop, A: Allocator>(
 fn last_of<R: Drop, V: Drop, A: Allocator>(
     pairs: &mut Option<vec::IntoIter<(R, V), A>>,
 ) -> Option<(R, V)>
-    ensures { TakesLast (λ pair. pair) (left_of into_iter_items pairs.old) result (left_of into_iter_items pairs.new) }
+    ensures { TakesLast (λ pair. pair) (left_of into_iter_items pairs.old) result
+        (left_of into_iter_items pairs.new) }
 {
     pairs.as_mut()?.next_back()
 }

@@ -43,7 +43,8 @@ fn chunk_starts_before<Q: Kind<R>, R: KeyRange, V: Eq, A: Allocator>(
     chunk: &Chunk<R, V, A>,
     endpoint: Endpoint<'_, R>,
 ) -> bool
-    ensures { result ≡ chunk_below (shape_of Q.kind Q.end_place V.eq) (place_of Q.kind Q.end_place (endpoint_of endpoint.entry)) chunk.now }
+    ensures { result ≡ chunk_below (shape_of Q.kind Q.end_place V.eq)
+        (place_of Q.kind Q.end_place (endpoint_of endpoint.entry)) chunk.now }
 {
     match chunk.as_slice().first() {
         Some(pair) => Q::is_before(Endpoint::Start(&pair.0), endpoint),
@@ -70,7 +71,8 @@ pub fn chunk_with<'a, Q: Kind<R>, R: KeyRange, V: Eq, A: Allocator>(
     key: &R::Key,
 ) -> Option<&'a Chunk<R, V, A>>
     requires { AreChunks Q.kind V.eq chunks.now }
-    ensures same { MatchOption result (covering Q.kind (whole chunks.now) key.now ≡ NoneWord) (λ chunk. covering Q.kind (whole chunks.now) key.now ≡ covering Q.kind chunk.now key.now) }
+    ensures same { MatchOption result (covering Q.kind (whole chunks.now) key.now ≡ NoneWord)
+        (λ chunk. covering Q.kind (whole chunks.now) key.now ≡ covering Q.kind chunk.now key.now) }
     ensures canonical { IfSome result (λ chunk. IsCanonical Q.kind V.eq chunk.now) }
 {
     Q::known(key);
@@ -104,9 +106,14 @@ pub fn first_failing<T, P: Fn(&T) -> bool>(items: &[T], at: usize, passes: P) ->
     requires in_bounds { at < length items.now }
     requires callable { P.IsAlwaysCallable passes }
     ensures bound { result ≤ length items.now }
-    ensures behind { (test : T → Bool) → ComputesKey P.FnMut test passes → IsPartitionedBy test items.now → at < result }
-    ensures failing { (test : T → Bool) → ComputesKey P.FnMut test passes → IsPartitionedBy test items.now → AllWithin (λ item. test item ≡ false) items.now result (length items.now) }
-    ensures passing { (test : T → Bool) → ComputesKey P.FnMut test passes → IsPartitionedBy test items.now → at + 1 < result → AllWithin (λ item. test item ≡ true) items.now 0 result }
+    ensures behind { (test : T → Bool) → ComputesKey P.FnMut test passes
+        → IsPartitionedBy test items.now → at < result }
+    ensures failing { (test : T → Bool) → ComputesKey P.FnMut test passes
+        → IsPartitionedBy test items.now
+        → AllWithin (λ item. test item ≡ false) items.now result (length items.now) }
+    ensures passing { (test : T → Bool) → ComputesKey P.FnMut test passes
+        → IsPartitionedBy test items.now → at + 1 < result
+        → AllWithin (λ item. test item ≡ true) items.now 0 result }
 {
     let next = at + 1;
     if next < items.len() && passes(&items[next]) {
@@ -127,7 +134,10 @@ pub fn met_chunks_end<Q: Kind<R>, R: KeyRange, V: Eq, A: Allocator>(
     ensures bound { result ≤ length chunks.now }
     ensures behind { at < result }
     ensures clear { IsPastBehind (shape_of Q.kind Q.end_place V.eq) chunks.now range.now result }
-    ensures begun { at + 1 < result → AllWithin (λ chunk. chunk_below (shape_of Q.kind Q.end_place V.eq) (Q.end_place range.now) chunk ≡ true) chunks.now 0 result }
+    ensures begun { at + 1 < result
+        → AllWithin (λ chunk.
+        chunk_below (shape_of Q.kind Q.end_place V.eq) (Q.end_place range.now) chunk ≡ true)
+        chunks.now 0 result }
 {
     first_failing(
         chunks,
@@ -171,11 +181,16 @@ pub fn may_overflow<Q: Kind<R>, R: KeyRange, V: Eq, A: Allocator>(
     requires in_bounds { places.start < length chunks.now }
     requires end { places.end ≤ length chunks.now }
     requires past { IsPastStart (shape_of Q.kind Q.end_place V.eq) chunks.now range.now (places.start + 1) }
-    requires begun { places.start + 1 < places.end → AllWithin (λ chunk. chunk_below (shape_of Q.kind Q.end_place V.eq) (Q.end_place range.now) chunk ≡ true) chunks.now 0 places.end }
+    requires begun { places.start + 1 < places.end
+        → AllWithin (λ chunk.
+        chunk_below (shape_of Q.kind Q.end_place V.eq) (Q.end_place range.now) chunk ≡ true)
+        chunks.now 0 places.end }
     requires non_empty { Q.kind.IsNonEmpty range.now }
     ensures alone { overlapped Q.kind (whole chunks.now) range.now ≡ [] → places.end ≤ places.start + 1 }
     ensures refused { result ≡ true → overlapped Q.kind (whole chunks.now) range.now ≡ [] → ⊥ }
-    ensures allowed { result ≡ false → (len < usize.MAX) ⊎ ((places.end ≤ places.start + 1) × (overlapped Q.kind (slice_index_or chunks.now places.start []) range.now ≡ [])) }
+    ensures allowed { result ≡ false
+        → (len < usize.MAX) ⊎ ((places.end ≤ places.start + 1)
+        × (overlapped Q.kind (slice_index_or chunks.now places.start []) range.now ≡ [])) }
 {
     let Range { start: at, end } = places;
     known_ends::<Q, R>(range);

@@ -47,18 +47,26 @@ pub fn change_over<Q: Kind<R>, R: KeyRange, V: Eq + Clone, A: Allocator>(
     requires end { places.end ≤ length chunks.old.items }
     requires before { IsClearBefore (shape_of Q.kind Q.end_place V.eq) chunks.old.items range places.start }
     requires past { IsPastStart (shape_of Q.kind Q.end_place V.eq) chunks.old.items range (places.start + 1) }
-    requires begun { places.start + 1 < places.end → AllWithin (λ chunk. chunk_by (shape_of Q.kind Q.end_place V.eq) (Q.end_place range) chunk ≡ true) chunks.old.items 0 places.end }
+    requires begun { places.start + 1 < places.end
+        → AllWithin
+        (λ chunk. chunk_by (shape_of Q.kind Q.end_place V.eq) (Q.end_place range) chunk ≡ true)
+        chunks.old.items 0 places.end }
     requires behind { IsPastBehind (shape_of Q.kind Q.end_place V.eq) chunks.old.items range places.end }
-    requires clear { IfSome value (λ _. IsClearBehind (shape_of Q.kind Q.end_place V.eq) chunks.old.items range places.end) }
+    requires clear { IfSome value
+        (λ _. IsClearBehind (shape_of Q.kind Q.end_place V.eq) chunks.old.items range places.end) }
     requires non_empty { Q.kind.IsNonEmpty range }
     requires faithful_keys { KeysCloneFaithfully R.Key.is_clone R.Key.cmp }
     requires faithful_values { ValuesCloneFaithfully V.is_clone V.eq }
-    ensures ok { OnOk result (IsChanged Q.kind V.eq (value_at Q.kind (whole chunks.old.items)) range value (whole chunks.new.items)) }
+    ensures ok { OnOk result (IsChanged Q.kind V.eq
+        (value_at Q.kind (whole chunks.old.items)) range value (whole chunks.new.items)) }
     ensures filled { AreFilledBut value places.start chunks.new.items }
     ensures in_bounds { places.start < length chunks.new.items }
     ensures err { OnErr result (chunks.new.items ≡ chunks.old.items) }
-    ensures counted { IfOk result (λ counts. IsCounted V.eq (grown value) (whole chunks.old.items) (whole chunks.new.items) counts.before counts.after) }
-    ensures meets_nothing { value ≡ NoneWord → places.end ≤ places.start + 1 → overlapped Q.kind (slice_index_or chunks.old.items places.start []) range ≡ [] → IsOk result × (chunks.new.items ≡ chunks.old.items) }
+    ensures counted { IfOk result (λ counts. IsCounted V.eq (grown value)
+        (whole chunks.old.items) (whole chunks.new.items) counts.before counts.after) }
+    ensures meets_nothing { value ≡ NoneWord → places.end ≤ places.start + 1
+        → overlapped Q.kind (slice_index_or chunks.old.items places.start []) range ≡ []
+        → IsOk result × (chunks.new.items ≡ chunks.old.items) }
 {
     known_ends::<Q, R>(&range);
     let Range { start: at, end } = places;

@@ -77,7 +77,9 @@ pub trait Container: PartialEq {
         requires non_empty { Self.Kind.kind.IsNonEmpty range }
         requires faithful_keys { KeysCloneFaithfully Self.Range.Key.is_clone Self.Range.Key.cmp }
         requires faithful_values { ValuesCloneFaithfully Self.Value.is_clone Self.Value.eq }
-        ensures ok { OnOk result (IsCanonOf Self.Kind.kind Self.Value.eq (override Self.Kind.kind (value_at Self.Kind.kind (pairs self.old)) range value) (pairs self.new)) }
+        ensures ok { OnOk result (IsCanonOf Self.Kind.kind Self.Value.eq
+            (override Self.Kind.kind (value_at Self.Kind.kind (pairs self.old)) range value)
+            (pairs self.new)) }
         ensures newest { OnOk result (IsNewest Self.Kind.kind range value (pairs self.new)) }
         ensures err { OnErr result (pairs self.new ≡ pairs self.old) }
         ensures growth { OnOk result (length (pairs self.new) ≤ length (pairs self.old) + 2) };
@@ -96,10 +98,13 @@ pub trait Container: PartialEq {
         requires non_empty { Self.Kind.kind.IsNonEmpty range }
         requires faithful_keys { KeysCloneFaithfully Self.Range.Key.is_clone Self.Range.Key.cmp }
         requires faithful_values { ValuesCloneFaithfully Self.Value.is_clone Self.Value.eq }
-        ensures ok { OnOk result (IsCanonOf Self.Kind.kind Self.Value.eq (erase Self.Kind.kind (value_at Self.Kind.kind (pairs self.old)) range) (pairs self.new)) }
+        ensures ok { OnOk result (IsCanonOf Self.Kind.kind Self.Value.eq
+            (erase Self.Kind.kind (value_at Self.Kind.kind (pairs self.old)) range)
+            (pairs self.new)) }
         ensures err { OnErr result (pairs self.new ≡ pairs self.old) }
         ensures growth { OnOk result (length (pairs self.new) ≤ length (pairs self.old) + 1) }
-        ensures meets_nothing { overlapped Self.Kind.kind (pairs self.old) range ≡ [] → IsOk result × (pairs self.new ≡ pairs self.old) };
+        ensures meets_nothing { overlapped Self.Kind.kind (pairs self.old) range ≡ []
+            → IsOk result × (pairs self.new ≡ pairs self.old) };
 
     /// Takes every key out. It takes no memory.
     fn clear(&mut self)
@@ -117,8 +122,10 @@ pub trait Container: PartialEq {
     fn clone(&self) -> Result<Self, AllocError>
         requires faithful_keys { KeysCloneFaithfully Self.Range.Key.is_clone Self.Range.Key.cmp }
         requires faithful_values { ValuesCloneFaithfully Self.Value.is_clone Self.Value.eq }
-        ensures same { IfOk result (λ copy. same_pairs Self.Kind.kind Self.Value.eq (pairs self.now) (pairs copy) ≡ true) }
-        ensures canon { IfOk result (λ copy. IsCanonOf Self.Kind.kind Self.Value.eq (value_at Self.Kind.kind (pairs self.now)) (pairs copy)) };
+        ensures same { IfOk result
+            (λ copy. same_pairs Self.Kind.kind Self.Value.eq (pairs self.now) (pairs copy) ≡ true) }
+        ensures canon { IfOk result (λ copy. IsCanonOf Self.Kind.kind Self.Value.eq
+            (value_at Self.Kind.kind (pairs self.now)) (pairs copy)) };
 
     /// Returns the number of stored ranges.
     fn len(&self) -> usize
@@ -142,7 +149,8 @@ pub trait Container: PartialEq {
         &self,
         key: &<Self::Range as KeyRange>::Key,
     ) -> Option<(&Self::Range, &Self::Value)>
-        ensures { option_map (λ pair. (pair.0.now, pair.1.now)) result ≡ covering Self.Kind.kind (pairs self.now) key.now };
+        ensures { option_map (λ pair. (pair.0.now, pair.1.now)) result
+            ≡ covering Self.Kind.kind (pairs self.now) key.now };
 
     /// Returns whether a stored range has the key.
     fn contains_key(&self, key: &<Self::Range as KeyRange>::Key) -> bool
@@ -155,7 +163,8 @@ pub trait Container: PartialEq {
 
     /// Returns the last stored range and its value.
     fn last_range_value(&self) -> Option<(&Self::Range, &Self::Value)>
-        ensures found { option_map (λ pair. (pair.0.now, pair.1.now)) result ≡ slice_get (pairs self.now) (length (pairs self.now) - 1) }
+        ensures found { option_map (λ pair. (pair.0.now, pair.1.now)) result
+            ≡ slice_get (pairs self.now) (length (pairs self.now) - 1) }
         ensures non_empty { IfSome result (λ pair. Self.Kind.kind.IsNonEmpty pair.0.now) };
 
     /// Returns whether a stored range overlaps `range`, which may be any range.
@@ -164,7 +173,8 @@ pub trait Container: PartialEq {
 
     /// Returns whether every key of `range` has a value. That is true of a range without keys.
     fn covers(&self, range: &Self::Range) -> bool
-        ensures { IsTrue result ↔ IsDefinedOn Self.Kind.kind (value_at Self.Kind.kind (pairs self.now)) range.now };
+        ensures { IsTrue result
+            ↔ IsDefinedOn Self.Kind.kind (value_at Self.Kind.kind (pairs self.now)) range.now };
 
     /// Appends clones of all pairs, in order, so that they outlive the container. Their ranges may
     /// be stored again. It takes *O*(*n*).
@@ -183,7 +193,8 @@ pub trait Container: PartialEq {
     ) -> Result<(), AllocError>
         requires faithful_keys { KeysCloneFaithfully Self.Range.Key.is_clone Self.Range.Key.cmp }
         requires faithful_values { ValuesCloneFaithfully Self.Value.is_clone Self.Value.eq }
-        ensures ok { OnOk result (Appends Self.Kind.kind Self.Value.eq (pairs self.now) out.old.items out.new.items) }
+        ensures ok { OnOk result
+            (Appends Self.Kind.kind Self.Value.eq (pairs self.now) out.old.items out.new.items) }
         ensures err { OnErr result (out.new.items ≡ out.old.items) }
         ensures of_nothing { pairs self.now ≡ [] → IsOk result × (out.new.items ≡ out.old.items) };
 
@@ -204,9 +215,11 @@ pub trait Container: PartialEq {
     ) -> Result<(), AllocError>
         requires faithful_keys { KeysCloneFaithfully Self.Range.Key.is_clone Self.Range.Key.cmp }
         requires faithful_values { ValuesCloneFaithfully Self.Value.is_clone Self.Value.eq }
-        ensures ok { OnOk result (Appends Self.Kind.kind Self.Value.eq (overlapped Self.Kind.kind (pairs self.now) range.now) out.old.items out.new.items) }
+        ensures ok { OnOk result (Appends Self.Kind.kind Self.Value.eq
+            (overlapped Self.Kind.kind (pairs self.now) range.now) out.old.items out.new.items) }
         ensures err { OnErr result (out.new.items ≡ out.old.items) }
-        ensures of_nothing { overlapped Self.Kind.kind (pairs self.now) range.now ≡ [] → IsOk result × (out.new.items ≡ out.old.items) };
+        ensures of_nothing { overlapped Self.Kind.kind (pairs self.now) range.now ≡ []
+            → IsOk result × (out.new.items ≡ out.old.items) };
 
     /// Appends the parts of `outer_range` that no stored range covers, in order. `outer_range` may be
     /// any range. It takes *O*(log *n* + *k*), with *k* stored ranges that it overlaps.
@@ -224,12 +237,16 @@ pub trait Container: PartialEq {
         out: &mut Vec<Self::Range, B>,
     ) -> Result<(), AllocError>
         requires faithful_keys { KeysCloneFaithfully Self.Range.Key.is_clone Self.Range.Key.cmp }
-        ensures ok { OnOk result (AppendsGaps Self.Kind.kind (map (λ pair. pair.0) (pairs self.now)) outer_range.now out.old.items out.new.items) }
+        ensures ok { OnOk result (AppendsGaps Self.Kind.kind
+            (map (λ pair. pair.0) (pairs self.now)) outer_range.now out.old.items out.new.items) }
         ensures err { OnErr result (out.new.items ≡ out.old.items) }
-        ensures of_nothing { AreGaps Self.Kind.kind (map (λ pair. pair.0) (pairs self.now)) outer_range.now [] → IsOk result × (out.new.items ≡ out.old.items) };
+        ensures of_nothing { AreGaps Self.Kind.kind
+            (map (λ pair. pair.0) (pairs self.now)) outer_range.now []
+            → IsOk result × (out.new.items ≡ out.old.items) };
 
     /// Containers are equal if their pairs are.
-    ghost equal: { (left right : Self) → Self.eq left right ≡ same_pairs Self.Kind.kind Self.Value.eq (pairs left) (pairs right) };
+    ghost equal: { (left right : Self)
+        → Self.eq left right ≡ same_pairs Self.Kind.kind Self.Value.eq (pairs left) (pairs right) };
 }
 
 /// Collects the gaps of `outer_range` into a vector, with memory of `alloc`: the parts of it that no
@@ -250,8 +267,11 @@ pub fn collect_gaps<M: Container, B: Allocator>(
     outer_range: &M::Range,
 ) -> Result<Vec<M::Range, B>, AllocError>
     requires { KeysCloneFaithfully M.Range.Key.is_clone M.Range.Key.cmp }
-    ensures ok { IfOk result (λ gaps. AreGaps M.Kind.kind (map (λ pair. pair.0) (M.pairs container.now)) outer_range.now gaps.items) }
-    ensures of_nothing { AreGaps M.Kind.kind (map (λ pair. pair.0) (M.pairs container.now)) outer_range.now [] → IsOk result }
+    ensures ok { IfOk result (λ gaps. AreGaps M.Kind.kind
+        (map (λ pair. pair.0) (M.pairs container.now)) outer_range.now gaps.items) }
+    ensures of_nothing { AreGaps M.Kind.kind
+        (map (λ pair. pair.0) (M.pairs container.now)) outer_range.now []
+        → IsOk result }
 {
     let mut gaps = Vec::new(alloc);
     container.append_gaps(outer_range, &mut gaps)?;

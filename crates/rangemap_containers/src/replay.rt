@@ -22,7 +22,8 @@ pub trait CallOn<M: Container>: Drop {
     ghost has_non_empty: { Self → Type 0 };
 
     /// What the call makes of the functions that the containers stand for, by its answer.
-    ghost step: { List (M.Range.Key → Option M.Value) → Self → Bool → List (M.Range.Key → Option M.Value) → Type 0 };
+    ghost step: { List (M.Range.Key → Option M.Value) → Self → Bool
+        → List (M.Range.Key → Option M.Value) → Type 0 };
 
     /// Makes the call, and returns whether it was accepted. A container that it adds at the end has its
     /// memory of `alloc`. If it is made of containers in the list, it has its memory of a clone of the
@@ -38,7 +39,8 @@ pub trait CallOn<M: Container>: Drop {
         requires non_empty { has_non_empty self }
         requires faithful_keys { KeysCloneFaithfully M.Range.Key.is_clone M.Range.Key.cmp }
         requires faithful_values { ValuesCloneFaithfully M.Value.is_clone M.Value.eq }
-        ensures made { Makes M.Kind.kind M.Value.eq M.pairs step containers.old.items self result containers.new.items }
+        ensures made { Makes M.Kind.kind M.Value.eq M.pairs step containers.old.items self result
+            containers.new.items }
         ensures len { vec_len containers.new ≤ vec_len containers.old + 1 }
         ensures capacity { vec_capacity containers.old ≤ vec_capacity containers.new };
 }
@@ -92,7 +94,8 @@ where
     requires non_empty { AllByRecursion C.has_non_empty calls.items }
     requires faithful_keys { KeysCloneFaithfully M.Range.Key.is_clone M.Range.Key.cmp }
     requires faithful_values { ValuesCloneFaithfully M.Value.is_clone M.Value.eq }
-    ensures ok { IfOk result (λ answers. MakesAll M.Kind.kind M.Value.eq M.pairs C.step containers.old.items calls.items answers.items containers.new.items) }
+    ensures ok { IfOk result (λ answers. MakesAll M.Kind.kind M.Value.eq M.pairs C.step
+        containers.old.items calls.items answers.items containers.new.items) }
     ensures err { OnErr result (containers.new.items ≡ containers.old.items) }
 {
     let count = calls.len();
@@ -117,7 +120,8 @@ fn make_all<M: Container, C: CallOn<M>>(
     requires non_empty { AllByRecursion C.has_non_empty calls.items }
     requires faithful_keys { KeysCloneFaithfully M.Range.Key.is_clone M.Range.Key.cmp }
     requires faithful_values { ValuesCloneFaithfully M.Value.is_clone M.Value.eq }
-    ensures { Run (Makes M.Kind.kind M.Value.eq M.pairs C.step) containers.old.items calls.items answers.new.items containers.new.items }
+    ensures { Run (Makes M.Kind.kind M.Value.eq M.pairs C.step)
+        containers.old.items calls.items answers.new.items containers.new.items }
 {
     for (call, alloc) in calls.into_iter().zip(allocators) {
         answers.push_reserved(call.make(alloc, containers));

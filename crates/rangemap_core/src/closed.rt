@@ -34,7 +34,8 @@ impl<K: Ord + Clone, StepFnsT: StepFns<K>> Kind<RangeInclusive<K>> for Closed<St
 
     ghost part_of = { closed_part StepFnsT.after StepFnsT.before };
 
-    ghost placed = { closed_placed StepFnsT.is_key K.cmp K.total StepFnsT.after StepFnsT.before StepFnsT.follows StepFnsT.precedes };
+    ghost placed = { closed_placed StepFnsT.is_key K.cmp K.total StepFnsT.after StepFnsT.before
+        StepFnsT.follows StepFnsT.precedes };
 
     ghost interval = { closed_interval K.total StepFnsT.is_key };
 
@@ -73,7 +74,8 @@ impl<K: Ord + Clone, StepFnsT: StepFns<K>> Kind<RangeInclusive<K>> for Closed<St
     }
 
     fn is_before(from: Endpoint<'_, RangeInclusive<K>>, to: Endpoint<'_, RangeInclusive<K>>) -> bool
-        ensures { result ≡ is_before (closed StepFnsT.is_key K.cmp) (closed_end_place StepFnsT.after) (endpoint_of from.entry) (endpoint_of to.entry) }
+        ensures { result ≡ is_before (closed StepFnsT.is_key K.cmp)
+            (closed_end_place StepFnsT.after) (endpoint_of from.entry) (endpoint_of to.entry) }
     {
         known_at::<K, StepFnsT>(from);
         known_at::<K, StepFnsT>(to);
@@ -91,9 +93,12 @@ impl<K: Ord + Clone, StepFnsT: StepFns<K>> Kind<RangeInclusive<K>> for Closed<St
         from: Endpoint<'_, RangeInclusive<K>>,
         to: Endpoint<'_, RangeInclusive<K>>,
     ) -> Result<RangeInclusive<K>, AllocError>
-        requires is_before { is_before (closed StepFnsT.is_key K.cmp) (closed_end_place StepFnsT.after) (endpoint_of from) (endpoint_of to) ≡ true }
+        requires is_before { is_before (closed StepFnsT.is_key K.cmp)
+            (closed_end_place StepFnsT.after) (endpoint_of from) (endpoint_of to) ≡ true }
         requires faithful_keys { KeysCloneFaithfully K.is_clone K.cmp }
-        ensures ok { IfOk result (IsSame (closed StepFnsT.is_key K.cmp) (closed_part StepFnsT.after StepFnsT.before (endpoint_of from.entry) (endpoint_of to.entry))) }
+        ensures ok { IfOk result (IsSame (closed StepFnsT.is_key K.cmp)
+            (closed_part StepFnsT.after StepFnsT.before
+            (endpoint_of from.entry) (endpoint_of to.entry))) }
         ensures succeeds { KeysCloneInfallibly K.is_infallible → IsOk result }
     {
         known_at::<K, StepFnsT>(from);

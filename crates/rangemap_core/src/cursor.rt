@@ -50,7 +50,9 @@ pub trait Peek: Cursor<Range: KeyRange, Given: Drop, GivenValue: Drop> {
     /// Returns the first pair that is still to come.
     fn peek(&mut self) -> Option<(Self::Given, Self::GivenValue)>
         ensures same { Self.left self.new ≡ Self.left self.old }
-        ensures first { MatchOption result (Self.left self.old ≡ []) (λ pair. (rest : List (Self.Range × Self.Value)) × (Self.left self.old ≡ shown Self.given Self.given_value pair ∷ rest)) };
+        ensures first { MatchOption result (Self.left self.old ≡ [])
+            (λ pair. (rest : List (Self.Range × Self.Value))
+            × (Self.left self.old ≡ shown Self.given Self.given_value pair ∷ rest)) };
 }
 
 /// A cursor over pairs that are lent for `'a`. It gives references to the ranges.

@@ -40,15 +40,21 @@ impl<'a, Q: Kind<R>, R: KeyRange, C: Cursor<Range = R>> Model for Gaps<'a, Q, R,
 
     ghost Value = { List R };
 
-    ghost view = { λ s. if s.is_done then [] else gaps_from Q.kind Q.end_place Q.part_of (endpoint_of s.from) s.outer_range.now (option_to_list (option_map (shown C.given C.given_value) s.refused) ++ C.left s.pairs) };
+    ghost view = { λ s. if s.is_done then []
+        else gaps_from Q.kind Q.end_place Q.part_of (endpoint_of s.from) s.outer_range.now
+        (option_to_list (option_map (shown C.given C.given_value) s.refused) ++ C.left s.pairs) };
 }
 
 impl<'a, Q: Kind<R>, R: KeyRange + 'a, C: LentCursor<'a, R, GivenValue: Drop>> Gaps<'a, Q, R, C> {
     /// Returns the gaps that pairs leave in the range. The pairs are those of a canonical list that
     /// overlap the range, and its ends are keys.
     pub fn over(pairs: C, outer_range: &'a R) -> Self
-        ensures items { result ≡ gaps_from Q.kind Q.end_place Q.part_of (AtStart outer_range.now) outer_range.now (C.left pairs) }
-        ensures gaps { (eq : C.Value → C.Value → Bool) → (list : List (R × C.Value)) → IsCanonical Q.kind eq list → IsAsked Q.kind outer_range.now → C.left pairs ≡ overlapped Q.kind list outer_range.now → AreGaps Q.kind (map (λ pair. pair.0) list) outer_range.now result }
+        ensures items { result ≡ gaps_from Q.kind Q.end_place Q.part_of
+            (AtStart outer_range.now) outer_range.now (C.left pairs) }
+        ensures gaps { (eq : C.Value → C.Value → Bool) → (list : List (R × C.Value))
+            → IsCanonical Q.kind eq list → IsAsked Q.kind outer_range.now
+            → C.left pairs ≡ overlapped Q.kind list outer_range.now
+            → AreGaps Q.kind (map (λ pair. pair.0) list) outer_range.now result }
     {
         Gaps {
             from: Endpoint::Start(outer_range),
@@ -165,9 +171,16 @@ pub fn append_gaps<
     B: Allocator,
 >(pairs: C, outer_range: &'a R, out: &mut Vec<R, B>) -> Result<(), AllocError>
     requires { KeysCloneFaithfully R.Key.is_clone R.Key.cmp }
-    ensures ok { OnOk result ((gaps : List _) × Drains (GivesNext Q.kind (KeysCloneInfallibly R.Key.is_infallible)) (gaps_from Q.kind Q.end_place Q.part_of (AtStart outer_range.now) outer_range.now (C.left pairs)) (map OkWord gaps) × (out.new.items ≡ out.old.items ++ gaps)) }
+    ensures ok { OnOk result ((gaps : List _)
+        × Drains (GivesNext Q.kind (KeysCloneInfallibly R.Key.is_infallible))
+        (gaps_from Q.kind Q.end_place Q.part_of
+        (AtStart outer_range.now) outer_range.now (C.left pairs))
+        (map OkWord gaps)
+        × (out.new.items ≡ out.old.items ++ gaps)) }
     ensures err { OnErr result (out.new.items ≡ out.old.items) }
-    ensures of_nothing { gaps_from Q.kind Q.end_place Q.part_of (AtStart outer_range.now) outer_range.now (C.left pairs) ≡ [] → IsOk result × (out.new.items ≡ out.old.items) }
+    ensures of_nothing { gaps_from Q.kind Q.end_place Q.part_of
+        (AtStart outer_range.now) outer_range.now (C.left pairs) ≡ []
+        → IsOk result × (out.new.items ≡ out.old.items) }
 {
     append_items(Gaps::<Q, R, C>::over(pairs, outer_range), out)
 }
@@ -180,7 +193,8 @@ fn append_items<R: Drop, I: Iterator<Item = Result<R, AllocError>> + Drop, B: Al
 ) -> Result<(), AllocError>
     requires can { I.can_next gaps }
     requires ends { IsFinite (I.remaining gaps) }
-    ensures ok { OnOk result ((items : List _) × Drains I.next_gives gaps (map OkWord items) × (out.new.items ≡ out.old.items ++ items)) }
+    ensures ok { OnOk result ((items : List _) × Drains I.next_gives gaps (map OkWord items)
+        × (out.new.items ≡ out.old.items ++ items)) }
     ensures err { OnErr result (out.new.items ≡ out.old.items) }
     ensures of_nothing { GivesNothing I.next_gives gaps → IsOk result × (out.new.items ≡ out.old.items) }
 {
@@ -204,7 +218,9 @@ fn take_next<C: Cursor>(
     pairs: &mut C,
 ) -> Option<(C::Given, C::GivenValue)>
     ensures none_refused { refused.new ≡ NoneWord }
-    ensures taken { TakesFirst (shown C.given C.given_value) (option_to_list (option_map (shown C.given C.given_value) refused.old) ++ C.left pairs.old) result (C.left pairs.new) }
+    ensures taken { TakesFirst (shown C.given C.given_value)
+        (option_to_list (option_map (shown C.given C.given_value) refused.old) ++ C.left pairs.old)
+        result (C.left pairs.new) }
 {
     if let Some(next) = refused.take() {
         return Some(next);

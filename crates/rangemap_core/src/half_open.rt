@@ -61,7 +61,8 @@ impl<K: Ord + Clone> Kind<Range<K>> for HalfOpen {
     }
 
     fn is_before(from: Endpoint<'_, Range<K>>, to: Endpoint<'_, Range<K>>) -> bool
-        ensures { result ≡ is_before (half_open K.cmp) half_open_end_place (endpoint_of from.entry) (endpoint_of to.entry) }
+        ensures { result ≡ is_before (half_open K.cmp) half_open_end_place
+            (endpoint_of from.entry) (endpoint_of to.entry) }
     {
         key_at(from).cmp(key_at(to)).is_lt()
     }
@@ -70,9 +71,11 @@ impl<K: Ord + Clone> Kind<Range<K>> for HalfOpen {
         from: Endpoint<'_, Range<K>>,
         to: Endpoint<'_, Range<K>>,
     ) -> Result<Range<K>, AllocError>
-        requires is_before { is_before (half_open K.cmp) half_open_end_place (endpoint_of from) (endpoint_of to) ≡ true }
+        requires is_before { is_before (half_open K.cmp) half_open_end_place
+            (endpoint_of from) (endpoint_of to) ≡ true }
         requires faithful_keys { KeysCloneFaithfully K.is_clone K.cmp }
-        ensures ok { IfOk result (IsSame (half_open K.cmp) (half_open_part (endpoint_of from.entry) (endpoint_of to.entry))) }
+        ensures ok { IfOk result (IsSame (half_open K.cmp)
+            (half_open_part (endpoint_of from.entry) (endpoint_of to.entry))) }
         ensures succeeds { KeysCloneInfallibly K.is_infallible → IsOk result }
     {
         Ok(key_at(from).clone()?..key_at(to).clone()?)

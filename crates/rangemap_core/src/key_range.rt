@@ -130,7 +130,8 @@ impl<K: Ord + Clone> KeyRange for RangeInclusive<K> {
 
     ghost has_end = { true };
 
-    ghost has_key = { λ range. IsTrue (is_le (K.cmp (range_inclusive_start range) (range_inclusive_end range))) };
+    ghost has_key = { λ range.
+        IsTrue (is_le (K.cmp (range_inclusive_start range) (range_inclusive_end range))) };
 
     ghost is_fresh = { λ range. range_inclusive_exhausted range ≡ false };
 

@@ -114,7 +114,8 @@ pub trait Kind<R: KeyRange> {
     ghost has_places: { HasPlaces kind R.places (λ x. (x, false)) (λ x. (x, R.has_end)) };
 
     /// A canonical list is canonical where every value counts as a key, too.
-    ghost canonical_unstepped: { (ranges : List R) → IsCanonicalSet kind ranges → IsCanonicalSet R.read ranges };
+    ghost canonical_unstepped: { (ranges : List R) → IsCanonicalSet kind ranges
+        → IsCanonicalSet R.read ranges };
 
     /// A range that is not empty where every value counts as a key is not empty.
     ghost non_empty_stepped: { (range : R) → R.read.IsNonEmpty range → kind.IsNonEmpty range };
@@ -142,8 +143,12 @@ pub fn part_between<Q: Kind<R>, R: KeyRange>(
     to: Endpoint<'_, R>,
 ) -> Result<Option<R>, AllocError>
     requires { KeysCloneFaithfully R.Key.is_clone R.Key.cmp }
-    ensures ok { IfOk result (λ part. MatchOption part (is_before Q.kind Q.end_place (endpoint_of from.entry) (endpoint_of to.entry) ≡ false) (λ r. (is_before Q.kind Q.end_place (endpoint_of from.entry) (endpoint_of to.entry) ≡ true) × IsSame Q.kind (Q.part_of (endpoint_of from.entry) (endpoint_of to.entry)) r)) }
-    ensures err { OnErr result (is_before Q.kind Q.end_place (endpoint_of from.entry) (endpoint_of to.entry) ≡ true) }
+    ensures ok { IfOk result (λ part. MatchOption part
+        (is_before Q.kind Q.end_place (endpoint_of from.entry) (endpoint_of to.entry) ≡ false)
+        (λ r. (is_before Q.kind Q.end_place (endpoint_of from.entry) (endpoint_of to.entry) ≡ true)
+        × IsSame Q.kind (Q.part_of (endpoint_of from.entry) (endpoint_of to.entry)) r)) }
+    ensures err { OnErr result
+        (is_before Q.kind Q.end_place (endpoint_of from.entry) (endpoint_of to.entry) ≡ true) }
     ensures succeeds { KeysCloneInfallibly R.Key.is_infallible → IsOk result }
 {
     if Q::is_before(from, to) {

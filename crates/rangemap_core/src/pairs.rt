@@ -66,9 +66,12 @@ pub fn piece<Q: Kind<R>, R: KeyRange, V: Eq + Clone>(
     requires to { IsAskedAt Q.kind (endpoint_of to) }
     requires faithful_keys { KeysCloneFaithfully R.Key.is_clone R.Key.cmp }
     requires faithful_values { ValuesCloneFaithfully V.is_clone V.eq }
-    ensures cut { IfOk result (IsCut (shape_of Q.kind Q.end_place V.eq) (place_of Q.kind Q.end_place (endpoint_of from.entry)) (place_of Q.kind Q.end_place (endpoint_of to.entry)) value.now) }
+    ensures cut { IfOk result (IsCut (shape_of Q.kind Q.end_place V.eq)
+        (place_of Q.kind Q.end_place (endpoint_of from.entry))
+        (place_of Q.kind Q.end_place (endpoint_of to.entry)) value.now) }
     ensures storable { IfOk result (λ piece. Every (λ a. IsStorable Q.kind a.0) (option_to_list piece)) }
-    ensures succeeds { KeysCloneInfallibly R.Key.is_infallible → ValuesCloneInfallibly V.is_infallible → IsOk result }
+    ensures succeeds { KeysCloneInfallibly R.Key.is_infallible
+        → ValuesCloneInfallibly V.is_infallible → IsOk result }
 {
     let Some(range) = part_between::<Q, R>(from, to)? else {
         return Ok(None);

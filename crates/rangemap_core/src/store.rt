@@ -49,7 +49,8 @@ pub trait Store {
 
     /// Returns the stored range that has the key, and its value, if there is one.
     fn covering(&self, key: &<Self::Range as KeyRange>::Key) -> Option<(&Self::Range, &Self::Value)>
-        ensures { option_map (λ pair. (pair.0.now, pair.1.now)) result ≡ covering Self.Kind.kind (pairs self.now) key.now };
+        ensures { option_map (λ pair. (pair.0.now, pair.1.now)) result
+            ≡ covering Self.Kind.kind (pairs self.now) key.now };
 
     /// Returns the first stored range and its value, if there is one.
     fn first(&self) -> Option<(&Self::Range, &Self::Value)>
@@ -57,7 +58,8 @@ pub trait Store {
 
     /// Returns the last stored range and its value, if there is one.
     fn last(&self) -> Option<(&Self::Range, &Self::Value)>
-        ensures { option_map (λ pair. (pair.0.now, pair.1.now)) result ≡ slice_get (pairs self.now) (length (pairs self.now) - 1) };
+        ensures { option_map (λ pair. (pair.0.now, pair.1.now)) result
+            ≡ slice_get (pairs self.now) (length (pairs self.now) - 1) };
 
     /// Has a reader read all pairs, in order.
     ///
@@ -111,9 +113,12 @@ pub trait Store {
         out: &mut Vec<Self::Range, B>,
     ) -> Result<(), AllocError>
         requires faithful_keys { KeysCloneFaithfully Self.Range.Key.is_clone Self.Range.Key.cmp }
-        ensures ok { OnOk result (AppendsGaps Self.Kind.kind (map (λ pair. pair.0) (pairs self.now)) outer_range.now out.old.items out.new.items) }
+        ensures ok { OnOk result (AppendsGaps Self.Kind.kind
+            (map (λ pair. pair.0) (pairs self.now)) outer_range.now out.old.items out.new.items) }
         ensures err { OnErr result (out.new.items ≡ out.old.items) }
-        ensures of_nothing { AreGaps Self.Kind.kind (map (λ pair. pair.0) (pairs self.now)) outer_range.now [] → IsOk result × (out.new.items ≡ out.old.items) };
+        ensures of_nothing { AreGaps Self.Kind.kind
+            (map (λ pair. pair.0) (pairs self.now)) outer_range.now []
+            → IsOk result × (out.new.items ≡ out.old.items) };
 }
 
 /// A store that is made and changed.
@@ -142,12 +147,18 @@ pub trait StoreMut: Store {
         requires non_empty { Self.Kind.kind.IsNonEmpty range }
         requires faithful_keys { KeysCloneFaithfully Self.Range.Key.is_clone Self.Range.Key.cmp }
         requires faithful_values { ValuesCloneFaithfully Self.Value.is_clone Self.Value.eq }
-        ensures ok { OnOk result (IsCanonOf Self.Kind.kind Self.Value.eq (override Self.Kind.kind (value_at Self.Kind.kind (Self.pairs self.old)) range value) (Self.pairs self.new)) }
+        ensures ok { OnOk result (IsCanonOf Self.Kind.kind Self.Value.eq
+            (override Self.Kind.kind (value_at Self.Kind.kind (Self.pairs self.old)) range value)
+            (Self.pairs self.new)) }
         ensures newest { OnOk result (IsNewest Self.Kind.kind range value (Self.pairs self.new)) }
         ensures err { OnErr result (Self.pairs self.new ≡ Self.pairs self.old) }
         ensures growth { OnOk result (length (Self.pairs self.new) ≤ length (Self.pairs self.old) + 2) }
-        ensures growth_where_all_are_equal { OnOk result (((v w : Self.Value) → Self.Value.eq v w ≡ true) → length (Self.pairs self.new) ≤ length (Self.pairs self.old) + 1) }
-        ensures succeeds { KeysCloneInfallibly Self.Range.Key.is_infallible → ValuesCloneInfallibly Self.Value.is_infallible → length (Self.pairs self.old) + 2 ≤ room self.old → IsOk result }
+        ensures growth_where_all_are_equal { OnOk result
+            (((v w : Self.Value) → Self.Value.eq v w ≡ true)
+            → length (Self.pairs self.new) ≤ length (Self.pairs self.old) + 1) }
+        ensures succeeds { KeysCloneInfallibly Self.Range.Key.is_infallible
+            → ValuesCloneInfallibly Self.Value.is_infallible
+            → length (Self.pairs self.old) + 2 ≤ room self.old → IsOk result }
         ensures room { room self.old ≤ room self.new };
 
     /// Takes every key of `range` out.
@@ -164,11 +175,16 @@ pub trait StoreMut: Store {
         requires non_empty { Self.Kind.kind.IsNonEmpty range }
         requires faithful_keys { KeysCloneFaithfully Self.Range.Key.is_clone Self.Range.Key.cmp }
         requires faithful_values { ValuesCloneFaithfully Self.Value.is_clone Self.Value.eq }
-        ensures ok { OnOk result (IsCanonOf Self.Kind.kind Self.Value.eq (erase Self.Kind.kind (value_at Self.Kind.kind (Self.pairs self.old)) range) (Self.pairs self.new)) }
+        ensures ok { OnOk result (IsCanonOf Self.Kind.kind Self.Value.eq
+            (erase Self.Kind.kind (value_at Self.Kind.kind (Self.pairs self.old)) range)
+            (Self.pairs self.new)) }
         ensures err { OnErr result (Self.pairs self.new ≡ Self.pairs self.old) }
         ensures growth { OnOk result (length (Self.pairs self.new) ≤ length (Self.pairs self.old) + 1) }
-        ensures meets_nothing { overlapped Self.Kind.kind (Self.pairs self.old) range ≡ [] → IsOk result × (Self.pairs self.new ≡ Self.pairs self.old) }
-        ensures succeeds { KeysCloneInfallibly Self.Range.Key.is_infallible → ValuesCloneInfallibly Self.Value.is_infallible → length (Self.pairs self.old) + 1 ≤ room self.old → IsOk result }
+        ensures meets_nothing { overlapped Self.Kind.kind (Self.pairs self.old) range ≡ []
+            → IsOk result × (Self.pairs self.new ≡ Self.pairs self.old) }
+        ensures succeeds { KeysCloneInfallibly Self.Range.Key.is_infallible
+            → ValuesCloneInfallibly Self.Value.is_infallible
+            → length (Self.pairs self.old) + 1 ≤ room self.old → IsOk result }
         ensures room { room self.old ≤ room self.new };
 
     /// Takes every key out. It takes no memory.
@@ -189,8 +205,10 @@ pub trait StoreMut: Store {
     fn copy(&self, alloc: Self::Alloc) -> Result<Self, AllocError>
         requires faithful_keys { KeysCloneFaithfully Self.Range.Key.is_clone Self.Range.Key.cmp }
         requires faithful_values { ValuesCloneFaithfully Self.Value.is_clone Self.Value.eq }
-        ensures same { IfOk result (λ copy. same_pairs Self.Kind.kind Self.Value.eq (Self.pairs self.now) (Self.pairs copy) ≡ true) }
-        ensures canon { IfOk result (λ copy. IsCanonOf Self.Kind.kind Self.Value.eq (value_at Self.Kind.kind (Self.pairs self.now)) (Self.pairs copy)) };
+        ensures same { IfOk result (λ copy. same_pairs Self.Kind.kind Self.Value.eq
+            (Self.pairs self.now) (Self.pairs copy) ≡ true) }
+        ensures canon { IfOk result (λ copy. IsCanonOf Self.Kind.kind Self.Value.eq
+            (value_at Self.Kind.kind (Self.pairs self.now)) (Self.pairs copy)) };
 }
 
 /// A store that hands its pairs over.
@@ -212,7 +230,8 @@ pub trait HandsOver: Store {
         ensures canonical { IsCanonical Self.Kind.kind Self.Value.eq (Self.pairs self) };
 
     /// In contracts, an item is the stored pair itself.
-    ghost gives: { (pair : Self.Range × Self.Value) → shown Self.IntoIter.given Self.IntoIter.given_value pair ≡ pair };
+    ghost gives: { (pair : Self.Range × Self.Value)
+        → shown Self.IntoIter.given Self.IntoIter.given_value pair ≡ pair };
 }
 
 /// A store that lends its pairs for `'a`.
@@ -251,5 +270,6 @@ where
     ghost lends: { (pair : _) → shown Self.Iter.given Self.Iter.given_value pair ≡ deref_pair pair };
 
     /// So is an item of `Overlapping`.
-    ghost lends_overlapping: { (pair : _) → shown Self.Overlapping.given Self.Overlapping.given_value pair ≡ deref_pair pair };
+    ghost lends_overlapping: { (pair : _)
+        → shown Self.Overlapping.given Self.Overlapping.given_value pair ≡ deref_pair pair };
 }

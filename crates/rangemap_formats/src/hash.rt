@@ -17,7 +17,8 @@ use std::marker::PhantomData;
 pub fn feed<S: Store<Value: Hash>, H: Hasher>(stored: &S, state: &mut H)
 where
     <S::Range as KeyRange>::Key: Hash,
-    ensures { state.new ≡ fold H.write state.old (pairs_fed S.Kind.kind S.Range.Key.hash_input S.Value.hash_input (S.pairs stored.now)) }
+    ensures { state.new ≡ fold H.write state.old
+        (pairs_fed S.Kind.kind S.Range.Key.hash_input S.Value.hash_input (S.pairs stored.now)) }
 {
     state.write_usize(stored.len());
     stored.read::<Feeding<S::Kind, H>>(state);
@@ -37,7 +38,8 @@ where
 
     type Answer = ();
 
-    ghost reads = { λ pairs old _ new. new ≡ fold H.write old (flat_map (pair_fed Q.kind R.Key.hash_input V.hash_input) pairs) };
+    ghost reads = { λ pairs old _ new.
+        new ≡ fold H.write old (flat_map (pair_fed Q.kind R.Key.hash_input V.hash_input) pairs) };
 
     fn read<C: Cursor<Range = R, Value = V, Given: Drop, GivenValue: Drop>>(
         pairs: C,

@@ -131,7 +131,8 @@ impl<T: PairText<R, V>, R: KeyRange, V, W: fmt::Write> Reader<R, V> for Items<T,
 
     type Answer = fmt::Result;
 
-    ghost reads = { λ pairs old result new. DisplaysOnOk W.write_str_gives old result (items_text T.text pairs) new };
+    ghost reads = { λ pairs old result new. DisplaysOnOk W.write_str_gives old result
+        (items_text T.text pairs) new };
 
     fn read<C: Cursor<Range = R, Value = V, Given: Drop, GivenValue: Drop>>(
         pairs: C,

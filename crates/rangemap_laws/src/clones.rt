@@ -19,7 +19,9 @@ pub fn insert_clone<M: Container>(
     requires faithful_keys { KeysCloneFaithfully M.Range.Key.is_clone M.Range.Key.cmp }
     requires faithful_values { ValuesCloneFaithfully M.Value.is_clone M.Value.eq }
     ensures before { IsCanonical M.Kind.kind M.Value.eq (M.pairs map.old) }
-    ensures ok { OnOk result (IsCanonOf M.Kind.kind M.Value.eq (override M.Kind.kind (value_at M.Kind.kind (M.pairs map.old)) range.now value.now) (M.pairs map.new)) }
+    ensures ok { OnOk result (IsCanonOf M.Kind.kind M.Value.eq
+        (override M.Kind.kind (value_at M.Kind.kind (M.pairs map.old)) range.now value.now)
+        (M.pairs map.new)) }
     ensures err { OnErr result (M.pairs map.new ≡ M.pairs map.old) }
 {
     map.known();
@@ -34,7 +36,8 @@ pub fn remove_clone<M: Container>(map: &mut M, range: &M::Range) -> Result<(), A
     requires faithful_keys { KeysCloneFaithfully M.Range.Key.is_clone M.Range.Key.cmp }
     requires faithful_values { ValuesCloneFaithfully M.Value.is_clone M.Value.eq }
     ensures before { IsCanonical M.Kind.kind M.Value.eq (M.pairs map.old) }
-    ensures ok { OnOk result (IsCanonOf M.Kind.kind M.Value.eq (erase M.Kind.kind (value_at M.Kind.kind (M.pairs map.old)) range.now) (M.pairs map.new)) }
+    ensures ok { OnOk result (IsCanonOf M.Kind.kind M.Value.eq
+        (erase M.Kind.kind (value_at M.Kind.kind (M.pairs map.old)) range.now) (M.pairs map.new)) }
     ensures err { OnErr result (M.pairs map.new ≡ M.pairs map.old) }
 {
     map.known();

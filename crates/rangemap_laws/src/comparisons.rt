@@ -27,7 +27,9 @@ pub fn equal_exactly_when_alike<M: Container>(left: &M, right: &M) -> (bool, boo
     ensures answer { result.0 ≡ M.eq left.now right.now }
     ensures other_answer { result.1 ≡ not result.0 }
     ensures equal { result.0 ≡ same_pairs M.Kind.kind M.Value.eq (M.pairs left.now) (M.pairs right.now) }
-    ensures alike { IsTrue result.0 ↔ Alike M.Kind.kind M.Value.eq (value_at M.Kind.kind (M.pairs left.now)) (value_at M.Kind.kind (M.pairs right.now)) }
+    ensures alike { IsTrue result.0
+        ↔ Alike M.Kind.kind M.Value.eq
+        (value_at M.Kind.kind (M.pairs left.now)) (value_at M.Kind.kind (M.pairs right.now)) }
 {
     left.known();
     right.known();

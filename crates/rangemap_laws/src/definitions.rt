@@ -23,13 +23,24 @@ pub fn list_rows()
     ensures unordered { ¬ (IsCanonical (half_open nat_cmp) nat_eq ((range 5 7, 1) ∷ (range 0 5, 2) ∷ [])) }
     ensures empty { ¬ (IsCanonical (half_open nat_cmp) nat_eq ((range 5 5, 1) ∷ [])) }
     ensures reversed { ¬ (IsCanonical (half_open nat_cmp) nat_eq ((range 7 5, 1) ∷ [])) }
-    ensures overridden { IsCanonOf (half_open nat_cmp) nat_eq (override (half_open nat_cmp) (value_at (half_open nat_cmp) one_pair) (range 3 6) 2) three_pairs }
-    ensures overridden_back { IsCanonOf (half_open nat_cmp) nat_eq (override (half_open nat_cmp) (value_at (half_open nat_cmp) three_pairs) (range 3 6) 1) one_pair }
-    ensures erased { IsCanonOf (half_open nat_cmp) nat_eq (erase (half_open nat_cmp) (value_at (half_open nat_cmp) one_pair) (range 3 6)) ((range 0 3, 1) ∷ (range 6 10, 1) ∷ []) }
-    ensures not_changed { ¬ (IsCanonOf (half_open nat_cmp) nat_eq (override (half_open nat_cmp) (value_at (half_open nat_cmp) one_pair) (range 3 6) 2) one_pair) }
-    ensures starts { pairs_cmp (half_open nat_cmp) nat_cmp ((range 0 9, 9) ∷ []) ((range 1 2, 1) ∷ []) ≡ LessWord }
-    ensures ends { pairs_cmp (half_open nat_cmp) nat_cmp ((range 0 5, 9) ∷ []) ((range 0 6, 1) ∷ []) ≡ LessWord }
-    ensures values { pairs_cmp (half_open nat_cmp) nat_cmp ((range 0 5, 1) ∷ []) ((range 0 5, 2) ∷ []) ≡ LessWord }
+    ensures overridden { IsCanonOf (half_open nat_cmp) nat_eq
+        (override (half_open nat_cmp) (value_at (half_open nat_cmp) one_pair) (range 3 6) 2)
+        three_pairs }
+    ensures overridden_back { IsCanonOf (half_open nat_cmp) nat_eq
+        (override (half_open nat_cmp) (value_at (half_open nat_cmp) three_pairs) (range 3 6) 1)
+        one_pair }
+    ensures erased { IsCanonOf (half_open nat_cmp) nat_eq
+        (erase (half_open nat_cmp) (value_at (half_open nat_cmp) one_pair) (range 3 6))
+        ((range 0 3, 1) ∷ (range 6 10, 1) ∷ []) }
+    ensures not_changed { ¬ (IsCanonOf (half_open nat_cmp) nat_eq
+        (override (half_open nat_cmp) (value_at (half_open nat_cmp) one_pair) (range 3 6) 2)
+        one_pair) }
+    ensures starts { pairs_cmp (half_open nat_cmp) nat_cmp
+        ((range 0 9, 9) ∷ []) ((range 1 2, 1) ∷ []) ≡ LessWord }
+    ensures ends { pairs_cmp (half_open nat_cmp) nat_cmp
+        ((range 0 5, 9) ∷ []) ((range 0 6, 1) ∷ []) ≡ LessWord }
+    ensures values { pairs_cmp (half_open nat_cmp) nat_cmp
+        ((range 0 5, 1) ∷ []) ((range 0 5, 2) ∷ []) ≡ LessWord }
     ensures beginning { pairs_cmp (half_open nat_cmp) nat_cmp [] one_pair ≡ LessWord }
     ensures same { pairs_cmp (half_open nat_cmp) nat_cmp three_pairs three_pairs ≡ EqualWord }
     ensures ranges { ranges_cmp (half_open nat_cmp) (range 0 5 ∷ range 7 8 ∷ []) (range 0 6 ∷ []) ≡ LessWord }
@@ -44,11 +55,13 @@ pub fn query_rows()
     ensures first_point { covering (half_open nat_cmp) three_pairs 3 ≡ SomeWord (range 3 6, 2) }
     ensures last_point { covering (half_open nat_cmp) three_pairs 9 ≡ SomeWord (range 6 10, 1) }
     ensures end { covering (half_open nat_cmp) three_pairs 10 ≡ NoneWord }
-    ensures met { overlapped (half_open nat_cmp) three_pairs (range 1 6) ≡ (range 0 3, 1) ∷ (range 3 6, 2) ∷ [] }
+    ensures met { overlapped (half_open nat_cmp) three_pairs (range 1 6)
+        ≡ (range 0 3, 1) ∷ (range 3 6, 2) ∷ [] }
     ensures met_by_empty { overlapped (half_open nat_cmp) one_pair (range 5 5) ≡ one_pair }
     ensures met_by_reversed { overlapped (half_open nat_cmp) one_pair (range 7 3) ≡ one_pair }
     ensures beside { overlapped (half_open nat_cmp) one_pair (range 10 12) ≡ [] }
-    ensures gaps { AreGaps (half_open nat_cmp) (range 1 3 ∷ range 5 7 ∷ []) (range 0 8) (range 0 1 ∷ range 3 5 ∷ range 7 8 ∷ []) }
+    ensures gaps { AreGaps (half_open nat_cmp)
+        (range 1 3 ∷ range 5 7 ∷ []) (range 0 8) (range 0 1 ∷ range 3 5 ∷ range 7 8 ∷ []) }
     ensures touching { AreGaps (half_open nat_cmp) (range 0 2 ∷ range 2 4 ∷ []) (range 0 4) [] }
     ensures reversed { AreGaps (half_open nat_cmp) (range 1 3 ∷ range 5 7 ∷ []) (range 8 0) [] }
 {}
@@ -66,9 +79,11 @@ pub fn closed_rows()
     ensures apart { IsCanonical bytes nat_eq ((inclusive 0 4, 1) ∷ (inclusive 6 9, 1) ∷ []) }
     ensures past_the_keys { ¬ (IsCanonical bytes nat_eq ((inclusive 0 256, 1) ∷ [])) }
     ensures last_point { covering {V = ℕ} bytes ((inclusive 0 9, 1) ∷ []) 9 ≡ SomeWord (inclusive 0 9, 1) }
-    ensures met_by_reversed { overlapped {V = ℕ} bytes ((inclusive 3 8, 1) ∷ []) (inclusive 6 4) ≡ (inclusive 3 8, 1) ∷ [] }
+    ensures met_by_reversed { overlapped {V = ℕ} bytes ((inclusive 3 8, 1) ∷ []) (inclusive 6 4)
+        ≡ (inclusive 3 8, 1) ∷ [] }
     ensures beside { overlapped {V = ℕ} bytes ((inclusive 5 8, 1) ∷ []) (inclusive 6 4) ≡ [] }
-    ensures gaps { AreGaps bytes (inclusive 0 9 ∷ inclusive 250 255 ∷ []) (inclusive 0 255) (inclusive 10 249 ∷ []) }
+    ensures gaps { AreGaps bytes
+        (inclusive 0 9 ∷ inclusive 250 255 ∷ []) (inclusive 0 255) (inclusive 10 249 ∷ []) }
     ensures gap_of_one_key { AreGaps bytes (inclusive 0 9 ∷ []) (inclusive 10 10) (inclusive 10 10 ∷ []) }
     ensures no_gap { AreGaps bytes (inclusive 0 9 ∷ inclusive 10 255 ∷ []) (inclusive 0 255) [] }
 {}
@@ -77,15 +92,22 @@ pub fn closed_rows()
 /// join what overlaps, and ranges that only touch stay apart. The texts of small lists: of a map, of
 /// a set, of a set of closed ranges, and of nothing.
 pub fn set_and_text_rows()
-    ensures hulls { AreHulls (half_open nat_cmp) (range 0 2 ∷ range 4 6 ∷ range 5 9 ∷ []) (range 0 2 ∷ range 4 9 ∷ []) }
-    ensures touching { AreHulls (half_open nat_cmp) (range 0 5 ∷ range 5 10 ∷ []) (range 0 5 ∷ range 5 10 ∷ []) }
+    ensures hulls { AreHulls (half_open nat_cmp)
+        (range 0 2 ∷ range 4 6 ∷ range 5 9 ∷ []) (range 0 2 ∷ range 4 9 ∷ []) }
+    ensures touching { AreHulls (half_open nat_cmp)
+        (range 0 5 ∷ range 5 10 ∷ []) (range 0 5 ∷ range 5 10 ∷ []) }
     ensures joined { ¬ (AreHulls (half_open nat_cmp) (range 0 5 ∷ range 5 10 ∷ []) (range 0 10 ∷ [])) }
     ensures left_out { ¬ (AreHulls (half_open nat_cmp) (range 0 2 ∷ range 4 6 ∷ []) (range 0 2 ∷ [])) }
-    ensures common { AreCommon (half_open nat_cmp) (range 0 2 ∷ range 4 6 ∷ []) (range 5 9 ∷ []) (range 5 6 ∷ []) }
+    ensures common { AreCommon (half_open nat_cmp)
+        (range 0 2 ∷ range 4 6 ∷ []) (range 5 9 ∷ []) (range 5 6 ∷ []) }
     ensures none_common { AreCommon (half_open nat_cmp) (range 0 5 ∷ []) (range 5 9 ∷ []) [] }
-    ensures pairs { plain_map (half_open nat_cmp) (codes "..") digit digit ((range 0 3, 1) ∷ (range 3 9, 2) ∷ []) ≡ codes "{0..3: 1, 3..9: 2}" }
-    ensures ranges { plain_set (half_open nat_cmp) (codes "..") digit (range 0 3 ∷ range 4 9 ∷ []) ≡ codes "{0..3, 4..9}" }
-    ensures closed_ranges { plain_set bytes (codes "..=") digit (inclusive 0 4 ∷ inclusive 6 9 ∷ []) ≡ codes "{0..=4, 6..=9}" }
+    ensures pairs { plain_map (half_open nat_cmp)
+        (codes "..") digit digit ((range 0 3, 1) ∷ (range 3 9, 2) ∷ [])
+        ≡ codes "{0..3: 1, 3..9: 2}" }
+    ensures ranges { plain_set (half_open nat_cmp) (codes "..") digit (range 0 3 ∷ range 4 9 ∷ [])
+        ≡ codes "{0..3, 4..9}" }
+    ensures closed_ranges { plain_set bytes (codes "..=") digit (inclusive 0 4 ∷ inclusive 6 9 ∷ [])
+        ≡ codes "{0..=4, 6..=9}" }
     ensures of_nothing { plain_set (half_open nat_cmp) (codes "..") digit [] ≡ codes "{}" }
 {}
 
@@ -99,14 +121,17 @@ pub fn json_rows()
         → list_of v ≡ SomeWord (one ∷ two ∷ [])
         → map_entry one (of 0) (of 3) (of 1)
         → map_entry two (of 3) (of 9) (of 2)
-        → IsForm (half_open nat_cmp) (map_writer (writes of) (writes of)) ((range 0 3, 1) ∷ (range 3 9, 2) ∷ []) v }
+        → IsForm (half_open nat_cmp) (map_writer (writes of) (writes of))
+        ((range 0 3, 1) ∷ (range 3 9, 2) ∷ []) v }
     ensures ranges { (of : ℕ → Json) (v one two : Json)
         → list_of v ≡ SomeWord (one ∷ two ∷ [])
         → set_entry one (of 0) (of 4) (of 0)
         → set_entry two (of 6) (of 9) (of 6)
         → IsForm bytes (set_writer (writes of)) ((inclusive 0 4, tt) ∷ (inclusive 6 9, tt) ∷ []) v }
-    ensures of_nothing { (of : ℕ → Json) (v : Json) → list_of v ≡ SomeWord [] → IsForm (half_open nat_cmp) (set_writer (writes of)) [] v }
-    ensures left_out { (of : ℕ → Json) (v : Json) → list_of v ≡ SomeWord [] → ¬ (IsForm (half_open nat_cmp) (map_writer (writes of) (writes of)) one_pair v) }
+    ensures of_nothing { (of : ℕ → Json) (v : Json) → list_of v ≡ SomeWord []
+        → IsForm (half_open nat_cmp) (set_writer (writes of)) [] v }
+    ensures left_out { (of : ℕ → Json) (v : Json) → list_of v ≡ SomeWord []
+        → ¬ (IsForm (half_open nat_cmp) (map_writer (writes of) (writes of)) one_pair v) }
     ensures inserted { (of : ℕ → Json) (v one two : Json)
         → list_of v ≡ SomeWord (one ∷ two ∷ [])
         → map_entry one (of 0) (of 10) (of 1)
@@ -116,11 +141,15 @@ pub fn json_rows()
         → list_of v ≡ SomeWord (one ∷ two ∷ [])
         → map_entry one (of 0) (of 10) (of 1)
         → map_entry two (of 3) (of 6) (of 2)
-        → RefusesToRead (half_open nat_cmp) (map_reader (reads of) (reads of)) nat_eq CanonicalWord v (read_error.OutOfOrder 1) }
+        → RefusesToRead (half_open nat_cmp) (map_reader (reads of) (reads of))
+        nat_eq CanonicalWord v (read_error.OutOfOrder 1) }
     ensures uncoalesced { (of : ℕ → Json) (v one two : Json)
         → list_of v ≡ SomeWord (one ∷ two ∷ [])
         → map_entry one (of 0) (of 5) (of 1)
         → map_entry two (of 5) (of 9) (of 1)
-        → RefusesToRead (half_open nat_cmp) (map_reader (reads of) (reads of)) nat_eq CanonicalWord v (read_error.Uncoalesced 1) }
-    ensures no_list { (of : ℕ → Json) (v : Json) → list_of v ≡ NoneWord → RefusesToRead (half_open nat_cmp) (map_reader (reads of) (reads of)) nat_eq AnyWord v read_error.NotAList }
+        → RefusesToRead (half_open nat_cmp) (map_reader (reads of) (reads of))
+        nat_eq CanonicalWord v (read_error.Uncoalesced 1) }
+    ensures no_list { (of : ℕ → Json) (v : Json) → list_of v ≡ NoneWord
+        → RefusesToRead (half_open nat_cmp) (map_reader (reads of) (reads of))
+        nat_eq AnyWord v read_error.NotAList }
 {}

@@ -21,8 +21,10 @@ pub fn gaps_and_covered_keys_make_up_a_range<M: Container, B: Allocator>(
     outer_range: &M::Range,
 ) -> Result<Vec<M::Range, B>, AllocError>
     requires { KeysCloneFaithfully M.Range.Key.is_clone M.Range.Key.cmp }
-    ensures gaps { IfOk result (λ gaps. AreGaps M.Kind.kind (map (λ pair. pair.0) (M.pairs stored.now)) outer_range.now gaps.items) }
-    ensures parted { IfOk result (λ gaps. IsPartition M.Kind.kind outer_range.now gaps.items (λ key. is_some (covering M.Kind.kind (M.pairs stored.now) key))) }
+    ensures gaps { IfOk result (λ gaps. AreGaps M.Kind.kind
+        (map (λ pair. pair.0) (M.pairs stored.now)) outer_range.now gaps.items) }
+    ensures parted { IfOk result (λ gaps. IsPartition M.Kind.kind outer_range.now gaps.items
+        (λ key. is_some (covering M.Kind.kind (M.pairs stored.now) key))) }
 {
     collect_gaps(alloc, stored, outer_range)
 }

@@ -24,10 +24,12 @@ use std::iter::{DoubleEndedIterator, Iterator};
 /// of one that lends or hands over what is stored take the first and the last item. `next` of gaps, of
 /// unions and of intersections gives a range, and `try_next` takes one, or is refused.
 pub fn items_go_to_the_end<Q: Kind<R>, R: KeyRange, ItemT, ShownT>()
-    ensures first { (shows : ItemT → ShownT) (before : List ShownT) (answer : OptionOf ItemT) (after : List ShownT)
+    ensures first { (shows : ItemT → ShownT) (before : List ShownT)
+        (answer : OptionOf ItemT) (after : List ShownT)
         → TakesFirst shows before answer after
         → GoesToEnd length before answer after }
-    ensures last { (shows : ItemT → ShownT) (before : List ShownT) (answer : OptionOf ItemT) (after : List ShownT)
+    ensures last { (shows : ItemT → ShownT) (before : List ShownT)
+        (answer : OptionOf ItemT) (after : List ShownT)
         → TakesLast shows before answer after
         → GoesToEnd length before answer after }
     ensures given { (before : List R) (answer : OptionOf (ResultOf R Refusal)) (after : List R)
@@ -44,9 +46,12 @@ pub fn items_go_to_the_end<Q: Kind<R>, R: KeyRange, ItemT, ShownT>()
 /// come, so the iterator ends.
 pub fn next_stays_ended<I: Iterator>(iter: &mut I) -> (Option<I::Item>, Option<I::Item>)
     requires ready { (it : I) → I.can_next it }
-    ensures calls { (between : I) × I.next_gives iter.old result.0 between × I.next_gives between result.1 iter.new }
-    ensures ends { (left : I → ℕ) → AllGoToEnd left I.next_gives → OnSome result.0 (left iter.new < left iter.old) }
-    ensures stays { (left : I → ℕ) → AllGoToEnd left I.next_gives → IfNone result.0 ((left iter.old ≡ 0) × IsNone result.1 × (iter.new ≡ iter.old)) }
+    ensures calls { (between : I) × I.next_gives iter.old result.0 between
+        × I.next_gives between result.1 iter.new }
+    ensures ends { (left : I → ℕ) → AllGoToEnd left I.next_gives
+        → OnSome result.0 (left iter.new < left iter.old) }
+    ensures stays { (left : I → ℕ) → AllGoToEnd left I.next_gives
+        → IfNone result.0 ((left iter.old ≡ 0) × IsNone result.1 × (iter.new ≡ iter.old)) }
 {
     let first = iter.next();
     let again = iter.next();
@@ -58,9 +63,13 @@ pub fn next_ends_both_ends<I: DoubleEndedIterator>(
     iter: &mut I,
 ) -> (Option<I::Item>, Option<I::Item>)
     requires ready { (it : I) → I.can_next it × I.can_next_back it }
-    ensures calls { (between : I) × I.next_gives iter.old result.0 between × I.next_back_gives between result.1 iter.new }
-    ensures ends { (left : I → ℕ) → AllGoToEnd left I.next_gives → AllGoToEnd left I.next_back_gives → OnSome result.0 (left iter.new < left iter.old) }
-    ensures stays { (left : I → ℕ) → AllGoToEnd left I.next_gives → AllGoToEnd left I.next_back_gives → IfNone result.0 ((left iter.old ≡ 0) × IsNone result.1 × (iter.new ≡ iter.old)) }
+    ensures calls { (between : I) × I.next_gives iter.old result.0 between
+        × I.next_back_gives between result.1 iter.new }
+    ensures ends { (left : I → ℕ) → AllGoToEnd left I.next_gives → AllGoToEnd left I.next_back_gives
+        → OnSome result.0 (left iter.new < left iter.old) }
+    ensures stays { (left : I → ℕ) → AllGoToEnd left I.next_gives
+        → AllGoToEnd left I.next_back_gives
+        → IfNone result.0 ((left iter.old ≡ 0) × IsNone result.1 × (iter.new ≡ iter.old)) }
 {
     let front = iter.next();
     let back = iter.next_back();
@@ -73,9 +82,15 @@ pub fn next_back_ends_both_ends<I: DoubleEndedIterator>(
     iter: &mut I,
 ) -> (Option<I::Item>, Option<I::Item>, Option<I::Item>)
     requires ready { (it : I) → I.can_next it × I.can_next_back it }
-    ensures calls { (first : I) × (second : I) × I.next_back_gives iter.old result.0 first × I.next_back_gives first result.1 second × I.next_gives second result.2 iter.new }
-    ensures ends { (left : I → ℕ) → AllGoToEnd left I.next_gives → AllGoToEnd left I.next_back_gives → OnSome result.0 (left iter.new < left iter.old) }
-    ensures stays { (left : I → ℕ) → AllGoToEnd left I.next_gives → AllGoToEnd left I.next_back_gives → IfNone result.0 ((left iter.old ≡ 0) × IsNone result.1 × IsNone result.2 × (iter.new ≡ iter.old)) }
+    ensures calls { (first : I) × (second : I) × I.next_back_gives iter.old result.0 first
+        × I.next_back_gives first result.1 second
+        × I.next_gives second result.2 iter.new }
+    ensures ends { (left : I → ℕ) → AllGoToEnd left I.next_gives → AllGoToEnd left I.next_back_gives
+        → OnSome result.0 (left iter.new < left iter.old) }
+    ensures stays { (left : I → ℕ) → AllGoToEnd left I.next_gives
+        → AllGoToEnd left I.next_back_gives
+        → IfNone result.0 ((left iter.old ≡ 0) × IsNone result.1 × IsNone result.2
+        × (iter.new ≡ iter.old)) }
 {
     let first = iter.next_back();
     let again = iter.next_back();
@@ -95,9 +110,16 @@ pub fn next_ends_tries<I: Iterator, T, F: Fn(&mut I) -> Result<Option<T>, AllocE
 )
     requires ready { (it : I) → I.can_next it }
     requires callable { F.IsAlwaysCallable try_next }
-    ensures calls { (first : I) × (second : I) × I.next_gives iter.old result.0 first × FnOnceReturnsAtMut F.FnOnce try_next first result.1 second × I.next_gives second result.2 iter.new }
-    ensures ends { (left : I → ℕ) → AllGoToEnd left I.next_gives → AllTryToEnd left (FnOnceReturnsAtMut F.FnOnce try_next) → OnSome result.0 (left iter.new < left iter.old) }
-    ensures stays { (left : I → ℕ) → AllGoToEnd left I.next_gives → AllTryToEnd left (FnOnceReturnsAtMut F.FnOnce try_next) → IfNone result.0 ((left iter.old ≡ 0) × (result.1 ≡ OkWord NoneWord) × IsNone result.2 × (iter.new ≡ iter.old)) }
+    ensures calls { (first : I) × (second : I) × I.next_gives iter.old result.0 first
+        × FnOnceReturnsAtMut F.FnOnce try_next first result.1 second
+        × I.next_gives second result.2 iter.new }
+    ensures ends { (left : I → ℕ) → AllGoToEnd left I.next_gives
+        → AllTryToEnd left (FnOnceReturnsAtMut F.FnOnce try_next)
+        → OnSome result.0 (left iter.new < left iter.old) }
+    ensures stays { (left : I → ℕ) → AllGoToEnd left I.next_gives
+        → AllTryToEnd left (FnOnceReturnsAtMut F.FnOnce try_next)
+        → IfNone result.0 ((left iter.old ≡ 0) × (result.1 ≡ OkWord NoneWord) × IsNone result.2
+        × (iter.new ≡ iter.old)) }
 {
     let item = iter.next();
     let tried = try_next(iter);
@@ -117,9 +139,17 @@ pub fn try_next_ends_tries<I: Iterator, T, F: Fn(&mut I) -> Result<Option<T>, Al
 )
     requires ready { (it : I) → I.can_next it }
     requires callable { F.IsAlwaysCallable try_next }
-    ensures calls { (first : I) × (second : I) × FnOnceReturnsAtMut F.FnOnce try_next iter.old result.0 first × FnOnceReturnsAtMut F.FnOnce try_next first result.1 second × I.next_gives second result.2 iter.new }
-    ensures ends { (left : I → ℕ) → AllGoToEnd left I.next_gives → AllTryToEnd left (FnOnceReturnsAtMut F.FnOnce try_next) → IfOk result.0 (λ answer. OnSome answer (left iter.new < left iter.old)) }
-    ensures stays { (left : I → ℕ) → AllGoToEnd left I.next_gives → AllTryToEnd left (FnOnceReturnsAtMut F.FnOnce try_next) → IfOk result.0 (λ answer. IfNone answer ((left iter.old ≡ 0) × (result.1 ≡ OkWord NoneWord) × IsNone result.2 × (iter.new ≡ iter.old))) }
+    ensures calls { (first : I) × (second : I)
+        × FnOnceReturnsAtMut F.FnOnce try_next iter.old result.0 first
+        × FnOnceReturnsAtMut F.FnOnce try_next first result.1 second
+        × I.next_gives second result.2 iter.new }
+    ensures ends { (left : I → ℕ) → AllGoToEnd left I.next_gives
+        → AllTryToEnd left (FnOnceReturnsAtMut F.FnOnce try_next)
+        → IfOk result.0 (λ answer. OnSome answer (left iter.new < left iter.old)) }
+    ensures stays { (left : I → ℕ) → AllGoToEnd left I.next_gives
+        → AllTryToEnd left (FnOnceReturnsAtMut F.FnOnce try_next)
+        → IfOk result.0 (λ answer. IfNone answer ((left iter.old ≡ 0) × (result.1 ≡ OkWord NoneWord)
+        × IsNone result.2 × (iter.new ≡ iter.old))) }
 {
     let first = try_next(iter);
     let again = try_next(iter);

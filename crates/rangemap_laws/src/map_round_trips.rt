@@ -78,14 +78,22 @@ impl<WK, WV, RK, RV> Functions<WK, WV, RK, RV> {
         requires writes_values { WV.IsAlwaysCallable self.write_value }
         requires reads_keys { RK.IsAlwaysCallable self.read_key }
         requires reads_values { RV.IsAlwaysCallable self.read_value }
-        requires keys_read_back { KeysReadBack S.Kind.kind (FnReturnsAt WK.Fn self.write_key) (FnReturnsAt RK.Fn self.read_key) }
-        requires values_read_back { ReadsBack (λ x y. S.Value.eq x y ≡ true) (FnReturnsAt WV.Fn self.write_value) (FnReturnsAt RV.Fn self.read_value) }
+        requires keys_read_back { KeysReadBack S.Kind.kind
+            (FnReturnsAt WK.Fn self.write_key) (FnReturnsAt RK.Fn self.read_key) }
+        requires values_read_back { ReadsBack (λ x y. S.Value.eq x y ≡ true)
+            (FnReturnsAt WV.Fn self.write_value) (FnReturnsAt RV.Fn self.read_value) }
         requires faithful_keys { KeysCloneFaithfully S.Range.Key.is_clone S.Range.Key.cmp }
         requires faithful_values { ValuesCloneFaithfully S.Value.is_clone S.Value.eq }
-        ensures written { IfOk result (λ made. IsForm S.Kind.kind (map_writer (FnReturnsAt WK.Fn self.write_key) (FnReturnsAt WV.Fn self.write_value)) map.now made.0) }
-        ensures read { IfOk result (λ made. IsReading S.Kind.kind (map_reader (FnReturnsAt RK.Fn self.read_key) (FnReturnsAt RV.Fn self.read_value)) S.Value.eq form made.0 made.1) }
+        ensures written { IfOk result (λ made. IsForm S.Kind.kind
+            (map_writer (FnReturnsAt WK.Fn self.write_key) (FnReturnsAt WV.Fn self.write_value))
+            map.now made.0) }
+        ensures read { IfOk result (λ made. IsReading S.Kind.kind
+            (map_reader (FnReturnsAt RK.Fn self.read_key) (FnReturnsAt RV.Fn self.read_value))
+            S.Value.eq form made.0 made.1) }
         ensures equal { IfOk result (λ made. IsTrue (same_pairs S.Kind.kind S.Value.eq map.now made.1)) }
-        ensures refused { IfErr result (RefusesToWrite S.Kind.kind (map_writer (FnReturnsAt WK.Fn self.write_key) (FnReturnsAt WV.Fn self.write_value)) map.now) }
+        ensures refused { IfErr result (RefusesToWrite S.Kind.kind
+            (map_writer (FnReturnsAt WK.Fn self.write_key) (FnReturnsAt WV.Fn self.write_value))
+            map.now) }
     {
         map.known();
         let Functions {

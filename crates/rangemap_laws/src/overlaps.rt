@@ -14,8 +14,10 @@ use std::alloc::{AllocError, Allocator};
 pub fn overlaps_exactly_where_covered<M: Container>(map: &M, range: &M::Range) -> bool
     requires { M.Kind.kind.IsNonEmpty range.now }
     ensures answer { result ≡ nat_lt 0 (length (overlapped M.Kind.kind (M.pairs map.now) range.now)) }
-    ensures some { IsTrue result ↔ IsDefinedIn M.Kind.kind (value_at M.Kind.kind (M.pairs map.now)) range.now }
-    ensures none { (overlapped M.Kind.kind (M.pairs map.now) range.now ≡ []) ↔ IsUndefinedOn M.Kind.kind (value_at M.Kind.kind (M.pairs map.now)) range.now }
+    ensures some { IsTrue result
+        ↔ IsDefinedIn M.Kind.kind (value_at M.Kind.kind (M.pairs map.now)) range.now }
+    ensures none { (overlapped M.Kind.kind (M.pairs map.now) range.now ≡ [])
+        ↔ IsUndefinedOn M.Kind.kind (value_at M.Kind.kind (M.pairs map.now)) range.now }
 {
     map.known();
     known_ends::<M::Kind, M::Range>(range);
@@ -38,7 +40,8 @@ pub fn covers_exactly_where_no_gap_lies<M: Container, A: Allocator>(
     range: &M::Range,
 ) -> Result<(bool, bool), AllocError>
     requires { KeysCloneFaithfully M.Range.Key.is_clone M.Range.Key.cmp }
-    ensures covers { IfOk result (λ answers. IsTrue answers.0 ↔ IsDefinedOn M.Kind.kind (value_at M.Kind.kind (M.pairs map.now)) range.now) }
+    ensures covers { IfOk result (λ answers. IsTrue answers.0
+        ↔ IsDefinedOn M.Kind.kind (value_at M.Kind.kind (M.pairs map.now)) range.now) }
     ensures no_gap { IfOk result (λ answers. answers.1 ≡ answers.0) }
 {
     let gaps = collect_gaps(alloc, map, range)?;
@@ -49,8 +52,10 @@ pub fn covers_exactly_where_no_gap_lies<M: Container, A: Allocator>(
 /// For a range that isn't empty, `covers` is true only if `overlaps` is. Returns both results.
 pub fn covers_only_where_overlaps<M: Container>(map: &M, range: &M::Range) -> (bool, bool)
     requires { M.Kind.kind.IsNonEmpty range.now }
-    ensures covers { IsTrue result.0 ↔ IsDefinedOn M.Kind.kind (value_at M.Kind.kind (M.pairs map.now)) range.now }
-    ensures overlaps { IsTrue result.1 ↔ IsDefinedIn M.Kind.kind (value_at M.Kind.kind (M.pairs map.now)) range.now }
+    ensures covers { IsTrue result.0
+        ↔ IsDefinedOn M.Kind.kind (value_at M.Kind.kind (M.pairs map.now)) range.now }
+    ensures overlaps { IsTrue result.1
+        ↔ IsDefinedIn M.Kind.kind (value_at M.Kind.kind (M.pairs map.now)) range.now }
     ensures implies { IsTrue result.0 → IsTrue result.1 }
 {
     known_ends::<M::Kind, M::Range>(range);

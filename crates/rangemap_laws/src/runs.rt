@@ -25,5 +25,6 @@ pub fn accepted_runs_answer_alike<K: Ord, V: Eq, A: Allocator, B: Allocator>()
         → Ran (CommandStep (half_open K.cmp) V.eq) other commands replies other_after
         → AllByRecursion IsOk answers
         → AllByRecursion IsOk replies
-        → AllZip (IsSameResult (half_open K.cmp) V.eq) answers replies × IsTrue (same_pairs (half_open K.cmp) V.eq one_after other_after) }
+        → AllZip (IsSameResult (half_open K.cmp) V.eq) answers replies
+        × IsTrue (same_pairs (half_open K.cmp) V.eq one_after other_after) }
 {}

@@ -70,12 +70,18 @@ impl<WK, RK> Functions<WK, RK> {
         RK: Fn(&Value) -> Result<<S::Range as KeyRange>::Key, F>,
         requires writes_keys { WK.IsAlwaysCallable self.write_key }
         requires reads_keys { RK.IsAlwaysCallable self.read_key }
-        requires keys_read_back { KeysReadBack S.Kind.kind (FnReturnsAt WK.Fn self.write_key) (FnReturnsAt RK.Fn self.read_key) }
+        requires keys_read_back { KeysReadBack S.Kind.kind
+            (FnReturnsAt WK.Fn self.write_key) (FnReturnsAt RK.Fn self.read_key) }
         requires faithful_keys { KeysCloneFaithfully S.Range.Key.is_clone S.Range.Key.cmp }
-        ensures written { IfOk result (λ made. IsForm S.Kind.kind (set_writer (FnReturnsAt WK.Fn self.write_key)) (with_unit S.Kind.kind set.now) made.0) }
-        ensures read { IfOk result (λ made. IsReading S.Kind.kind (set_reader (FnReturnsAt RK.Fn self.read_key)) (unit_eq S.Kind.kind) form made.0 (with_unit S.Kind.kind made.1)) }
+        ensures written { IfOk result
+            (λ made. IsForm S.Kind.kind (set_writer (FnReturnsAt WK.Fn self.write_key))
+            (with_unit S.Kind.kind set.now) made.0) }
+        ensures read { IfOk result
+            (λ made. IsReading S.Kind.kind (set_reader (FnReturnsAt RK.Fn self.read_key))
+            (unit_eq S.Kind.kind) form made.0 (with_unit S.Kind.kind made.1)) }
         ensures equal { IfOk result (λ made. IsTrue (same_ranges S.Kind.kind set.now made.1)) }
-        ensures refused { IfErr result (RefusesToWrite S.Kind.kind (set_writer (FnReturnsAt WK.Fn self.write_key)) (with_unit S.Kind.kind set.now)) }
+        ensures refused { IfErr result (RefusesToWrite S.Kind.kind
+            (set_writer (FnReturnsAt WK.Fn self.write_key)) (with_unit S.Kind.kind set.now)) }
     {
         set.known();
         let Functions {

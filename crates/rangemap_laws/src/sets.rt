@@ -44,8 +44,10 @@ where
     S::Alloc: Clone,
     S::Kind: Kind<S::Range, Steps = <S::Range as KeyRange>::Key>,
     requires faithful_keys { KeysCloneFaithfully S.Range.Key.is_clone S.Range.Key.cmp }
-    ensures left { IfOk result (λ sets. IsCanonOfPoints S.Kind.kind (joined operator (covers S.Kind.kind first.now) (covers S.Kind.kind second.now)) sets.0) }
-    ensures right { IfOk result (λ sets. IsCanonOfPoints S.Kind.kind (joined operator (covers S.Kind.kind second.now) (covers S.Kind.kind first.now)) sets.1) }
+    ensures left { IfOk result (λ sets. IsCanonOfPoints S.Kind.kind
+        (joined operator (covers S.Kind.kind first.now) (covers S.Kind.kind second.now)) sets.0) }
+    ensures right { IfOk result (λ sets. IsCanonOfPoints S.Kind.kind
+        (joined operator (covers S.Kind.kind second.now) (covers S.Kind.kind first.now)) sets.1) }
     ensures equal { IfOk result (λ sets. IsTrue (same_ranges S.Kind.kind sets.0 sets.1)) }
 {
     let left = operator.apply(first, second)?;
@@ -68,8 +70,15 @@ where
     S::Alloc: Clone,
     S::Kind: Kind<S::Range, Steps = <S::Range as KeyRange>::Key>,
     requires faithful_keys { KeysCloneFaithfully S.Range.Key.is_clone S.Range.Key.cmp }
-    ensures left { IfOk result (λ sets. IsCanonOfPoints S.Kind.kind (joined operator (joined operator (covers S.Kind.kind first.now) (covers S.Kind.kind second.now)) (covers S.Kind.kind third.now)) sets.0) }
-    ensures right { IfOk result (λ sets. IsCanonOfPoints S.Kind.kind (joined operator (covers S.Kind.kind first.now) (joined operator (covers S.Kind.kind second.now) (covers S.Kind.kind third.now))) sets.1) }
+    ensures left { IfOk result (λ sets. IsCanonOfPoints S.Kind.kind
+        (joined operator
+        (joined operator (covers S.Kind.kind first.now) (covers S.Kind.kind second.now))
+        (covers S.Kind.kind third.now))
+        sets.0) }
+    ensures right { IfOk result (λ sets. IsCanonOfPoints S.Kind.kind
+        (joined operator (covers S.Kind.kind first.now)
+        (joined operator (covers S.Kind.kind second.now) (covers S.Kind.kind third.now)))
+        sets.1) }
     ensures equal { IfOk result (λ sets. IsTrue (same_ranges S.Kind.kind sets.0 sets.1)) }
 {
     first.known();
@@ -94,7 +103,8 @@ where
     S::Alloc: Clone,
     S::Kind: Kind<S::Range, Steps = <S::Range as KeyRange>::Key>,
     requires faithful_keys { KeysCloneFaithfully S.Range.Key.is_clone S.Range.Key.cmp }
-    ensures made { IfOk result (IsCanonOfPoints S.Kind.kind (joined operator (covers S.Kind.kind first.now) (covers S.Kind.kind first.now))) }
+    ensures made { IfOk result (IsCanonOfPoints S.Kind.kind
+        (joined operator (covers S.Kind.kind first.now) (covers S.Kind.kind first.now))) }
     ensures equal { IfOk result (λ set. IsTrue (same_ranges S.Kind.kind set first.now)) }
 {
     first.known();
@@ -115,7 +125,9 @@ where
     S::Alloc: Clone,
     S::Kind: Kind<S::Range, Steps = <S::Range as KeyRange>::Key>,
     requires faithful_keys { KeysCloneFaithfully S.Range.Key.is_clone S.Range.Key.cmp }
-    ensures made { IfOk result (IsCanonOfPoints S.Kind.kind (joined operator (covers S.Kind.kind first.now) (joined (other_of operator) (covers S.Kind.kind first.now) (covers S.Kind.kind second.now)))) }
+    ensures made { IfOk result (IsCanonOfPoints S.Kind.kind
+        (joined operator (covers S.Kind.kind first.now) (joined (other_of operator)
+        (covers S.Kind.kind first.now) (covers S.Kind.kind second.now)))) }
     ensures equal { IfOk result (λ set. IsTrue (same_ranges S.Kind.kind set first.now)) }
 {
     first.known();
@@ -139,8 +151,15 @@ where
     S::Alloc: Clone,
     S::Kind: Kind<S::Range, Steps = <S::Range as KeyRange>::Key>,
     requires faithful_keys { KeysCloneFaithfully S.Range.Key.is_clone S.Range.Key.cmp }
-    ensures left { IfOk result (λ sets. IsCanonOfPoints S.Kind.kind (joined operator (covers S.Kind.kind first.now) (joined (other_of operator) (covers S.Kind.kind second.now) (covers S.Kind.kind third.now))) sets.0) }
-    ensures right { IfOk result (λ sets. IsCanonOfPoints S.Kind.kind (joined (other_of operator) (joined operator (covers S.Kind.kind first.now) (covers S.Kind.kind second.now)) (joined operator (covers S.Kind.kind first.now) (covers S.Kind.kind third.now))) sets.1) }
+    ensures left { IfOk result (λ sets. IsCanonOfPoints S.Kind.kind
+        (joined operator (covers S.Kind.kind first.now)
+        (joined (other_of operator) (covers S.Kind.kind second.now) (covers S.Kind.kind third.now)))
+        sets.0) }
+    ensures right { IfOk result (λ sets. IsCanonOfPoints S.Kind.kind
+        (joined (other_of operator)
+        (joined operator (covers S.Kind.kind first.now) (covers S.Kind.kind second.now))
+        (joined operator (covers S.Kind.kind first.now) (covers S.Kind.kind third.now)))
+        sets.1) }
     ensures equal { IfOk result (λ sets. IsTrue (same_ranges S.Kind.kind sets.0 sets.1)) }
 {
     first.known();
@@ -166,7 +185,9 @@ where
     S::Alloc: Clone,
     S::Kind: Kind<S::Range, Steps = <S::Range as KeyRange>::Key>,
     requires faithful_keys { KeysCloneFaithfully S.Range.Key.is_clone S.Range.Key.cmp }
-    ensures made { IfOk result (IsCanonOfPoints S.Kind.kind (joined Union (minus (covers S.Kind.kind first.now) (covers S.Kind.kind second.now)) (joined Intersection (covers S.Kind.kind first.now) (covers S.Kind.kind second.now)))) }
+    ensures made { IfOk result (IsCanonOfPoints S.Kind.kind
+        (joined Union (minus (covers S.Kind.kind first.now) (covers S.Kind.kind second.now))
+        (joined Intersection (covers S.Kind.kind first.now) (covers S.Kind.kind second.now)))) }
     ensures equal { IfOk result (λ set. IsTrue (same_ranges S.Kind.kind set first.now)) }
 {
     first.known();
@@ -191,8 +212,15 @@ where
     S::Alloc: Clone,
     S::Kind: Kind<S::Range, Steps = <S::Range as KeyRange>::Key>,
     requires faithful_keys { KeysCloneFaithfully S.Range.Key.is_clone S.Range.Key.cmp }
-    ensures left { IfOk result (λ sets. IsCanonOfPoints S.Kind.kind (minus (covers S.Kind.kind first.now) (joined operator (covers S.Kind.kind second.now) (covers S.Kind.kind third.now))) sets.0) }
-    ensures right { IfOk result (λ sets. IsCanonOfPoints S.Kind.kind (joined (other_of operator) (minus (covers S.Kind.kind first.now) (covers S.Kind.kind second.now)) (minus (covers S.Kind.kind first.now) (covers S.Kind.kind third.now))) sets.1) }
+    ensures left { IfOk result (λ sets. IsCanonOfPoints S.Kind.kind
+        (minus (covers S.Kind.kind first.now)
+        (joined operator (covers S.Kind.kind second.now) (covers S.Kind.kind third.now)))
+        sets.0) }
+    ensures right { IfOk result (λ sets. IsCanonOfPoints S.Kind.kind
+        (joined (other_of operator)
+        (minus (covers S.Kind.kind first.now) (covers S.Kind.kind second.now))
+        (minus (covers S.Kind.kind first.now) (covers S.Kind.kind third.now)))
+        sets.1) }
     ensures equal { IfOk result (λ sets. IsTrue (same_ranges S.Kind.kind sets.0 sets.1)) }
 {
     first.known();
@@ -217,7 +245,9 @@ where
     S::Alloc: Clone,
     S::Kind: Kind<S::Range, Steps = <S::Range as KeyRange>::Key>,
     requires faithful_keys { KeysCloneFaithfully S.Range.Key.is_clone S.Range.Key.cmp }
-    ensures made { IfOk result (IsCanonOfPoints S.Kind.kind (exactly_one (exactly_one (covers S.Kind.kind first.now) (covers S.Kind.kind second.now)) (covers S.Kind.kind second.now))) }
+    ensures made { IfOk result (IsCanonOfPoints S.Kind.kind
+        (exactly_one (exactly_one (covers S.Kind.kind first.now) (covers S.Kind.kind second.now))
+        (covers S.Kind.kind second.now))) }
     ensures equal { IfOk result (λ set. IsTrue (same_ranges S.Kind.kind set first.now)) }
 {
     first.known();
@@ -239,8 +269,12 @@ where
     S::Alloc: Clone,
     S::Kind: Kind<S::Range, Steps = <S::Range as KeyRange>::Key>,
     requires faithful_keys { KeysCloneFaithfully S.Range.Key.is_clone S.Range.Key.cmp }
-    ensures left { IfOk result (λ sets. IsCanonOfPoints S.Kind.kind (exactly_one (covers S.Kind.kind first.now) (covers S.Kind.kind second.now)) sets.0) }
-    ensures right { IfOk result (λ sets. IsCanonOfPoints S.Kind.kind (minus (joined Union (covers S.Kind.kind first.now) (covers S.Kind.kind second.now)) (joined Intersection (covers S.Kind.kind first.now) (covers S.Kind.kind second.now))) sets.1) }
+    ensures left { IfOk result (λ sets. IsCanonOfPoints S.Kind.kind
+        (exactly_one (covers S.Kind.kind first.now) (covers S.Kind.kind second.now)) sets.0) }
+    ensures right { IfOk result (λ sets. IsCanonOfPoints S.Kind.kind
+        (minus (joined Union (covers S.Kind.kind first.now) (covers S.Kind.kind second.now))
+        (joined Intersection (covers S.Kind.kind first.now) (covers S.Kind.kind second.now)))
+        sets.1) }
     ensures equal { IfOk result (λ sets. IsTrue (same_ranges S.Kind.kind sets.0 sets.1)) }
 {
     let either = (first | second)?;
@@ -263,7 +297,8 @@ where
     S::Alloc: Clone,
     S::Kind: Kind<S::Range, Steps = <S::Range as KeyRange>::Key>,
     requires faithful_keys { KeysCloneFaithfully S.Range.Key.is_clone S.Range.Key.cmp }
-    ensures subset { IfOk result (λ answers. IsTrue answers.0 ↔ AreCovered S.Kind.kind (covers S.Kind.kind first.now) second.now) }
+    ensures subset { IfOk result (λ answers. IsTrue answers.0
+        ↔ AreCovered S.Kind.kind (covers S.Kind.kind first.now) second.now) }
     ensures empty { IfOk result (λ answers. answers.1 ≡ answers.0) }
 {
     let rest = (first - second)?;
@@ -278,9 +313,11 @@ pub fn closed_operations<T: Ord, StepFnsT: StepFns<T>>()
     ensures hulls { (left right : List (RangeInclusiveOf T))
         → IsCanonicalSet (closed StepFnsT.is_key T.cmp) left
         → IsCanonicalSet (closed StepFnsT.is_key T.cmp) right
-        → AreHulls (closed StepFnsT.is_key T.cmp) (left ++ right) (union_items (closed_places T.cmp) left right) }
+        → AreHulls (closed StepFnsT.is_key T.cmp) (left ++ right)
+        (union_items (closed_places T.cmp) left right) }
     ensures common { (left right : List (RangeInclusiveOf T))
         → IsCanonicalSet (closed StepFnsT.is_key T.cmp) left
         → IsCanonicalSet (closed StepFnsT.is_key T.cmp) right
-        → AreCommon (closed StepFnsT.is_key T.cmp) left right (intersection_items (closed_places T.cmp) left right) }
+        → AreCommon (closed StepFnsT.is_key T.cmp) left right
+        (intersection_items (closed_places T.cmp) left right) }
 {}

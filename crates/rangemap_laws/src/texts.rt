@@ -26,7 +26,8 @@ use std::fmt::Debug;
 pub fn texts_are_joined<Q: Kind<R>, R: KeyRange<Key: Debug>, V: Debug>()
     ensures { (key : R.Key → List ℕ) (value : V → List ℕ) (list : List (R × V))
         → AreTexts Q.kind R.dots key value R.Key.debug_output V.debug_output list
-        → map_text Q.kind R.dots R.Key.debug_output V.debug_output list ≡ SomeWord (plain_map Q.kind R.dots key value list) }
+        → map_text Q.kind R.dots R.Key.debug_output V.debug_output list
+        ≡ SomeWord (plain_map Q.kind R.dots key value list) }
 {}
 
 /// If the debug texts of the keys of a list of ranges are known, so is the text of the list, which
@@ -43,7 +44,8 @@ pub fn set_texts_are_joined<Q: Kind<R>, R: KeyRange<Key: Debug>>()
 ///
 /// Memory for the text was refused.
 pub fn unsigned_text(alloc: Global, unsigned: &RangeMap<u32, u16>) -> Result<String, AllocError>
-    ensures { IfOk result (λ text. string_bytes text ≡ plain_map (half_open nat_cmp) (codes "..") decimal decimal unsigned.now) }
+    ensures { IfOk result (λ text. string_bytes text
+        ≡ plain_map (half_open nat_cmp) (codes "..") decimal decimal unsigned.now) }
 {
     format!(in alloc; "{unsigned:?}")
 }
@@ -54,7 +56,9 @@ pub fn unsigned_text(alloc: Global, unsigned: &RangeMap<u32, u16>) -> Result<Str
 ///
 /// Memory for the text was refused.
 pub fn signed_text(alloc: Global, signed: &RangeInclusiveMap<i8, u64>) -> Result<String, AllocError>
-    ensures { IfOk result (λ text. string_bytes text ≡ plain_map (closed ⟦<i8 as StepFns<i8>>⟧.is_key int_cmp) (codes "..=") signed_decimal decimal signed.now) }
+    ensures { IfOk result (λ text. string_bytes text
+        ≡ plain_map (closed ⟦<i8 as StepFns<i8>>⟧.is_key int_cmp)
+        (codes "..=") signed_decimal decimal signed.now) }
 {
     format!(in alloc; "{signed:?}")
 }
@@ -65,7 +69,8 @@ pub fn signed_text(alloc: Global, signed: &RangeInclusiveMap<i8, u64>) -> Result
 ///
 /// Memory for the text was refused.
 pub fn unsigned_set_text(alloc: Global, set: &RangeSet<u32>) -> Result<String, AllocError>
-    ensures { IfOk result (λ text. string_bytes text ≡ plain_set (half_open nat_cmp) (codes "..") decimal set.now) }
+    ensures { IfOk result
+        (λ text. string_bytes text ≡ plain_set (half_open nat_cmp) (codes "..") decimal set.now) }
 {
     format!(in alloc; "{set:?}")
 }
@@ -81,7 +86,9 @@ pub fn unsigned_set_text(alloc: Global, set: &RangeSet<u32>) -> Result<String, A
 /// Memory for the text was refused.
 pub fn ascii_text(alloc: Global, texts: &RangeMap<u32, &str>) -> Result<String, AllocError>
     requires ascii { list_all (λ pair. list_all is_ascii pair.1.now) texts.now ≡ true }
-    ensures { IfOk result (λ text. string_bytes text ≡ plain_map (half_open nat_cmp) (codes "..") decimal (λ value. quoted value.now) texts.now) }
+    ensures { IfOk result (λ text. string_bytes text
+        ≡ plain_map (half_open nat_cmp) (codes "..") decimal
+        (λ value. quoted value.now) texts.now) }
 {
     format!(in alloc; "{texts:?}")
 }

@@ -124,7 +124,8 @@ impl<S: Store> Map<S> {
 
     /// Returns the stored range that has the key, and its value, if there is one.
     pub fn get_key_value(&self, key: &<S::Range as KeyRange>::Key) -> Option<(&S::Range, &S::Value)>
-        ensures found { option_map (λ pair. (pair.0.now, pair.1.now)) result ≡ covering S.Kind.kind self.now key.now }
+        ensures found { option_map (λ pair. (pair.0.now, pair.1.now)) result
+            ≡ covering S.Kind.kind self.now key.now }
         ensures canonical { IsCanonical S.Kind.kind S.Value.eq self.now }
     {
         self.stored.known();
@@ -150,7 +151,8 @@ impl<S: Store> Map<S> {
 
     /// Returns the last stored range and its value, if there is one.
     pub fn last_range_value(&self) -> Option<(&S::Range, &S::Value)>
-        ensures found { option_map (λ pair. (pair.0.now, pair.1.now)) result ≡ slice_get self.now (length self.now - 1) }
+        ensures found { option_map (λ pair. (pair.0.now, pair.1.now)) result
+            ≡ slice_get self.now (length self.now - 1) }
         ensures canonical { IsCanonical S.Kind.kind S.Value.eq self.now }
         ensures non_empty { IfSome result (λ pair. S.Kind.kind.IsNonEmpty pair.0.now) }
     {

@@ -50,9 +50,11 @@ impl<'a, R: KeyRange, V> Model for Overlapping<'a, R, V> {
 
     ghost Value = { List (R × V) };
 
-    ghost view = { λ s. if s.is_bounded then s.pairs.now else take_while (is_begun R.read R.has_end s.query.now) s.pairs.now };
+    ghost view = { λ s. if s.is_bounded then s.pairs.now
+        else take_while (is_begun R.read R.has_end s.query.now) s.pairs.now };
 
-    ghost invariant = { λ s. s.is_bounded ≡ false → IsPartitionedBy (is_begun R.read R.has_end s.query.now) s.pairs.now };
+    ghost invariant = { λ s. s.is_bounded ≡ false
+        → IsPartitionedBy (is_begun R.read R.has_end s.query.now) s.pairs.now };
 }
 
 impl<'a, R: KeyRange, V: Eq> Overlapping<'a, R, V> {
@@ -128,9 +130,12 @@ pub fn overlapping_tail<'a, Q: Kind<R>, R: KeyRange, V: Eq>(
     query: &R,
 ) -> &'a [(R, V)]
     requires { IsCanonical Q.kind V.eq pairs.now }
-    ensures overlapped { take_while (is_begun R.read R.has_end query.now) result.now ≡ overlapped Q.kind pairs.now query.now }
+    ensures overlapped { take_while (is_begun R.read R.has_end query.now) result.now
+        ≡ overlapped Q.kind pairs.now query.now }
     ensures begun_first { IsPartitionedBy (is_begun R.read R.has_end query.now) result.now }
-    ensures all { Every (λ pair. starts_within (shape_of Q.kind Q.end_place V.eq) query.now pair ≡ true) pairs.now → result.now ≡ overlapped Q.kind pairs.now query.now }
+    ensures all { Every
+        (λ pair. starts_within (shape_of Q.kind Q.end_place V.eq) query.now pair ≡ true) pairs.now
+        → result.now ≡ overlapped Q.kind pairs.now query.now }
 {
     known_ends::<Q, R>(query);
     &pairs[overlap_start::<Q, R, V>(pairs, query)..]

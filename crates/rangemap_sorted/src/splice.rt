@@ -40,9 +40,15 @@ pub fn splice<T: Drop, A: Allocator>(
 ) -> Result<(), AllocError>
     requires start_le_end { places.start ≤ places.end }
     requires in_bounds { places.end ≤ vec_len list.old }
-    ensures ok { OnOk result (list.new.items ≡ take places.start list.old.items ++ (option_to_list left ++ (option_to_list middle ++ option_to_list right)) ++ drop places.end list.old.items) }
+    ensures ok { OnOk result (list.new.items ≡ take places.start list.old.items
+        ++ (option_to_list left ++ (option_to_list middle ++ option_to_list right))
+        ++ drop places.end list.old.items) }
     ensures err { OnErr result (list.new.items ≡ list.old.items) }
-    ensures succeeds { vec_len list.old + (length (option_to_list left) + length (option_to_list middle) + length (option_to_list right) - (places.end - places.start)) ≤ vec_capacity list.old → IsOk result }
+    ensures succeeds { vec_len list.old
+        + (length (option_to_list left) + length (option_to_list middle)
+        + length (option_to_list right) - (places.end - places.start))
+        ≤ vec_capacity list.old
+        → IsOk result }
     ensures room { vec_capacity list.old ≤ vec_capacity list.new }
 {
     let Range { start, end } = places;
@@ -79,7 +85,9 @@ fn put<T: Drop, A: Allocator>(
     requires in_bounds { end ≤ vec_len list.old }
     requires room { vec_len list.old + (length (option_to_list option) - (end - at)) ≤ vec_capacity list.old }
     ensures next { result ≡ at + length (take (end - at) (option_to_list option)) }
-    ensures items { list.new.items ≡ take at list.old.items ++ take (end - at) (option_to_list option) ++ drop result list.old.items ++ drop (end - at) (option_to_list option) }
+    ensures items { list.new.items
+        ≡ take at list.old.items ++ take (end - at) (option_to_list option)
+        ++ drop result list.old.items ++ drop (end - at) (option_to_list option) }
     ensures len { vec_len list.new ≡ vec_len list.old + (length (option_to_list option) - (end - at)) }
     ensures capacity { vec_capacity list.new ≡ vec_capacity list.old }
 {

@@ -87,7 +87,9 @@ impl<K: Ord, V, A: Allocator> ByStart<K, V, A> {
     /// Returns the pairs that start within `from` and before `to`, in order.
     pub fn between(&self, from: Bound<&K>, to: &K) -> Pairs<'_, K, V>
         requires { IsForward (IsLeBy K.cmp) (IsLtBy K.cmp) (bound_map (λ x. x.now) from) (Excluded to.now) }
-        ensures { result ≡ filter (λ p. range_contains K.cmp (bound_map (λ x. x.now) from.entry) (Excluded to.now) p.0.start) self.now }
+        ensures { result ≡ filter (λ p. range_contains K.cmp
+            (bound_map (λ x. x.now) from.entry) (Excluded to.now) p.0.start)
+            self.now }
     {
         let entries = match &self.tree {
             Some(tree) => Some(tree.range((from, Bound::Excluded(to)))),
@@ -103,7 +105,11 @@ impl<K: Ord, V, A: Allocator> ByStart<K, V, A> {
     pub fn last_within<B: RangeBounds<K>>(&self, starts: B) -> Option<(&Range<K>, &V)>
         requires bounds { B.has_bounds starts }
         requires forward { B.is_forward starts (IsLeBy K.cmp) (IsLtBy K.cmp) }
-        ensures { (rest : List _) × TakesLast deref_pair (filter (λ p. range_contains K.cmp (B.start_bound starts) (B.end_bound starts) p.0.start) self.now) result rest }
+        ensures { (rest : List _) × TakesLast deref_pair
+            (filter
+            (λ p. range_contains K.cmp (B.start_bound starts) (B.end_bound starts) p.0.start)
+            self.now)
+            result rest }
     {
         let Some(tree) = &self.tree else {
             return None;
@@ -141,9 +147,14 @@ impl<K: Ord + Clone, V, A: Allocator + Clone> ByStart<K, V, A> {
     ///
     /// The memory of the list, or a clone of the allocator or of a key, was refused.
     pub fn starts_between(&self, from: Bound<&K>, to: &K) -> Result<Vec<K, A>, AllocError>
-        requires forward { IsForward (IsLeBy K.cmp) (IsLtBy K.cmp) (bound_map (λ x. x.now) from) (Excluded to.now) }
+        requires forward { IsForward (IsLeBy K.cmp) (IsLtBy K.cmp) (bound_map (λ x. x.now) from)
+            (Excluded to.now) }
         requires faithful { KeysCloneFaithfully K.is_clone K.cmp }
-        ensures { IfOk result (λ starts. AreStarts K.cmp (filter (λ p. range_contains K.cmp (bound_map (λ x. x.now) from.entry) (Excluded to.now) p.0.start) self.now) starts.items) }
+        ensures { IfOk result (λ starts. AreStarts K.cmp
+            (filter (λ p.
+            range_contains K.cmp (bound_map (λ x. x.now) from.entry) (Excluded to.now) p.0.start)
+            self.now)
+            starts.items) }
     {
         let mut starts = Vec::new(self.alloc.clone()?);
         let mut pairs = self.between(from, to);

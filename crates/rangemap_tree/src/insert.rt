@@ -27,11 +27,13 @@ pub fn insert<K: Ord + Clone, V: Eq + Clone, A: Allocator + Clone>(
     requires non_empty { (half_open K.cmp).IsNonEmpty range }
     requires faithful_keys { KeysCloneFaithfully K.is_clone K.cmp }
     requires faithful_values { ValuesCloneFaithfully V.is_clone V.eq }
-    ensures ok { OnOk result (IsCanonOf (half_open K.cmp) V.eq (override (half_open K.cmp) (value_at (half_open K.cmp) pairs.old) range value) pairs.new) }
+    ensures ok { OnOk result (IsCanonOf (half_open K.cmp) V.eq
+        (override (half_open K.cmp) (value_at (half_open K.cmp) pairs.old) range value) pairs.new) }
     ensures newest { OnOk result (IsNewest (half_open K.cmp) range value pairs.new) }
     ensures err { OnErr result (pairs.new ≡ pairs.old) }
     ensures growth { OnOk result (length pairs.new ≤ length pairs.old + 2) }
-    ensures growth_where_all_are_equal { OnOk result (((v w : V) → V.eq v w ≡ true) → length pairs.new ≤ length pairs.old + 1) }
+    ensures growth_where_all_are_equal { OnOk result (((v w : V) → V.eq v w ≡ true)
+        → length pairs.new ≤ length pairs.old + 1) }
 {
     let near = pairs.last_within(..=&range.end);
     let left = left_side(pairs, near, &range, Some(&value))?;

@@ -30,8 +30,12 @@ fn overlap_start<'b, K: Ord, V: Eq, A: Allocator>(
     query: &'b Range<K>,
 ) -> Bound<&'b K>
     requires { IsCanonical (half_open K.cmp) V.eq pairs.now }
-    ensures forward { IsForward (IsLeBy K.cmp) (IsLtBy K.cmp) (bound_map (λ x. x.now) result) (Excluded query.now.end) }
-    ensures overlapped { filter (λ p. range_contains K.cmp (bound_map (λ x. x.now) result) (Excluded query.now.end) p.0.start) pairs.now ≡ overlapped (half_open K.cmp) pairs.now query.now }
+    ensures forward { IsForward (IsLeBy K.cmp) (IsLtBy K.cmp) (bound_map (λ x. x.now) result)
+        (Excluded query.now.end) }
+    ensures overlapped { filter (λ p. range_contains K.cmp
+        (bound_map (λ x. x.now) result) (Excluded query.now.end) p.0.start)
+        pairs.now
+        ≡ overlapped (half_open K.cmp) pairs.now query.now }
 {
     match pairs.last_within(..=&query.start) {
         Some((range, _)) if range.end.cmp(&query.start).is_gt() => {

@@ -24,7 +24,8 @@ impl<'a, K, V> Model for Pairs<'a, K, V> {
 
     ghost Value = { List (RangeOf K × V) };
 
-    ghost view = { λ s. option_to_list (option_map deref_pair s.ahead) ++ unwrap_or (option_map values_of s.entries) [] };
+    ghost view = { λ s. option_to_list (option_map deref_pair s.ahead)
+        ++ unwrap_or (option_map values_of s.entries) [] };
 }
 
 impl<'a, K, V> Cursor for Pairs<'a, K, V> {

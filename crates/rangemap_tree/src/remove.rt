@@ -23,10 +23,12 @@ pub fn remove<K: Ord + Clone, V: Eq + Clone, A: Allocator + Clone>(
     requires non_empty { (half_open K.cmp).IsNonEmpty range.now }
     requires faithful_keys { KeysCloneFaithfully K.is_clone K.cmp }
     requires faithful_values { ValuesCloneFaithfully V.is_clone V.eq }
-    ensures ok { OnOk result (IsCanonOf (half_open K.cmp) V.eq (erase (half_open K.cmp) (value_at (half_open K.cmp) pairs.old) range.now) pairs.new) }
+    ensures ok { OnOk result (IsCanonOf (half_open K.cmp) V.eq
+        (erase (half_open K.cmp) (value_at (half_open K.cmp) pairs.old) range.now) pairs.new) }
     ensures err { OnErr result (pairs.new ≡ pairs.old) }
     ensures growth { OnOk result (length pairs.new ≤ length pairs.old + 1) }
-    ensures meets_nothing { overlapped (half_open K.cmp) pairs.old range.now ≡ [] → IsOk result × (pairs.new ≡ pairs.old) }
+    ensures meets_nothing { overlapped (half_open K.cmp) pairs.old range.now ≡ []
+        → IsOk result × (pairs.new ≡ pairs.old) }
 {
     let near = pairs.last_within(..&range.end);
     let Some((last, _)) = near else {

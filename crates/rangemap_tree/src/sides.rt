@@ -72,10 +72,12 @@ pub fn left_side<'a, K: Ord + Clone, V: Eq, A: Allocator>(
     value: Option<&'a V>,
 ) -> Result<Left<K>, AllocError>
     requires canonical { IsCanonical (half_open K.cmp) V.eq pairs.now }
-    requires near { (rest : List _) × TakesLast deref_pair (near_end K.cmp (option_copied value) range.now.end pairs.now) near rest }
+    requires near { (rest : List _) × TakesLast deref_pair
+        (near_end K.cmp (option_copied value) range.now.end pairs.now) near rest }
     requires range { (half_open K.cmp).IsNonEmpty range.now }
     requires faithful_keys { KeysCloneFaithfully K.is_clone K.cmp }
-    ensures { IfOk result (λ left. IsLeft K.cmp V.eq pairs.now range.now (option_copied value.entry) left.start left.cut) }
+    ensures { IfOk result (λ left. IsLeft K.cmp V.eq pairs.now range.now
+        (option_copied value.entry) left.start left.cut) }
 {
     let Some((first, first_value)) = last_before(pairs, near, range) else {
         return Ok(Left::none());
@@ -110,7 +112,8 @@ fn last_before<'a, K: Ord, V: Eq, A: Allocator>(
     range: &Range<K>,
 ) -> Option<(&'a Range<K>, &'a V)>
     requires canonical { IsCanonical (half_open K.cmp) V.eq pairs.now }
-    requires near { (value : OptionWord _) × (rest : List _) × TakesLast deref_pair (near_end K.cmp value range.now.end pairs.now) near rest }
+    requires near { (value : OptionWord _) × (rest : List _)
+        × TakesLast deref_pair (near_end K.cmp value range.now.end pairs.now) near rest }
     requires range { (half_open K.cmp).IsNonEmpty range.now }
     ensures { (rest : List _) × TakesLast deref_pair (before K.cmp range.now.start pairs.now) result rest }
 {
@@ -135,10 +138,12 @@ pub fn right_side<'a, K: Ord + Clone, V: Eq + Clone, A: Allocator>(
     value: Option<&'a V>,
 ) -> Result<Right<K, V>, AllocError>
     requires canonical { IsCanonical (half_open K.cmp) V.eq pairs.now }
-    requires near { (rest : List _) × TakesLast deref_pair (near_end K.cmp (option_copied value) range.now.end pairs.now) near rest }
+    requires near { (rest : List _) × TakesLast deref_pair
+        (near_end K.cmp (option_copied value) range.now.end pairs.now) near rest }
     requires faithful_keys { KeysCloneFaithfully K.is_clone K.cmp }
     requires faithful_values { ValuesCloneFaithfully V.is_clone V.eq }
-    ensures { IfOk result (λ right. IsRight K.cmp V.eq pairs.now range.now (option_copied value.entry) right.end right.piece) }
+    ensures { IfOk result (λ right. IsRight K.cmp V.eq pairs.now range.now
+        (option_copied value.entry) right.end right.piece) }
 {
     let Some((last, last_value)) = near else {
         return Ok(Right::none());
@@ -169,7 +174,9 @@ fn piece_behind<K: Clone, V: Clone>(
     last: &Range<K>,
     value: &V,
 ) -> Result<Keyed<K, V>, AllocError>
-    ensures { IfOk result (λ piece. K.is_clone range.now.end piece.0 × K.is_clone range.now.end piece.1.0.start × K.is_clone last.now.end piece.1.0.end × V.is_clone value.now piece.1.1) }
+    ensures { IfOk result (λ piece. K.is_clone range.now.end piece.0
+        × K.is_clone range.now.end piece.1.0.start × K.is_clone last.now.end piece.1.0.end
+        × V.is_clone value.now piece.1.1) }
 {
     let start = range.end.clone()?;
     let end = last.end.clone()?;

@@ -41,7 +41,10 @@ impl<Q: Kind<R>, R: KeyRange, C: Cursor<Range = R>> Model for Difference<Q, R, C
 
     ghost Value = { List R };
 
-    ghost view = { λ s. if s.is_done then [] else parts_left Q.kind Q.end_place Q.part_of (option_map (shown_range C.given) s.sides.passed) (ranges (C.left s.sides.left)) (ranges (C.left s.sides.right)) };
+    ghost view = { λ s. if s.is_done then []
+        else parts_left Q.kind Q.end_place Q.part_of
+        (option_map (shown_range C.given) s.sides.passed)
+        (ranges (C.left s.sides.left)) (ranges (C.left s.sides.right)) };
 }
 
 impl<Q: Kind<R>, R: KeyRange, C: Peek<Range = R>> Difference<Q, R, C> {
@@ -53,7 +56,8 @@ impl<Q: Kind<R>, R: KeyRange, C: Peek<Range = R>> Difference<Q, R, C> {
     pub fn over(left: C, right: C) -> Self
         requires left { IsCanonicalSet Q.kind (ranges (C.left left)) }
         requires right { IsCanonicalSet Q.kind (ranges (C.left right)) }
-        ensures items { result ≡ difference_items Q.kind Q.end_place Q.part_of (ranges (C.left left)) (ranges (C.left right)) }
+        ensures items { result ≡ difference_items Q.kind Q.end_place Q.part_of
+            (ranges (C.left left)) (ranges (C.left right)) }
         ensures without { AreWithout Q.kind (ranges (C.left left)) (ranges (C.left right)) result }
     {
         Difference {
@@ -136,11 +140,18 @@ impl<C: Peek> Sides<C> {
     // and else `range`.
     fn pass<Q: Kind<C::Range>>(&mut self, range: &C::Range, next: Option<(C::Given, C::GivenValue)>)
         requires first { (ps : List C.Range) × (ranges (C.left self.now.left) ≡ range.now ∷ ps) }
-        requires next { MatchOption next (ranges (C.left self.now.right) ≡ []) (λ pair. (qs : List C.Range) × (ranges (C.left self.now.right) ≡ shown_range C.given pair ∷ qs)) }
+        requires next { MatchOption next (ranges (C.left self.now.right) ≡ [])
+            (λ pair. (qs : List C.Range)
+            × (ranges (C.left self.now.right) ≡ shown_range C.given pair ∷ qs)) }
         ensures rest { (ps : List C.Range) → ranges (C.left self.old.left) ≡ range.now ∷ ps
-            → parts_left Q.kind Q.end_place Q.part_of (option_map (shown_range C.given) self.new.passed) (ranges (C.left self.new.left)) (ranges (C.left self.new.right))
-            ≡ parts_behind Q.kind Q.end_place Q.part_of range.now ps (ranges (C.left self.old.right)) }
-        ensures fewer { length (ranges (C.left self.new.left)) + length (ranges (C.left self.new.right)) < length (ranges (C.left self.old.left)) + length (ranges (C.left self.old.right)) }
+            → parts_left Q.kind Q.end_place Q.part_of
+            (option_map (shown_range C.given) self.new.passed)
+            (ranges (C.left self.new.left)) (ranges (C.left self.new.right))
+            ≡ parts_behind Q.kind Q.end_place Q.part_of range.now ps
+            (ranges (C.left self.old.right)) }
+        ensures fewer { length (ranges (C.left self.new.left))
+            + length (ranges (C.left self.new.right))
+            < length (ranges (C.left self.old.left)) + length (ranges (C.left self.old.right)) }
     {
         match next {
             Some(pair) if Q::is_before(Endpoint::End(C::parts(&pair).0), Endpoint::End(range)) => {
@@ -157,11 +168,23 @@ impl<C: Peek> Sides<C> {
     // Takes the next part, made of clones. `Err` says that a clone was refused: no part is lost then.
     fn try_next<Q: Kind<C::Range>>(&mut self) -> Result<Option<C::Range>, AllocError>
         requires faithful_keys { KeysCloneFaithfully C.Range.Key.is_clone C.Range.Key.cmp }
-        ensures ok { IfOk result (λ item. TakesRange Q.kind (parts_left Q.kind Q.end_place Q.part_of (option_map (shown_range C.given) self.old.passed) (ranges (C.left self.old.left)) (ranges (C.left self.old.right))) item
-            (parts_left Q.kind Q.end_place Q.part_of (option_map (shown_range C.given) self.new.passed) (ranges (C.left self.new.left)) (ranges (C.left self.new.right)))) }
-        ensures err { OnErr result (parts_left Q.kind Q.end_place Q.part_of (option_map (shown_range C.given) self.new.passed) (ranges (C.left self.new.left)) (ranges (C.left self.new.right))
-            ≡ parts_left Q.kind Q.end_place Q.part_of (option_map (shown_range C.given) self.old.passed) (ranges (C.left self.old.left)) (ranges (C.left self.old.right))) }
-        ensures refused { OnErr result (parts_left Q.kind Q.end_place Q.part_of (option_map (shown_range C.given) self.old.passed) (ranges (C.left self.old.left)) (ranges (C.left self.old.right)) ≢ []) }
+        ensures ok { IfOk result (λ item. TakesRange Q.kind
+            (parts_left Q.kind Q.end_place Q.part_of
+            (option_map (shown_range C.given) self.old.passed)
+            (ranges (C.left self.old.left)) (ranges (C.left self.old.right)))
+            item
+            (parts_left Q.kind Q.end_place Q.part_of
+            (option_map (shown_range C.given) self.new.passed)
+            (ranges (C.left self.new.left)) (ranges (C.left self.new.right)))) }
+        ensures err { OnErr result (parts_left Q.kind Q.end_place Q.part_of
+            (option_map (shown_range C.given) self.new.passed)
+            (ranges (C.left self.new.left)) (ranges (C.left self.new.right))
+            ≡ parts_left Q.kind Q.end_place Q.part_of
+            (option_map (shown_range C.given) self.old.passed)
+            (ranges (C.left self.old.left)) (ranges (C.left self.old.right))) }
+        ensures refused { OnErr result (parts_left Q.kind Q.end_place Q.part_of
+            (option_map (shown_range C.given) self.old.passed)
+            (ranges (C.left self.old.left)) (ranges (C.left self.old.right)) ≢ []) }
         ensures succeeds { KeysCloneInfallibly C.Range.Key.is_infallible → IsOk result }
     {
         'parts: while let Some(first) = self.left.peek() {
@@ -183,9 +206,15 @@ fn next_behind<Q: Kind<C::Range>, C: Peek>(
     right: &mut C,
     from: Endpoint<'_, C::Range>,
 ) -> Option<(C::Given, C::GivenValue)>
-    ensures parts { (passed : OptionWord C.Range) → (range : C.Range) → (ps : List C.Range) → endpoint_of from.entry ≡ part_start passed range
-        → parts_left Q.kind Q.end_place Q.part_of passed (range ∷ ps) (ranges (C.left right.old)) ≡ parts_left Q.kind Q.end_place Q.part_of passed (range ∷ ps) (ranges (C.left right.new)) }
-    ensures next { MatchOption result (C.left right.new ≡ []) (λ pair. (rest : List (C.Range × C.Value)) × (C.left right.new ≡ shown C.given C.given_value pair ∷ rest) × (is_before Q.kind Q.end_place (endpoint_of from.entry) (AtEnd (shown_range C.given pair)) ≡ true)) }
+    ensures parts { (passed : OptionWord C.Range) → (range : C.Range)
+        → (ps : List C.Range) → endpoint_of from.entry ≡ part_start passed range
+        → parts_left Q.kind Q.end_place Q.part_of passed (range ∷ ps) (ranges (C.left right.old))
+        ≡ parts_left Q.kind Q.end_place Q.part_of passed (range ∷ ps) (ranges (C.left right.new)) }
+    ensures next { MatchOption result (C.left right.new ≡ [])
+        (λ pair. (rest : List (C.Range × C.Value))
+        × (C.left right.new ≡ shown C.given C.given_value pair ∷ rest)
+        × (is_before Q.kind Q.end_place (endpoint_of from.entry)
+        (AtEnd (shown_range C.given pair)) ≡ true)) }
     ensures fewer { length (C.left right.new) ≤ length (C.left right.old) }
 {
     'early: while let Some(pair) = right.peek() {
@@ -206,7 +235,8 @@ fn end_of<'b, Q: Kind<C::Range>, C: Cursor<Range: KeyRange>>(
 where
     C::Value: 'b,
     C::Range: 'b,
-    ensures { endpoint_of result ≡ next_end Q.kind Q.end_place (option_map (shown_range C.given) next.now) range.now }
+    ensures { endpoint_of result
+        ≡ next_end Q.kind Q.end_place (option_map (shown_range C.given) next.now) range.now }
 {
     match next {
         Some(pair) if Q::is_before(Endpoint::Start(C::parts(pair).0), Endpoint::End(range)) => {

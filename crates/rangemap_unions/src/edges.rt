@@ -75,7 +75,8 @@ impl<C: Peek> Side<C> {
     // Returns the next edge without passing it.
     fn peek(&mut self) -> Option<Edge<C>>
         ensures same { self.new ≡ self.old }
-        ensures next { MatchOption result (self.old ≡ []) (λ edge. (rest : List (EndpointOf C.Range)) × (self.old ≡ edge ∷ rest)) }
+        ensures next { MatchOption result (self.old ≡ [])
+            (λ edge. (rest : List (EndpointOf C.Range)) × (self.old ≡ edge ∷ rest)) }
     {
         let pair = self.cursor.peek()?;
         let is_end = self.is_inside;
@@ -84,7 +85,8 @@ impl<C: Peek> Side<C> {
 
     // Passes the next edge.
     fn pass(&mut self)
-        ensures { (edge : EndpointOf C.Range) → (rest : List (EndpointOf C.Range)) → self.old ≡ edge ∷ rest → self.new ≡ rest }
+        ensures { (edge : EndpointOf C.Range) → (rest : List (EndpointOf C.Range))
+            → self.old ≡ edge ∷ rest → self.new ≡ rest }
     {
         if self.is_inside {
             let _ = self.cursor.take_first();
@@ -94,7 +96,8 @@ impl<C: Peek> Side<C> {
 
     // Takes the next edge.
     fn take(&mut self) -> Option<Edge<C>>
-        ensures { MatchOption result ((self.old ≡ []) × (self.new ≡ [])) (λ edge. self.old ≡ edge ∷ self.new) }
+        ensures { MatchOption result ((self.old ≡ []) × (self.new ≡ []))
+            (λ edge. self.old ≡ edge ∷ self.new) }
     {
         let edge = self.peek()?;
         self.pass();
@@ -124,8 +127,10 @@ impl<C: Peek> Sides<C> {
     // Takes the next edge that is not at the place of one of the other list.
     fn take<Q: Kind<C::Range>>(&mut self) -> Option<Edge<C>>
         ensures { MatchOption result
-            ((crossed Q.kind Q.end_place self.old.left self.old.right ≡ []) × (crossed Q.kind Q.end_place self.new.left self.new.right ≡ []))
-            (λ edge. crossed Q.kind Q.end_place self.old.left self.old.right ≡ edge ∷ crossed Q.kind Q.end_place self.new.left self.new.right) }
+            ((crossed Q.kind Q.end_place self.old.left self.old.right ≡ [])
+            × (crossed Q.kind Q.end_place self.new.left self.new.right ≡ []))
+            (λ edge. crossed Q.kind Q.end_place self.old.left self.old.right
+            ≡ edge ∷ crossed Q.kind Q.end_place self.new.left self.new.right) }
     {
         'alike: while let Some(left) = self.left.peek() {
             let Some(right) = self.right.peek() else {
@@ -148,9 +153,13 @@ impl<C: Peek> Sides<C> {
 
     /// Takes the two edges of the next part.
     pub fn next_pair<Q: Kind<C::Range>>(&mut self) -> Option<(Edge<C>, Edge<C>)>
-        ensures parts { parts_between Q.kind Q.end_place Q.part_of (crossed Q.kind Q.end_place self.old.left self.old.right)
-            ≡ parts_ready Q.kind Q.end_place Q.part_of result (crossed Q.kind Q.end_place self.new.left self.new.right) }
-        ensures fewer { MatchOption result ⊤ (λ _. length (crossed Q.kind Q.end_place self.new.left self.new.right) < length (crossed Q.kind Q.end_place self.old.left self.old.right)) }
+        ensures parts { parts_between Q.kind Q.end_place Q.part_of
+            (crossed Q.kind Q.end_place self.old.left self.old.right)
+            ≡ parts_ready Q.kind Q.end_place Q.part_of result
+            (crossed Q.kind Q.end_place self.new.left self.new.right) }
+        ensures fewer { MatchOption result ⊤
+            (λ _. length (crossed Q.kind Q.end_place self.new.left self.new.right)
+            < length (crossed Q.kind Q.end_place self.old.left self.old.right)) }
     {
         let from = self.take::<Q>()?;
         let to = self.take::<Q>()?;

@@ -23,9 +23,13 @@ impl<S: StoreMut<Value = ()>> ReaderOfBoth<S::Range, ()> for Uniting<S> {
 
     type Answer = Result<(), AllocError>;
 
-    ghost may_read = { λ left right all. KeysCloneFaithfully S.Range.Key.is_clone S.Range.Key.cmp × IsCanonicalSet S.Kind.kind (ranges left) × IsCanonicalSet S.Kind.kind (ranges right) × (ranges (S.pairs all) ≡ []) };
+    ghost may_read = { λ left right all. KeysCloneFaithfully S.Range.Key.is_clone S.Range.Key.cmp
+        × IsCanonicalSet S.Kind.kind (ranges left)
+        × IsCanonicalSet S.Kind.kind (ranges right)
+        × (ranges (S.pairs all) ≡ []) };
 
-    ghost reads = { λ left right _ result all. OnOk result (AreEither S.Kind.kind (ranges left) (ranges right) (ranges (S.pairs all))) };
+    ghost reads = { λ left right _ result all. OnOk result
+        (AreEither S.Kind.kind (ranges left) (ranges right) (ranges (S.pairs all))) };
 
     fn read<C: Peek<Range = S::Range, Value = ()>>(
         left: C,
@@ -54,9 +58,13 @@ impl<S: StoreMut<Value = ()>> ReaderOfBoth<S::Range, ()> for Intersecting<S> {
 
     type Answer = Result<(), AllocError>;
 
-    ghost may_read = { λ left right common. KeysCloneFaithfully S.Range.Key.is_clone S.Range.Key.cmp × IsCanonicalSet S.Kind.kind (ranges left) × IsCanonicalSet S.Kind.kind (ranges right) × (ranges (S.pairs common) ≡ []) };
+    ghost may_read = { λ left right common. KeysCloneFaithfully S.Range.Key.is_clone S.Range.Key.cmp
+        × IsCanonicalSet S.Kind.kind (ranges left)
+        × IsCanonicalSet S.Kind.kind (ranges right)
+        × (ranges (S.pairs common) ≡ []) };
 
-    ghost reads = { λ left right _ result common. OnOk result (AreCommon S.Kind.kind (ranges left) (ranges right) (ranges (S.pairs common))) };
+    ghost reads = { λ left right _ result common. OnOk result
+        (AreCommon S.Kind.kind (ranges left) (ranges right) (ranges (S.pairs common))) };
 
     fn read<C: Peek<Range = S::Range, Value = ()>>(
         left: C,
@@ -85,9 +93,13 @@ impl<S: StoreMut<Value = ()>> ReaderOfBoth<S::Range, ()> for Subtracting<S> {
 
     type Answer = Result<(), AllocError>;
 
-    ghost may_read = { λ left right rest. KeysCloneFaithfully S.Range.Key.is_clone S.Range.Key.cmp × IsCanonicalSet S.Kind.kind (ranges left) × IsCanonicalSet S.Kind.kind (ranges right) × (ranges (S.pairs rest) ≡ []) };
+    ghost may_read = { λ left right rest. KeysCloneFaithfully S.Range.Key.is_clone S.Range.Key.cmp
+        × IsCanonicalSet S.Kind.kind (ranges left)
+        × IsCanonicalSet S.Kind.kind (ranges right)
+        × (ranges (S.pairs rest) ≡ []) };
 
-    ghost reads = { λ left right _ result rest. OnOk result (AreWithout S.Kind.kind (ranges left) (ranges right) (ranges (S.pairs rest))) };
+    ghost reads = { λ left right _ result rest. OnOk result
+        (AreWithout S.Kind.kind (ranges left) (ranges right) (ranges (S.pairs rest))) };
 
     fn read<C: Peek<Range = S::Range, Value = ()>>(
         left: C,
@@ -116,9 +128,14 @@ impl<S: StoreMut<Value = ()>> ReaderOfBoth<S::Range, ()> for Exchanging<S> {
 
     type Answer = Result<(), AllocError>;
 
-    ghost may_read = { λ left right one_only. KeysCloneFaithfully S.Range.Key.is_clone S.Range.Key.cmp × IsCanonicalSet S.Kind.kind (ranges left) × IsCanonicalSet S.Kind.kind (ranges right) × (ranges (S.pairs one_only) ≡ []) };
+    ghost may_read = { λ left right one_only.
+        KeysCloneFaithfully S.Range.Key.is_clone S.Range.Key.cmp
+        × IsCanonicalSet S.Kind.kind (ranges left)
+        × IsCanonicalSet S.Kind.kind (ranges right)
+        × (ranges (S.pairs one_only) ≡ []) };
 
-    ghost reads = { λ left right _ result one_only. OnOk result (AreOneOnly S.Kind.kind (ranges left) (ranges right) (ranges (S.pairs one_only))) };
+    ghost reads = { λ left right _ result one_only. OnOk result
+        (AreOneOnly S.Kind.kind (ranges left) (ranges right) (ranges (S.pairs one_only))) };
 
     fn read<C: Peek<Range = S::Range, Value = ()>>(
         left: C,

@@ -36,9 +36,12 @@ impl<C: Cursor<Range: KeyRange>> Model for Intersection<C> {
 
     ghost Value = { List C.Range };
 
-    ghost view = { λ s. if s.is_done then [] else intersection_items C.Range.places (ranges (C.left s.sides.left)) (ranges (C.left s.sides.right)) };
+    ghost view = { λ s. if s.is_done then []
+        else intersection_items C.Range.places
+        (ranges (C.left s.sides.left)) (ranges (C.left s.sides.right)) };
 
-    ghost invariant = { λ s. AreNonEmptyRanges C.Range.read (intersection_items C.Range.places (ranges (C.left s.sides.left)) (ranges (C.left s.sides.right))) };
+    ghost invariant = { λ s. AreNonEmptyRanges C.Range.read (intersection_items C.Range.places
+        (ranges (C.left s.sides.left)) (ranges (C.left s.sides.right))) };
 }
 
 impl<C: Peek> Intersection<C> {
@@ -58,7 +61,8 @@ impl<C: Peek> Intersection<C> {
     pub fn over(left: C, right: C) -> Self
         requires left { IsCanonicalSet C.Range.read (ranges (C.left left)) }
         requires right { IsCanonicalSet C.Range.read (ranges (C.left right)) }
-        ensures items { result ≡ intersection_items C.Range.places (ranges (C.left left)) (ranges (C.left right)) }
+        ensures items { result ≡ intersection_items C.Range.places
+            (ranges (C.left left)) (ranges (C.left right)) }
         ensures common { AreCommon C.Range.read (ranges (C.left left)) (ranges (C.left right)) result }
     {
         Intersection {
@@ -128,13 +132,18 @@ fn common_part<R: KeyRange>(
     right: &R,
     left_ends_first: bool,
 ) -> Result<Option<R>, AllocError>
-    requires ends { left_ends_first ≡ is_lt (R.places.order (R.places.end_place left.now) (R.places.end_place right.now)) }
-    requires in_order { (reaches R.places left.now right.now && reaches R.places right.now left.now) ≡ true → R.places.order (R.places.start_place (later_start R.places left.now right.now)) (R.places.end_place (earlier_end R.places left.now right.now)) ≡ Less }
+    requires ends { left_ends_first
+        ≡ is_lt (R.places.order (R.places.end_place left.now) (R.places.end_place right.now)) }
+    requires in_order { (reaches R.places left.now right.now
+        && reaches R.places right.now left.now) ≡ true
+        → R.places.order (R.places.start_place (later_start R.places left.now right.now))
+        (R.places.end_place (earlier_end R.places left.now right.now)) ≡ Less }
     requires faithful_keys { KeysCloneFaithfully R.Key.is_clone R.Key.cmp }
     ensures made { (rest : List R) → IfOk result (λ part. MatchOption part
         (with_common R.places left.now right.now rest ≡ rest)
         (λ range. TakesRange R.read (with_common R.places left.now right.now rest) (SomeWord range) rest)) }
-    ensures refused { OnErr result ((reaches R.places left.now right.now && reaches R.places right.now left.now) ≡ true) }
+    ensures refused { OnErr result
+        ((reaches R.places left.now right.now && reaches R.places right.now left.now) ≡ true) }
     ensures succeeds { KeysCloneInfallibly R.Key.is_infallible → IsOk result }
 {
     let first = if left.start().cmp(right.start()).is_lt() {
@@ -161,11 +170,21 @@ impl<C: Peek> Sides<C> {
     // Takes the next item, made of clones, and passes what has nothing in common. `Err` says that a
     // clone was refused: no item is lost then.
     fn try_next(&mut self) -> Result<Option<C::Range>, AllocError>
-        requires non_empty { AreNonEmptyRanges C.Range.read (intersection_items C.Range.places (ranges (C.left self.now.left)) (ranges (C.left self.now.right))) }
+        requires non_empty { AreNonEmptyRanges C.Range.read (intersection_items C.Range.places
+            (ranges (C.left self.now.left)) (ranges (C.left self.now.right))) }
         requires faithful_keys { KeysCloneFaithfully C.Range.Key.is_clone C.Range.Key.cmp }
-        ensures ok { IfOk result (λ item. TakesRange C.Range.read (intersection_items C.Range.places (ranges (C.left self.old.left)) (ranges (C.left self.old.right))) item (intersection_items C.Range.places (ranges (C.left self.new.left)) (ranges (C.left self.new.right)))) }
-        ensures err { OnErr result (intersection_items C.Range.places (ranges (C.left self.new.left)) (ranges (C.left self.new.right)) ≡ intersection_items C.Range.places (ranges (C.left self.old.left)) (ranges (C.left self.old.right))) }
-        ensures refused { OnErr result (intersection_items C.Range.places (ranges (C.left self.old.left)) (ranges (C.left self.old.right)) ≢ []) }
+        ensures ok { IfOk result (λ item. TakesRange C.Range.read
+            (intersection_items C.Range.places
+            (ranges (C.left self.old.left)) (ranges (C.left self.old.right)))
+            item
+            (intersection_items C.Range.places
+            (ranges (C.left self.new.left)) (ranges (C.left self.new.right)))) }
+        ensures err { OnErr result (intersection_items C.Range.places
+            (ranges (C.left self.new.left)) (ranges (C.left self.new.right))
+            ≡ intersection_items C.Range.places
+            (ranges (C.left self.old.left)) (ranges (C.left self.old.right))) }
+        ensures refused { OnErr result (intersection_items C.Range.places
+            (ranges (C.left self.old.left)) (ranges (C.left self.old.right)) ≢ []) }
         ensures succeeds { KeysCloneInfallibly C.Range.Key.is_infallible → IsOk result }
     {
         'both: while let (Some(left_pair), Some(right_pair)) = (

@@ -35,7 +35,9 @@ impl<Q: Kind<R>, R: KeyRange, C: Cursor<Range = R>> Model for SymmetricDifferenc
 
     ghost Value = { List R };
 
-    ghost view = { λ s. if s.is_done then [] else parts_ready Q.kind Q.end_place Q.part_of s.parts.pending (crossed Q.kind Q.end_place s.parts.sides.left s.parts.sides.right) };
+    ghost view = { λ s. if s.is_done then []
+        else parts_ready Q.kind Q.end_place Q.part_of s.parts.pending
+        (crossed Q.kind Q.end_place s.parts.sides.left s.parts.sides.right) };
 }
 
 impl<Q: Kind<R>, R: KeyRange, C: Peek<Range = R>> SymmetricDifference<Q, R, C> {
@@ -47,7 +49,8 @@ impl<Q: Kind<R>, R: KeyRange, C: Peek<Range = R>> SymmetricDifference<Q, R, C> {
     pub fn over(left: C, right: C) -> Self
         requires left { IsCanonicalSet Q.kind (ranges (C.left left)) }
         requires right { IsCanonicalSet Q.kind (ranges (C.left right)) }
-        ensures items { result ≡ exchanged_items Q.kind Q.end_place Q.part_of (ranges (C.left left)) (ranges (C.left right)) }
+        ensures items { result ≡ exchanged_items Q.kind Q.end_place Q.part_of
+            (ranges (C.left left)) (ranges (C.left right)) }
         ensures one_only { AreOneOnly Q.kind (ranges (C.left left)) (ranges (C.left right)) result }
     {
         let mut sides = Sides::over(left, right);
@@ -125,11 +128,17 @@ impl<C: Peek> Parts<C> {
     fn try_next<Q: Kind<C::Range>>(&mut self) -> Result<Option<C::Range>, AllocError>
         requires faithful_keys { KeysCloneFaithfully C.Range.Key.is_clone C.Range.Key.cmp }
         ensures ok { IfOk result (λ item. TakesRange Q.kind
-            (parts_ready Q.kind Q.end_place Q.part_of self.old.pending (crossed Q.kind Q.end_place self.old.sides.left self.old.sides.right)) item
-            (parts_ready Q.kind Q.end_place Q.part_of self.new.pending (crossed Q.kind Q.end_place self.new.sides.left self.new.sides.right))) }
-        ensures err { OnErr result (parts_ready Q.kind Q.end_place Q.part_of self.new.pending (crossed Q.kind Q.end_place self.new.sides.left self.new.sides.right)
-            ≡ parts_ready Q.kind Q.end_place Q.part_of self.old.pending (crossed Q.kind Q.end_place self.old.sides.left self.old.sides.right)) }
-        ensures refused { OnErr result (parts_ready Q.kind Q.end_place Q.part_of self.old.pending (crossed Q.kind Q.end_place self.old.sides.left self.old.sides.right) ≢ []) }
+            (parts_ready Q.kind Q.end_place Q.part_of self.old.pending
+            (crossed Q.kind Q.end_place self.old.sides.left self.old.sides.right))
+            item
+            (parts_ready Q.kind Q.end_place Q.part_of self.new.pending
+            (crossed Q.kind Q.end_place self.new.sides.left self.new.sides.right))) }
+        ensures err { OnErr result (parts_ready Q.kind Q.end_place Q.part_of self.new.pending
+            (crossed Q.kind Q.end_place self.new.sides.left self.new.sides.right)
+            ≡ parts_ready Q.kind Q.end_place Q.part_of self.old.pending
+            (crossed Q.kind Q.end_place self.old.sides.left self.old.sides.right)) }
+        ensures refused { OnErr result (parts_ready Q.kind Q.end_place Q.part_of self.old.pending
+            (crossed Q.kind Q.end_place self.old.sides.left self.old.sides.right) ≢ []) }
         ensures succeeds { KeysCloneInfallibly C.Range.Key.is_infallible → IsOk result }
     {
         'parts: while let Some((from, to)) = &self.pending {

@@ -37,9 +37,13 @@ impl<C: Cursor<Range: KeyRange>> Model for Union<C> {
 
     ghost Value = { List C.Range };
 
-    ghost view = { λ s. if s.is_done then [] else items_left C.Range.places C.given s.sides.first s.sides.last (C.left s.sides.left) (C.left s.sides.right) };
+    ghost view = { λ s. if s.is_done then []
+        else items_left C.Range.places C.given s.sides.first s.sides.last
+        (C.left s.sides.left) (C.left s.sides.right) };
 
-    ghost invariant = { λ s. AreNonEmptyRanges C.Range.read (items_left C.Range.places C.given s.sides.first s.sides.last (C.left s.sides.left) (C.left s.sides.right)) };
+    ghost invariant = { λ s. AreNonEmptyRanges C.Range.read
+        (items_left C.Range.places C.given s.sides.first s.sides.last
+        (C.left s.sides.left) (C.left s.sides.right)) };
 }
 
 impl<C: Peek> Union<C> {
@@ -132,7 +136,8 @@ impl<C: Peek> Iterator for Union<C> {
 // Whether the first range of the left list comes before that of the right one. Of two that start
 // alike the right one does.
 fn is_left_first<C: Peek>(left: &mut C, right: &mut C) -> bool
-    ensures first { result ≡ left_first C.Range.places (ranges (C.left left.old)) (ranges (C.left right.old)) }
+    ensures first { result ≡ left_first C.Range.places
+        (ranges (C.left left.old)) (ranges (C.left right.old)) }
     ensures same_left { C.left left.new ≡ C.left left.old }
     ensures same_right { C.left right.new ≡ C.left right.old }
 {
@@ -154,8 +159,13 @@ fn take_reached<C: Peek>(
     right: &mut C,
 ) -> Option<(C::Given, C::GivenValue)>
     ensures { MatchOption result
-        ((C.left left.new ≡ C.left left.old) × (C.left right.new ≡ C.left right.old) × IsUnreached C.Range.places last.now (merged C.Range.places (ranges (C.left left.old)) (ranges (C.left right.old))))
-        (λ first. (reaches C.Range.places last.now (shown_range C.given first) ≡ true) × (merged C.Range.places (ranges (C.left left.old)) (ranges (C.left right.old)) ≡ shown_range C.given first ∷ merged C.Range.places (ranges (C.left left.new)) (ranges (C.left right.new)))) }
+        ((C.left left.new ≡ C.left left.old) × (C.left right.new ≡ C.left right.old)
+        × IsUnreached C.Range.places last.now
+        (merged C.Range.places (ranges (C.left left.old)) (ranges (C.left right.old))))
+        (λ first. (reaches C.Range.places last.now (shown_range C.given first) ≡ true)
+        × (merged C.Range.places (ranges (C.left left.old)) (ranges (C.left right.old))
+        ≡ shown_range C.given first
+        ∷ merged C.Range.places (ranges (C.left left.new)) (ranges (C.left right.new)))) }
 {
     if is_left_first(left, right) {
         take_if_reached(last, left)
@@ -167,8 +177,10 @@ fn take_reached<C: Peek>(
 // Takes the first pair of one list, if its range starts before `last` ends, or, of closed ranges, there.
 fn take_if_reached<C: Peek>(last: &C::Range, side: &mut C) -> Option<(C::Given, C::GivenValue)>
     ensures { MatchOption result
-        ((C.left side.new ≡ C.left side.old) × IsUnreached C.Range.places last.now (ranges (C.left side.old)))
-        (λ first. (reaches C.Range.places last.now (shown_range C.given first) ≡ true) × (ranges (C.left side.old) ≡ shown_range C.given first ∷ ranges (C.left side.new))) }
+        ((C.left side.new ≡ C.left side.old)
+        × IsUnreached C.Range.places last.now (ranges (C.left side.old)))
+        (λ first. (reaches C.Range.places last.now (shown_range C.given first) ≡ true)
+        × (ranges (C.left side.old) ≡ shown_range C.given first ∷ ranges (C.left side.new))) }
 {
     match side.peek() {
         Some(first) if last.reaches(C::parts(&first).0.start()) => side.take_first(),
@@ -196,10 +208,19 @@ fn join<C: Peek>(
     left: &mut C,
     right: &mut C,
 )
-    ensures same { items_from C.Range.places (shown_range C.given first.now) (shown_range C.given (unwrap_or last.old first.now)) (merged C.Range.places (ranges (C.left left.old)) (ranges (C.left right.old)))
-        ≡ items_from C.Range.places (shown_range C.given first.now) (shown_range C.given (unwrap_or last.new first.now)) (merged C.Range.places (ranges (C.left left.new)) (ranges (C.left right.new))) }
-    ensures ended { items_from C.Range.places (shown_range C.given first.now) (shown_range C.given (unwrap_or last.new first.now)) (merged C.Range.places (ranges (C.left left.new)) (ranges (C.left right.new)))
-        ≡ C.Range.places.between (shown_range C.given first.now) (shown_range C.given (unwrap_or last.new first.now)) ∷ items_of C.Range.places (merged C.Range.places (ranges (C.left left.new)) (ranges (C.left right.new))) }
+    ensures same { items_from C.Range.places
+        (shown_range C.given first.now) (shown_range C.given (unwrap_or last.old first.now))
+        (merged C.Range.places (ranges (C.left left.old)) (ranges (C.left right.old)))
+        ≡ items_from C.Range.places
+        (shown_range C.given first.now) (shown_range C.given (unwrap_or last.new first.now))
+        (merged C.Range.places (ranges (C.left left.new)) (ranges (C.left right.new))) }
+    ensures ended { items_from C.Range.places
+        (shown_range C.given first.now) (shown_range C.given (unwrap_or last.new first.now))
+        (merged C.Range.places (ranges (C.left left.new)) (ranges (C.left right.new)))
+        ≡ C.Range.places.between (shown_range C.given first.now)
+        (shown_range C.given (unwrap_or last.new first.now))
+        ∷ items_of C.Range.places
+        (merged C.Range.places (ranges (C.left left.new)) (ranges (C.left right.new))) }
 {
     'joined: while let Some(next) = take_reached(last_of::<C>(first, last), left, right) {
         let end = C::parts(&next).0.end();
@@ -226,9 +247,17 @@ impl<C: Peek> Sides<C> {
     fn begin(&mut self) -> Option<((C::Given, C::GivenValue), Option<(C::Given, C::GivenValue)>)>
         ensures none_begun { self.new.first ≡ NoneWord }
         ensures begun { MatchOption result
-            ((items_left C.Range.places C.given self.old.first self.old.last (C.left self.old.left) (C.left self.old.right) ≡ []) × (merged C.Range.places (ranges (C.left self.new.left)) (ranges (C.left self.new.right)) ≡ []))
-            (λ begun. items_left C.Range.places C.given self.old.first self.old.last (C.left self.old.left) (C.left self.old.right)
-            ≡ items_from C.Range.places (shown_range C.given begun.0) (shown_range C.given (unwrap_or begun.1 begun.0)) (merged C.Range.places (ranges (C.left self.new.left)) (ranges (C.left self.new.right)))) }
+            ((items_left C.Range.places C.given self.old.first self.old.last
+            (C.left self.old.left) (C.left self.old.right) ≡ [])
+            × (merged C.Range.places
+            (ranges (C.left self.new.left)) (ranges (C.left self.new.right)) ≡ []))
+            (λ begun.
+            items_left C.Range.places C.given self.old.first self.old.last
+            (C.left self.old.left) (C.left self.old.right)
+            ≡ items_from C.Range.places
+            (shown_range C.given begun.0) (shown_range C.given (unwrap_or begun.1 begun.0))
+            (merged C.Range.places
+            (ranges (C.left self.new.left)) (ranges (C.left self.new.right)))) }
     {
         if let Some(first) = self.first.take() {
             return Some((first, self.last.take()));
@@ -242,11 +271,23 @@ impl<C: Peek> Sides<C> {
 
     // Takes the next item, made of clones. `Err` says that a clone was refused: no item is lost then.
     fn try_next(&mut self) -> Result<Option<C::Range>, AllocError>
-        requires non_empty { AreNonEmptyRanges C.Range.read (items_left C.Range.places C.given self.now.first self.now.last (C.left self.now.left) (C.left self.now.right)) }
+        requires non_empty { AreNonEmptyRanges C.Range.read
+            (items_left C.Range.places C.given self.now.first self.now.last
+            (C.left self.now.left) (C.left self.now.right)) }
         requires faithful_keys { KeysCloneFaithfully C.Range.Key.is_clone C.Range.Key.cmp }
-        ensures ok { IfOk result (λ item. TakesRange C.Range.read (items_left C.Range.places C.given self.old.first self.old.last (C.left self.old.left) (C.left self.old.right)) item (items_left C.Range.places C.given self.new.first self.new.last (C.left self.new.left) (C.left self.new.right))) }
-        ensures err { OnErr result (items_left C.Range.places C.given self.new.first self.new.last (C.left self.new.left) (C.left self.new.right) ≡ items_left C.Range.places C.given self.old.first self.old.last (C.left self.old.left) (C.left self.old.right)) }
-        ensures refused { OnErr result (items_left C.Range.places C.given self.old.first self.old.last (C.left self.old.left) (C.left self.old.right) ≢ []) }
+        ensures ok { IfOk result (λ item. TakesRange C.Range.read
+            (items_left C.Range.places C.given self.old.first self.old.last
+            (C.left self.old.left) (C.left self.old.right))
+            item
+            (items_left C.Range.places C.given self.new.first self.new.last
+            (C.left self.new.left) (C.left self.new.right))) }
+        ensures err { OnErr result (items_left C.Range.places C.given self.new.first self.new.last
+            (C.left self.new.left) (C.left self.new.right)
+            ≡ items_left C.Range.places C.given self.old.first self.old.last
+            (C.left self.old.left) (C.left self.old.right)) }
+        ensures refused { OnErr result
+            (items_left C.Range.places C.given self.old.first self.old.last
+            (C.left self.old.left) (C.left self.old.right) ≢ []) }
         ensures succeeds { KeysCloneInfallibly C.Range.Key.is_infallible → IsOk result }
     {
         let Some((first, mut last)) = self.begin() else {

@@ -105,7 +105,8 @@ impl Join {
         S::Kind: Kind<S::Range, Steps = <S::Range as KeyRange>::Key>,
         S::Alloc: Clone,
         requires faithful_keys { KeysCloneFaithfully S.Range.Key.is_clone S.Range.Key.cmp }
-        ensures { IfOk result (IsCanonOfPoints S.Kind.kind (made_by self (covers S.Kind.kind left.now) (covers S.Kind.kind right.now))) }
+        ensures { IfOk result (IsCanonOfPoints S.Kind.kind
+            (made_by self (covers S.Kind.kind left.now) (covers S.Kind.kind right.now))) }
     {
         match self {
             Join::Union => left | right,
@@ -128,7 +129,9 @@ where
     S::Kind: Kind<S::Range, Steps = <S::Range as KeyRange>::Key>,
     requires room { vec_len sets.old < vec_capacity sets.old }
     requires faithful_keys { KeysCloneFaithfully S.Range.Key.is_clone S.Range.Key.cmp }
-    ensures made { Makes S.Kind.kind (unit_eq S.Kind.kind) (with_unit S.Kind.kind) (SetStep {A = S.Alloc} S.Kind.kind) sets.old.items (joining join left right) result sets.new.items }
+    ensures made { Makes S.Kind.kind (unit_eq S.Kind.kind)
+        (with_unit S.Kind.kind) (SetStep {A = S.Alloc} S.Kind.kind) sets.old.items
+        (joining join left right) result sets.new.items }
     ensures len { vec_len sets.new ≤ vec_len sets.old + 1 }
     ensures capacity { vec_capacity sets.old ≤ vec_capacity sets.new }
 {

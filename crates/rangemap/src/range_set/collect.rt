@@ -75,11 +75,16 @@ where
     /// after it are dropped. If no item comes, the call succeeds and changes nothing.
     pub fn extend<I: IntoIterator<Item = S::Range>>(&mut self, iter: I) -> Result<(), AllocError>
         requires ends { IsFiniteIterable I.into_iter_gives I.IntoIter.can_next I.IntoIter.remaining iter }
-        requires non_empty { (it : I.IntoIter) → I.into_iter_gives iter it → GivesNonEmptyRanges S.Kind.kind I.IntoIter.next_gives it }
+        requires non_empty { (it : I.IntoIter) → I.into_iter_gives iter it
+            → GivesNonEmptyRanges S.Kind.kind I.IntoIter.next_gives it }
         requires faithful_keys { KeysCloneFaithfully S.Range.Key.is_clone S.Range.Key.cmp }
-        ensures items { ExtendsWithItems I.into_iter_gives I.IntoIter.next_gives (Adds S.Kind.kind) iter self.old self.new result }
-        ensures err { OnErr result (StopsBeforeItem I.into_iter_gives I.IntoIter.next_gives (Adds S.Kind.kind) iter self.old self.new) }
-        ensures of_nothing { ((it : I.IntoIter) → I.into_iter_gives iter it → GivesNothing I.IntoIter.next_gives it) → IsOk result × (self.new ≡ self.old) }
+        ensures items { ExtendsWithItems I.into_iter_gives I.IntoIter.next_gives
+            (Adds S.Kind.kind) iter self.old self.new result }
+        ensures err { OnErr result (StopsBeforeItem I.into_iter_gives I.IntoIter.next_gives
+            (Adds S.Kind.kind) iter self.old self.new) }
+        ensures of_nothing { ((it : I.IntoIter) → I.into_iter_gives iter it
+            → GivesNothing I.IntoIter.next_gives it)
+            → IsOk result × (self.new ≡ self.old) }
     {
         self.known();
         for range in iter {
@@ -108,10 +113,16 @@ where
         iter: I,
     ) -> Result<Self, AllocError>
         requires ends { IsFiniteIterable I.into_iter_gives I.IntoIter.can_next I.IntoIter.remaining iter }
-        requires non_empty { (it : I.IntoIter) → I.into_iter_gives iter it → GivesNonEmptyRanges S.Kind.kind I.IntoIter.next_gives it }
+        requires non_empty { (it : I.IntoIter) → I.into_iter_gives iter it
+            → GivesNonEmptyRanges S.Kind.kind I.IntoIter.next_gives it }
         requires faithful_keys { KeysCloneFaithfully S.Range.Key.is_clone S.Range.Key.cmp }
-        ensures items { IfOk result (λ all. (it : I.IntoIter) × (ranges : List _) × I.into_iter_gives iter it × Drains I.IntoIter.next_gives it ranges × IsCanonOfPoints S.Kind.kind (covers S.Kind.kind ranges) all) }
-        ensures of_nothing { ((it : I.IntoIter) → I.into_iter_gives iter it → GivesNothing I.IntoIter.next_gives it) → IsOk result }
+        ensures items { IfOk result
+            (λ all. (it : I.IntoIter) × (ranges : List _) × I.into_iter_gives iter it
+            × Drains I.IntoIter.next_gives it ranges
+            × IsCanonOfPoints S.Kind.kind (covers S.Kind.kind ranges) all) }
+        ensures of_nothing { ((it : I.IntoIter) → I.into_iter_gives iter it
+            → GivesNothing I.IntoIter.next_gives it)
+            → IsOk result }
     {
         let mut all = Set::new(alloc);
         all.extend(iter)?;

@@ -76,7 +76,9 @@ where
 
     ghost hash_input = { ranges_fed S.Kind.kind S.Range.Key.hash_input };
 
-    ghost respects_eq = { (ranges_fed_alike S.Kind.kind (alike_in (cmp_is S.Kind.reads S.Range.order) (alike_by S.Range.Key.matches_eq (record { fed = S.Range.Key.respects_eq })))).fed };
+    ghost respects_eq = { (ranges_fed_alike S.Kind.kind
+        (alike_in (cmp_is S.Kind.reads S.Range.order)
+        (alike_by S.Range.Key.matches_eq (record { fed = S.Range.Key.respects_eq })))).fed };
 
     /// Feeds the number of stored ranges, and then the start and the end of each.
     fn hash<H: Hasher>(&self, state: &mut H) {

@@ -132,7 +132,8 @@ impl<S: Store<Value = ()>> Set<S> {
         state: &mut U::State,
     ) -> U::Answer
         requires { U.may_read (overlapped S.Kind.kind (with_unit S.Kind.kind self.now) range.now) state.old }
-        ensures { U.reads (overlapped S.Kind.kind (with_unit S.Kind.kind self.now) range.now) state.old result state.new }
+        ensures { U.reads (overlapped S.Kind.kind (with_unit S.Kind.kind self.now) range.now)
+            state.old result state.new }
     {
         self.stored.read_overlapping::<U>(range, state)
     }

@@ -44,8 +44,10 @@ where
         write_key: WK,
     ) -> Result<Value, WriteError<E>>
         requires keys { WK.IsAlwaysCallable write_key }
-        ensures ok { IfOk result (IsForm S.Kind.kind (set_writer (FnReturnsAt WK.Fn write_key)) (with_unit S.Kind.kind self.now)) }
-        ensures err { IfErr result (RefusesToWrite S.Kind.kind (set_writer (FnReturnsAt WK.Fn write_key)) (with_unit S.Kind.kind self.now)) }
+        ensures ok { IfOk result (IsForm S.Kind.kind (set_writer (FnReturnsAt WK.Fn write_key))
+            (with_unit S.Kind.kind self.now)) }
+        ensures err { IfErr result (RefusesToWrite S.Kind.kind
+            (set_writer (FnReturnsAt WK.Fn write_key)) (with_unit S.Kind.kind self.now)) }
     {
         let writer = SetWriter { write_key };
         write(alloc, &self.stored, writer)
@@ -101,9 +103,13 @@ where
     ) -> Result<Self, ReadError<E>>
         requires keys { RK.IsAlwaysCallable read_key }
         requires faithful_keys { KeysCloneFaithfully S.Range.Key.is_clone S.Range.Key.cmp }
-        ensures ok { IfOk result (λ all. IsReading S.Kind.kind (set_reader (FnReturnsAt RK.Fn read_key)) (unit_eq S.Kind.kind) form value.now (with_unit S.Kind.kind all)) }
-        ensures err { IfErr result (RefusesToRead S.Kind.kind (set_reader (FnReturnsAt RK.Fn read_key)) (unit_eq S.Kind.kind) form value.now) }
-        ensures exact { IfErr result (IsRefusedForMemoryAlone S.Kind.kind (set_reader (FnReturnsAt RK.Fn read_key)) (unit_eq S.Kind.kind) form value.now) }
+        ensures ok { IfOk result
+            (λ all. IsReading S.Kind.kind (set_reader (FnReturnsAt RK.Fn read_key))
+            (unit_eq S.Kind.kind) form value.now (with_unit S.Kind.kind all)) }
+        ensures err { IfErr result (RefusesToRead S.Kind.kind
+            (set_reader (FnReturnsAt RK.Fn read_key)) (unit_eq S.Kind.kind) form value.now) }
+        ensures exact { IfErr result (IsRefusedForMemoryAlone S.Kind.kind
+            (set_reader (FnReturnsAt RK.Fn read_key)) (unit_eq S.Kind.kind) form value.now) }
         ensures of_nothing { list_of value.now ≡ SomeWord [] → IsOk result }
     {
         let reader = SetReader { read_key };

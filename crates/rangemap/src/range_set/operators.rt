@@ -286,7 +286,8 @@ impl Operator {
         S::Kind: Kind<S::Range, Steps = <S::Range as KeyRange>::Key>,
         S::Alloc: Clone,
         requires faithful_keys { KeysCloneFaithfully S.Range.Key.is_clone S.Range.Key.cmp }
-        ensures { IfOk result (IsCanonOfPoints S.Kind.kind (joined self (covers S.Kind.kind left.now) (covers S.Kind.kind right.now))) }
+        ensures { IfOk result (IsCanonOfPoints S.Kind.kind
+            (joined self (covers S.Kind.kind left.now) (covers S.Kind.kind right.now))) }
     {
         match self {
             Operator::Union => left | right,

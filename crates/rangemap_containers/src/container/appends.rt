@@ -30,9 +30,14 @@ impl<Q: Kind<R>, R: KeyRange, V: Eq + Clone, B: Allocator> Reader<R, V> for Appe
 
     type Answer = Result<(), AllocError>;
 
-    ghost may_read = { λ pairs _. Every (λ pair. IsStorable Q.kind pair.0) pairs × KeysCloneFaithfully R.Key.is_clone R.Key.cmp × ValuesCloneFaithfully V.is_clone V.eq };
+    ghost may_read = { λ pairs _. Every (λ pair. IsStorable Q.kind pair.0) pairs
+        × KeysCloneFaithfully R.Key.is_clone R.Key.cmp
+        × ValuesCloneFaithfully V.is_clone V.eq };
 
-    ghost reads = { λ pairs old result new. OnOk result (Appends Q.kind V.eq pairs old.items new.items) × OnErr result (new.items ≡ old.items) × (pairs ≡ [] → IsOk result × (new.items ≡ old.items)) };
+    ghost reads = { λ pairs old result new.
+        OnOk result (Appends Q.kind V.eq pairs old.items new.items)
+        × OnErr result (new.items ≡ old.items)
+        × (pairs ≡ [] → IsOk result × (new.items ≡ old.items)) };
 
     fn read<C: Cursor<Range = R, Value = V, Given: Drop, GivenValue: Drop>>(
         pairs: C,

@@ -22,7 +22,8 @@ impl<'q, Q: Kind<R>, R: KeyRange, V> Reader<R, V> for IsCovered<'q, Q, R> {
 
     type Answer = bool;
 
-    ghost reads = { λ pairs range result _. result ≡ nat_eq (length (gaps_from Q.kind Q.end_place Q.part_of (AtStart range.now) range.now pairs)) 0 };
+    ghost reads = { λ pairs range result _. result ≡ nat_eq
+        (length (gaps_from Q.kind Q.end_place Q.part_of (AtStart range.now) range.now pairs)) 0 };
 
     fn read<C: Cursor<Range = R, Value = V, Given: Drop, GivenValue: Drop>>(
         pairs: C,
@@ -47,7 +48,8 @@ impl<'q, Q: Kind<R>, R: KeyRange, V> Reader<R, V> for IsCovered<'q, Q, R> {
 /// It takes *O*(log *n* + *k*), with *k* stored ranges that `range` overlaps, and no memory. It looks at
 /// them up to the first gap.
 pub fn covers<S: Store>(stored: &S, range: &S::Range) -> bool
-    ensures { IsTrue result ↔ AreCovered S.Kind.kind (S.Kind.kind.holds range.now) (ranges (S.pairs stored.now)) }
+    ensures { IsTrue result
+        ↔ AreCovered S.Kind.kind (S.Kind.kind.holds range.now) (ranges (S.pairs stored.now)) }
 {
     stored.known();
     known_ends::<S::Kind, S::Range>(range);
@@ -58,7 +60,8 @@ pub fn covers<S: Store>(stored: &S, range: &S::Range) -> bool
 // Returns whether every key of a stored range is covered, if `covered` is true, or else whether none is.
 fn is_each<S: Store>(stored: &S, range: &S::Range, covered: bool) -> bool
     requires { IsStorable S.Kind.kind range.now }
-    ensures { IsTrue result ↔ IsEach S.Kind.kind covered (S.Kind.kind.holds range.now) (ranges (S.pairs stored.now)) }
+    ensures { IsTrue result
+        ↔ IsEach S.Kind.kind covered (S.Kind.kind.holds range.now) (ranges (S.pairs stored.now)) }
 {
     stored.known();
     if covered {
@@ -90,7 +93,9 @@ impl<'s, S: Store> Reader<S::Range, S::Value> for AreEach<'s, S> {
 
     ghost may_read = { λ pairs _. Every (λ pair. IsStorable S.Kind.kind pair.0) pairs };
 
-    ghost reads = { λ pairs asked result _. IsTrue result ↔ IsEach S.Kind.kind asked.covered (covers S.Kind.kind (ranges pairs)) (ranges (S.pairs asked.other.now)) };
+    ghost reads = { λ pairs asked result _. IsTrue result
+        ↔ IsEach S.Kind.kind asked.covered (covers S.Kind.kind (ranges pairs))
+        (ranges (S.pairs asked.other.now)) };
 
     fn read<C: Cursor<Range = S::Range, Value = S::Value, Given: Drop, GivenValue: Drop>>(
         pairs: C,
@@ -112,7 +117,9 @@ impl<'s, S: Store> Reader<S::Range, S::Value> for AreEach<'s, S> {
 /// *O*(*n* log *m*) at most, with *n* ranges in `stored` and *m* in `other`, and no memory.
 #[tactic(auto, using(rangemap_core::proofs::StoredLemmas::all_storable))]
 pub fn is_subset<S: Store>(stored: &S, other: &S) -> bool
-    ensures { IsTrue result ↔ AreCovered S.Kind.kind (covers S.Kind.kind (ranges (S.pairs stored.now))) (ranges (S.pairs other.now)) }
+    ensures { IsTrue result
+        ↔ AreCovered S.Kind.kind (covers S.Kind.kind (ranges (S.pairs stored.now)))
+        (ranges (S.pairs other.now)) }
 {
     stored.known();
     let covered = true;
@@ -122,7 +129,8 @@ pub fn is_subset<S: Store>(stored: &S, other: &S) -> bool
 // Returns whether `other` covers no key that `stored` covers.
 #[tactic(auto, using(rangemap_core::proofs::StoredLemmas::all_storable))]
 fn is_free<S: Store>(stored: &S, other: &S) -> bool
-    ensures { IsTrue result ↔ AreDisjoint S.Kind.kind (ranges (S.pairs stored.now)) (ranges (S.pairs other.now)) }
+    ensures { IsTrue result
+        ↔ AreDisjoint S.Kind.kind (ranges (S.pairs stored.now)) (ranges (S.pairs other.now)) }
 {
     stored.known();
     let covered = false;
@@ -134,7 +142,8 @@ fn is_free<S: Store>(stored: &S, other: &S) -> bool
 /// It asks the longer store about each range of the shorter, up to the first that has a common key. That
 /// takes *O*(*n* log *m*) at most, with *n* ranges in the shorter and *m* in the longer, and no memory.
 pub fn is_disjoint<S: Store>(stored: &S, other: &S) -> bool
-    ensures { IsTrue result ↔ AreDisjoint S.Kind.kind (ranges (S.pairs stored.now)) (ranges (S.pairs other.now)) }
+    ensures { IsTrue result
+        ↔ AreDisjoint S.Kind.kind (ranges (S.pairs stored.now)) (ranges (S.pairs other.now)) }
 {
     if stored.len() <= other.len() {
         is_free(stored, other)

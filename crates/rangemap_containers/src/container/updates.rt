@@ -46,8 +46,10 @@ where
     requires callable { F.IsAlwaysCallable change }
     requires faithful_keys { KeysCloneFaithfully M.Range.Key.is_clone M.Range.Key.cmp }
     requires faithful_values { ValuesCloneFaithfully M.Value.is_clone M.Value.eq }
-    ensures ok { OnOk result (UpdatesAll M.Kind.kind M.Value.eq (FnReturnsAt F.Fn change) range.now (M.pairs container.old) (M.pairs container.new)) }
-    ensures err { OnErr result (UpdatesSome M.Kind.kind M.Value.eq (FnReturnsAt F.Fn change) range.now (M.pairs container.old) (M.pairs container.new)) }
+    ensures ok { OnOk result (UpdatesAll M.Kind.kind M.Value.eq (FnReturnsAt F.Fn change) range.now
+        (M.pairs container.old) (M.pairs container.new)) }
+    ensures err { OnErr result (UpdatesSome M.Kind.kind M.Value.eq
+        (FnReturnsAt F.Fn change) range.now (M.pairs container.old) (M.pairs container.new)) }
 {
     known_ends::<M::Kind, M::Range>(range);
     container.known();
@@ -71,7 +73,10 @@ fn insert_shared<M: Container>(
 ) -> Result<(), AllocError>
     requires faithful_keys { KeysCloneFaithfully M.Range.Key.is_clone M.Range.Key.cmp }
     requires faithful_values { ValuesCloneFaithfully M.Value.is_clone M.Value.eq }
-    ensures ok { OnOk result (IsCanonOf M.Kind.kind M.Value.eq (λ key. if M.Kind.kind.holds first.now key && M.Kind.kind.holds second.now key then SomeWord value else value_at M.Kind.kind (M.pairs container.old) key) (M.pairs container.new)) }
+    ensures ok { OnOk result (IsCanonOf M.Kind.kind M.Value.eq
+        (λ key. if M.Kind.kind.holds first.now key && M.Kind.kind.holds second.now key
+        then SomeWord value else value_at M.Kind.kind (M.pairs container.old) key)
+        (M.pairs container.new)) }
     ensures err { OnErr result (M.pairs container.new ≡ M.pairs container.old) }
 {
     let Some(shared) = common::<M::Kind, M::Range>(first, second)? else {

@@ -34,7 +34,8 @@ impl<
 
     ghost is_ready = { λ it. RK.IsAlwaysCallable it.read_key × RV.IsAlwaysCallable it.read_value };
 
-    ghost unambiguous = { λ it. map_unambiguous (FnReturnsAt RK.Fn it.read_key) (FnReturnsAt RV.Fn it.read_value) };
+    ghost unambiguous = { λ it.
+        map_unambiguous (FnReturnsAt RK.Fn it.read_key) (FnReturnsAt RV.Fn it.read_value) };
 
     fn parts<'a>(&self, entry: &'a Value) -> Option<(&'a Value, &'a Value, &'a Value)> {
         let (range, value) = two_of(entry)?;
@@ -149,7 +150,9 @@ impl<S: Store<Value = ()>, E, WK: Fn(&<S::Range as KeyRange>::Key) -> Result<Val
 
 // The items of a list of exactly two.
 fn two_of<'a>(value: &'a Value) -> Option<(&'a Value, &'a Value)>
-    ensures { MatchOption result ((first second : Json) → list_of value.now ≡ SomeWord (first ∷ second ∷ []) → ⊥) (λ parts. list_of value.now ≡ SomeWord (parts.0.now ∷ parts.1.now ∷ [])) }
+    ensures { MatchOption result
+        ((first second : Json) → list_of value.now ≡ SomeWord (first ∷ second ∷ []) → ⊥)
+        (λ parts. list_of value.now ≡ SomeWord (parts.0.now ∷ parts.1.now ∷ [])) }
 {
     let Value::Array(items) = value else {
         return None;

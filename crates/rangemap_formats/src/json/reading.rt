@@ -26,7 +26,9 @@ pub(crate) trait ReadsParts<S: Store, E> {
 
     /// Returns the start, the end and the value of an entry, if it is laid out so.
     fn parts<'a>(&self, entry: &'a Value) -> Option<(&'a Value, &'a Value, &'a Value)>
-        ensures { MatchOption result ((start end value : Json) → (reader self.now).shape entry.now start end value → ⊥) (λ parts. (reader self.now).shape entry.now parts.0.now parts.1.now parts.2.now) };
+        ensures { MatchOption result
+            ((start end value : Json) → (reader self.now).shape entry.now start end value → ⊥)
+            (λ parts. (reader self.now).shape entry.now parts.0.now parts.1.now parts.2.now) };
 
     /// Reads a key.
     fn key(&self, part: &Value) -> Result<<S::Range as KeyRange>::Key, E>
@@ -61,9 +63,11 @@ pub fn read<S: StoreMut + Drop, E, R: ReadsParts<S, E>>(
     requires ready { R.is_ready reader.now }
     requires faithful_keys { KeysCloneFaithfully S.Range.Key.is_clone S.Range.Key.cmp }
     requires faithful_values { ValuesCloneFaithfully S.Value.is_clone S.Value.eq }
-    ensures ok { IfOk result (λ all. IsReading S.Kind.kind (R.reader reader.now) S.Value.eq form value.now (S.pairs all)) }
+    ensures ok { IfOk result (λ all. IsReading S.Kind.kind
+        (R.reader reader.now) S.Value.eq form value.now (S.pairs all)) }
     ensures err { IfErr result (RefusesToRead S.Kind.kind (R.reader reader.now) S.Value.eq form value.now) }
-    ensures exact { IfErr result (IsRefusedForMemoryAlone S.Kind.kind (R.reader reader.now) S.Value.eq form value.now) }
+    ensures exact { IfErr result
+        (IsRefusedForMemoryAlone S.Kind.kind (R.reader reader.now) S.Value.eq form value.now) }
 {
     let Value::Array(entries) = value else {
         return Err(ReadError::NotAList);
@@ -84,7 +88,8 @@ fn read_entry<S: Store, E, R: ReadsParts<S, E>>(
     reader: &R,
 ) -> Result<(S::Range, S::Value), ReadError<E>>
     requires { R.is_ready reader.now }
-    ensures ok { IfOk result (λ pair. IsStorable S.Kind.kind pair.0 × IsRead S.Kind.kind (R.reader reader.now) pair entry.now) }
+    ensures ok { IfOk result (λ pair. IsStorable S.Kind.kind pair.0
+        × IsRead S.Kind.kind (R.reader reader.now) pair entry.now) }
     ensures err { IfErr result (IsEntryFault S.Kind.kind (R.reader reader.now) at entry.now) }
 {
     let Some((start, end, value)) = reader.parts(entry) else {
@@ -123,8 +128,11 @@ fn check_form<S: Store, E>(
     range: &S::Range,
     value: &S::Value,
 ) -> Result<(), ReadError<E>>
-    ensures ok { OnOk result (form ≡ CanonicalWord → (last : _) → EndsWith (S.pairs all.now) last → Follows S.Kind.kind S.Value.eq last (range.now, value.now)) }
-    ensures err { IfErr result (λ error. (form ≡ CanonicalWord) × ((last : _) × EndsWith (S.pairs all.now) last × Breaks S.Kind.kind S.Value.eq at last (range.now, value.now) error)) }
+    ensures ok { OnOk result (form ≡ CanonicalWord → (last : _) → EndsWith (S.pairs all.now) last
+        → Follows S.Kind.kind S.Value.eq last (range.now, value.now)) }
+    ensures err { IfErr result (λ error. (form ≡ CanonicalWord)
+        × ((last : _) × EndsWith (S.pairs all.now) last
+        × Breaks S.Kind.kind S.Value.eq at last (range.now, value.now) error)) }
 {
     let Form::Canonical = form else {
         return Ok(());

@@ -29,7 +29,10 @@ pub(crate) trait WritesParts<S: Store, E>: Drop {
     /// `[start, end]`. The entry's memory comes from `alloc`.
     fn entry(&self, alloc: Global, range: Value, value: &S::Value) -> Result<Value, WriteError<E>>
         requires { is_ready self.now }
-        ensures ok { IfOk result (λ entry. (start end : Json) → list_of range ≡ SomeWord (start ∷ end ∷ []) → (part : Json) × (writer self.now).value value.now (OkWord part) × (writer self.now).shape entry start end part) }
+        ensures ok { IfOk result
+            (λ entry. (start end : Json) → list_of range ≡ SomeWord (start ∷ end ∷ [])
+            → (part : Json) × (writer self.now).value value.now (OkWord part)
+            × (writer self.now).shape entry start end part) }
         ensures err { IfErr result (CallerOr (λ fault. (writer self.now).value value.now (ErrWord fault))) };
 }
 
@@ -69,7 +72,9 @@ impl<S: Store, E, W: WritesParts<S, E>> Reader<S::Range, S::Value> for Entries<S
 
     ghost may_read = { λ _ state. W.is_ready state.1 };
 
-    ghost reads = { λ pairs state result _. IfOk result (IsForm S.Kind.kind (W.writer state.1) pairs) × IfErr result (RefusesToWrite S.Kind.kind (W.writer state.1) pairs) };
+    ghost reads = { λ pairs state result _.
+        IfOk result (IsForm S.Kind.kind (W.writer state.1) pairs)
+        × IfErr result (RefusesToWrite S.Kind.kind (W.writer state.1) pairs) };
 
     fn read<C: Cursor<Range = S::Range, Value = S::Value, Given: Drop, GivenValue: Drop>>(
         pairs: C,

@@ -56,7 +56,8 @@ fn get<M: Container, A: Allocator>(
     key: &<M::Range as KeyRange>::Key,
 ) -> Outcome<M::Range, M::Value, A>
     requires { ValuesCloneFaithfully M.Value.is_clone M.Value.eq }
-    ensures { CommandStep M.Kind.kind M.Value.eq (M.pairs map.now) (command_word.Get key.now) result (M.pairs map.now) }
+    ensures { CommandStep M.Kind.kind M.Value.eq (M.pairs map.now) (command_word.Get key.now) result
+        (M.pairs map.now) }
 {
     match map.get(key) {
         Some(value) => Ok(Answer::Value(Some(value.clone()?))),
@@ -71,7 +72,8 @@ fn get_key_value<M: Container, A: Allocator>(
 ) -> Outcome<M::Range, M::Value, A>
     requires faithful_keys { KeysCloneFaithfully M.Range.Key.is_clone M.Range.Key.cmp }
     requires faithful_values { ValuesCloneFaithfully M.Value.is_clone M.Value.eq }
-    ensures { CommandStep M.Kind.kind M.Value.eq (M.pairs map.now) (command_word.GetKeyValue key.now) result (M.pairs map.now) }
+    ensures { CommandStep M.Kind.kind M.Value.eq (M.pairs map.now)
+        (command_word.GetKeyValue key.now) result (M.pairs map.now) }
 {
     map.known();
     match map.get_key_value(key) {

@@ -44,7 +44,8 @@ pub fn run<M: Container, A: Allocator + Clone>(
     requires allowed { AllByRecursion (IsAllowed M.Kind.kind) commands.items }
     requires faithful_keys { KeysCloneFaithfully M.Range.Key.is_clone M.Range.Key.cmp }
     requires faithful_values { ValuesCloneFaithfully M.Value.is_clone M.Value.eq }
-    ensures ok { IfOk result (λ answers. Ran (CommandStep M.Kind.kind M.Value.eq) (M.pairs map.old) commands.items answers.items (M.pairs map.new)) }
+    ensures ok { IfOk result (λ answers. Ran (CommandStep M.Kind.kind M.Value.eq)
+        (M.pairs map.old) commands.items answers.items (M.pairs map.new)) }
     ensures err { OnErr result (M.pairs map.new ≡ M.pairs map.old) }
 {
     let mut answers = Vec::with_capacity(alloc.clone()?, commands.len())?;

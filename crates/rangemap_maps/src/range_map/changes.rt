@@ -41,11 +41,13 @@ impl<S: StoreMut> Map<S> {
         requires not_exhausted { S.Range.is_fresh range }
         requires faithful_keys { KeysCloneFaithfully S.Range.Key.is_clone S.Range.Key.cmp }
         requires faithful_values { ValuesCloneFaithfully S.Value.is_clone S.Value.eq }
-        ensures ok { OnOk result (IsCanonOf S.Kind.kind S.Value.eq (override S.Kind.kind (value_at S.Kind.kind self.old) range value) self.new) }
+        ensures ok { OnOk result (IsCanonOf S.Kind.kind S.Value.eq
+            (override S.Kind.kind (value_at S.Kind.kind self.old) range value) self.new) }
         ensures newest { OnOk result (IsNewest S.Kind.kind range value self.new) }
         ensures err { OnErr result (self.new ≡ self.old) }
         ensures growth { OnOk result (length self.new ≤ length self.old + 2) }
-        ensures growth_where_all_are_equal { OnOk result (((v w : S.Value) → S.Value.eq v w ≡ true) → length self.new ≤ length self.old + 1) }
+        ensures growth_where_all_are_equal { OnOk result (((v w : S.Value) → S.Value.eq v w ≡ true)
+            → length self.new ≤ length self.old + 1) }
     {
         self.stored.insert(range, value)
     }
@@ -75,10 +77,12 @@ impl<S: StoreMut> Map<S> {
         requires not_exhausted { S.Range.is_fresh range }
         requires faithful_keys { KeysCloneFaithfully S.Range.Key.is_clone S.Range.Key.cmp }
         requires faithful_values { ValuesCloneFaithfully S.Value.is_clone S.Value.eq }
-        ensures ok { OnOk result (IsCanonOf S.Kind.kind S.Value.eq (erase S.Kind.kind (value_at S.Kind.kind self.old) range) self.new) }
+        ensures ok { OnOk result (IsCanonOf S.Kind.kind S.Value.eq
+            (erase S.Kind.kind (value_at S.Kind.kind self.old) range) self.new) }
         ensures err { OnErr result (self.new ≡ self.old) }
         ensures growth { OnOk result (length self.new ≤ length self.old + 1) }
-        ensures meets_nothing { overlapped S.Kind.kind self.old range ≡ [] → IsOk result × (self.new ≡ self.old) }
+        ensures meets_nothing { overlapped S.Kind.kind self.old range ≡ []
+            → IsOk result × (self.new ≡ self.old) }
     {
         self.stored.remove(range)
     }

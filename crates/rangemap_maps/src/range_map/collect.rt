@@ -31,7 +31,8 @@ where
         requires faithful_keys { KeysCloneFaithfully S.Range.Key.is_clone S.Range.Key.cmp }
         requires faithful_values { ValuesCloneFaithfully S.Value.is_clone S.Value.eq }
         ensures same { IfOk result (λ copy. same_pairs S.Kind.kind S.Value.eq self.now copy ≡ true) }
-        ensures canon { IfOk result (λ copy. IsCanonOf S.Kind.kind S.Value.eq (value_at S.Kind.kind self.now) copy) }
+        ensures canon { IfOk result
+            (λ copy. IsCanonOf S.Kind.kind S.Value.eq (value_at S.Kind.kind self.now) copy) }
     {
         let alloc = self.stored.allocator().clone()?;
         Ok(Map {
@@ -81,12 +82,17 @@ where
         iter: I,
     ) -> Result<(), AllocError>
         requires ends { IsFiniteIterable I.into_iter_gives I.IntoIter.can_next I.IntoIter.remaining iter }
-        requires non_empty { (it : I.IntoIter) → I.into_iter_gives iter it → GivesNonEmpty S.Kind.kind I.IntoIter.next_gives it }
+        requires non_empty { (it : I.IntoIter) → I.into_iter_gives iter it
+            → GivesNonEmpty S.Kind.kind I.IntoIter.next_gives it }
         requires faithful_keys { KeysCloneFaithfully S.Range.Key.is_clone S.Range.Key.cmp }
         requires faithful_values { ValuesCloneFaithfully S.Value.is_clone S.Value.eq }
-        ensures items { ExtendsWithItems I.into_iter_gives I.IntoIter.next_gives (Overrides S.Kind.kind S.Value.eq) iter self.old self.new result }
-        ensures err { OnErr result (StopsBeforeItem I.into_iter_gives I.IntoIter.next_gives (Overrides S.Kind.kind S.Value.eq) iter self.old self.new) }
-        ensures of_nothing { ((it : I.IntoIter) → I.into_iter_gives iter it → GivesNothing I.IntoIter.next_gives it) → IsOk result × (self.new ≡ self.old) }
+        ensures items { ExtendsWithItems I.into_iter_gives I.IntoIter.next_gives
+            (Overrides S.Kind.kind S.Value.eq) iter self.old self.new result }
+        ensures err { OnErr result (StopsBeforeItem I.into_iter_gives I.IntoIter.next_gives
+            (Overrides S.Kind.kind S.Value.eq) iter self.old self.new) }
+        ensures of_nothing { ((it : I.IntoIter) → I.into_iter_gives iter it
+            → GivesNothing I.IntoIter.next_gives it)
+            → IsOk result × (self.new ≡ self.old) }
     {
         self.known();
         for (range, value) in iter {
@@ -115,11 +121,17 @@ where
         iter: I,
     ) -> Result<Self, AllocError>
         requires ends { IsFiniteIterable I.into_iter_gives I.IntoIter.can_next I.IntoIter.remaining iter }
-        requires non_empty { (it : I.IntoIter) → I.into_iter_gives iter it → GivesNonEmpty S.Kind.kind I.IntoIter.next_gives it }
+        requires non_empty { (it : I.IntoIter) → I.into_iter_gives iter it
+            → GivesNonEmpty S.Kind.kind I.IntoIter.next_gives it }
         requires faithful_keys { KeysCloneFaithfully S.Range.Key.is_clone S.Range.Key.cmp }
         requires faithful_values { ValuesCloneFaithfully S.Value.is_clone S.Value.eq }
-        ensures items { IfOk result (λ all. (it : I.IntoIter) × (pairs : List _) × I.into_iter_gives iter it × Drains I.IntoIter.next_gives it pairs × IsCanonOf S.Kind.kind S.Value.eq (override_all S.Kind.kind nothing pairs) all) }
-        ensures of_nothing { ((it : I.IntoIter) → I.into_iter_gives iter it → GivesNothing I.IntoIter.next_gives it) → IsOk result }
+        ensures items { IfOk result
+            (λ all. (it : I.IntoIter) × (pairs : List _) × I.into_iter_gives iter it
+            × Drains I.IntoIter.next_gives it pairs
+            × IsCanonOf S.Kind.kind S.Value.eq (override_all S.Kind.kind nothing pairs) all) }
+        ensures of_nothing { ((it : I.IntoIter) → I.into_iter_gives iter it
+            → GivesNothing I.IntoIter.next_gives it)
+            → IsOk result }
     {
         let mut all = Map::new(alloc);
         all.extend(iter)?;
@@ -151,7 +163,8 @@ where
         requires non_empty { AreNonEmpty S.Kind.kind value }
         requires faithful_keys { KeysCloneFaithfully S.Range.Key.is_clone S.Range.Key.cmp }
         requires faithful_values { ValuesCloneFaithfully S.Value.is_clone S.Value.eq }
-        ensures { IfOk result (λ all. IsCanonOf S.Kind.kind S.Value.eq (override_all S.Kind.kind nothing value) all) }
+        ensures { IfOk result
+            (λ all. IsCanonOf S.Kind.kind S.Value.eq (override_all S.Kind.kind nothing value) all) }
     {
         let pairs = Vec::from_array(alloc.clone()?, value)?;
         Map::from_iter(alloc, pairs)

@@ -16,7 +16,8 @@ impl<S: Store> PartialEq for Map<S> {
 
     ghost eq = { λ left right. same_pairs S.Kind.kind S.Value.eq left right };
 
-    ghost laws = { partial_equiv_from_equiv (same_pairs_equiv S.Kind.kind S.Kind.placed.total S.Value.Eq.laws) };
+    ghost laws = { partial_equiv_from_equiv (same_pairs_equiv S.Kind.kind S.Kind.placed.total
+        S.Value.Eq.laws) };
 
     /// Returns whether the maps have equal pairs. It compares the numbers of ranges first, and
     /// stops at the first two pairs that differ.
@@ -38,7 +39,8 @@ impl<S: Store<Value: Ord>> PartialOrd for Map<S> {
 
     ghost partial_cmp = { as_partial_cmp (pairs_cmp S.Kind.kind S.Value.cmp) };
 
-    ghost laws = { pairs_cmp_partial S.Kind.kind S.Value.cmp S.Value.matches_eq S.Kind.placed.total S.Value.total };
+    ghost laws = { pairs_cmp_partial S.Kind.kind S.Value.cmp S.Value.matches_eq S.Kind.placed.total
+        S.Value.total };
 
     /// Returns what `cmp` does.
     fn partial_cmp(&self, other: &Self) -> Option<Ordering> {
@@ -76,7 +78,10 @@ where
 
     ghost hash_input = { pairs_fed S.Kind.kind S.Range.Key.hash_input S.Value.hash_input };
 
-    ghost respects_eq = { (pairs_fed_alike S.Kind.kind (alike_in (cmp_is S.Kind.reads S.Range.order) (alike_by S.Range.Key.matches_eq (record { fed = S.Range.Key.respects_eq }))) (record { fed = S.Value.respects_eq })).fed };
+    ghost respects_eq = { (pairs_fed_alike S.Kind.kind
+        (alike_in (cmp_is S.Kind.reads S.Range.order)
+        (alike_by S.Range.Key.matches_eq (record { fed = S.Range.Key.respects_eq })))
+        (record { fed = S.Value.respects_eq })).fed };
 
     /// Feeds the number of stored ranges, and then the start, the end and the value of each pair.
     fn hash<H: Hasher>(&self, state: &mut H) {

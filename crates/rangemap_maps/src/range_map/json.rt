@@ -45,8 +45,10 @@ where
     >(&self, alloc: Global, write_key: WK, write_value: WV) -> Result<Value, WriteError<E>>
         requires keys { WK.IsAlwaysCallable write_key }
         requires values { WV.IsAlwaysCallable write_value }
-        ensures ok { IfOk result (IsForm S.Kind.kind (map_writer (FnReturnsAt WK.Fn write_key) (FnReturnsAt WV.Fn write_value)) self.now) }
-        ensures err { IfErr result (RefusesToWrite S.Kind.kind (map_writer (FnReturnsAt WK.Fn write_key) (FnReturnsAt WV.Fn write_value)) self.now) }
+        ensures ok { IfOk result (IsForm S.Kind.kind
+            (map_writer (FnReturnsAt WK.Fn write_key) (FnReturnsAt WV.Fn write_value)) self.now) }
+        ensures err { IfErr result (RefusesToWrite S.Kind.kind
+            (map_writer (FnReturnsAt WK.Fn write_key) (FnReturnsAt WV.Fn write_value)) self.now) }
     {
         let writer = MapWriter {
             write_key,
@@ -113,9 +115,15 @@ where
         requires values { RV.IsAlwaysCallable read_value }
         requires faithful_keys { KeysCloneFaithfully S.Range.Key.is_clone S.Range.Key.cmp }
         requires faithful_values { ValuesCloneFaithfully S.Value.is_clone S.Value.eq }
-        ensures ok { IfOk result (IsReading S.Kind.kind (map_reader (FnReturnsAt RK.Fn read_key) (FnReturnsAt RV.Fn read_value)) S.Value.eq form value.now) }
-        ensures err { IfErr result (RefusesToRead S.Kind.kind (map_reader (FnReturnsAt RK.Fn read_key) (FnReturnsAt RV.Fn read_value)) S.Value.eq form value.now) }
-        ensures exact { IfErr result (IsRefusedForMemoryAlone S.Kind.kind (map_reader (FnReturnsAt RK.Fn read_key) (FnReturnsAt RV.Fn read_value)) S.Value.eq form value.now) }
+        ensures ok { IfOk result (IsReading S.Kind.kind
+            (map_reader (FnReturnsAt RK.Fn read_key) (FnReturnsAt RV.Fn read_value))
+            S.Value.eq form value.now) }
+        ensures err { IfErr result (RefusesToRead S.Kind.kind
+            (map_reader (FnReturnsAt RK.Fn read_key) (FnReturnsAt RV.Fn read_value))
+            S.Value.eq form value.now) }
+        ensures exact { IfErr result (IsRefusedForMemoryAlone S.Kind.kind
+            (map_reader (FnReturnsAt RK.Fn read_key) (FnReturnsAt RV.Fn read_value))
+            S.Value.eq form value.now) }
         ensures of_nothing { list_of value.now ≡ SomeWord [] → IsOk result }
     {
         let reader = MapReader {

@@ -89,12 +89,16 @@ impl<S: StoreMut> MapWithRoom<S> {
         requires not_exhausted { S.Range.is_fresh range }
         requires faithful_keys { KeysCloneFaithfully S.Range.Key.is_clone S.Range.Key.cmp }
         requires faithful_values { ValuesCloneFaithfully S.Value.is_clone S.Value.eq }
-        ensures ok { OnOk result (IsCanonOf S.Kind.kind S.Value.eq (override S.Kind.kind (value_at S.Kind.kind self.old.0) range value) self.new.0) }
+        ensures ok { OnOk result (IsCanonOf S.Kind.kind S.Value.eq
+            (override S.Kind.kind (value_at S.Kind.kind self.old.0) range value) self.new.0) }
         ensures newest { OnOk result (IsNewest S.Kind.kind range value self.new.0) }
         ensures err { OnErr result (self.new.0 ≡ self.old.0) }
         ensures growth { OnOk result (length self.new.0 ≤ length self.old.0 + 2) }
-        ensures growth_where_all_are_equal { OnOk result (((v w : S.Value) → S.Value.eq v w ≡ true) → length self.new.0 ≤ length self.old.0 + 1) }
-        ensures succeeds { KeysCloneInfallibly S.Range.Key.is_infallible → ValuesCloneInfallibly S.Value.is_infallible → length self.old.0 + 2 ≤ self.old.1 → IsOk result }
+        ensures growth_where_all_are_equal { OnOk result (((v w : S.Value) → S.Value.eq v w ≡ true)
+            → length self.new.0 ≤ length self.old.0 + 1) }
+        ensures succeeds { KeysCloneInfallibly S.Range.Key.is_infallible
+            → ValuesCloneInfallibly S.Value.is_infallible → length self.old.0 + 2 ≤ self.old.1
+            → IsOk result }
         ensures room { self.old.1 ≤ self.new.1 }
     {
         self.stored.insert(range, value)
@@ -117,11 +121,15 @@ impl<S: StoreMut> MapWithRoom<S> {
         requires not_exhausted { S.Range.is_fresh range }
         requires faithful_keys { KeysCloneFaithfully S.Range.Key.is_clone S.Range.Key.cmp }
         requires faithful_values { ValuesCloneFaithfully S.Value.is_clone S.Value.eq }
-        ensures ok { OnOk result (IsCanonOf S.Kind.kind S.Value.eq (erase S.Kind.kind (value_at S.Kind.kind self.old.0) range) self.new.0) }
+        ensures ok { OnOk result (IsCanonOf S.Kind.kind S.Value.eq
+            (erase S.Kind.kind (value_at S.Kind.kind self.old.0) range) self.new.0) }
         ensures err { OnErr result (self.new.0 ≡ self.old.0) }
         ensures growth { OnOk result (length self.new.0 ≤ length self.old.0 + 1) }
-        ensures meets_nothing { overlapped S.Kind.kind self.old.0 range ≡ [] → IsOk result × (self.new.0 ≡ self.old.0) }
-        ensures succeeds { KeysCloneInfallibly S.Range.Key.is_infallible → ValuesCloneInfallibly S.Value.is_infallible → length self.old.0 + 1 ≤ self.old.1 → IsOk result }
+        ensures meets_nothing { overlapped S.Kind.kind self.old.0 range ≡ []
+            → IsOk result × (self.new.0 ≡ self.old.0) }
+        ensures succeeds { KeysCloneInfallibly S.Range.Key.is_infallible
+            → ValuesCloneInfallibly S.Value.is_infallible → length self.old.0 + 1 ≤ self.old.1
+            → IsOk result }
         ensures room { self.old.1 ≤ self.new.1 }
     {
         self.stored.remove(range)
@@ -169,7 +177,8 @@ impl<S: StoreMut> MapWithRoom<S> {
 
     /// Returns the stored range that has the key, and its value, if there is one.
     pub fn get_key_value(&self, key: &<S::Range as KeyRange>::Key) -> Option<(&S::Range, &S::Value)>
-        ensures found { option_map (λ pair. (pair.0.now, pair.1.now)) result ≡ covering S.Kind.kind self.now.0 key.now }
+        ensures found { option_map (λ pair. (pair.0.now, pair.1.now)) result
+            ≡ covering S.Kind.kind self.now.0 key.now }
         ensures canonical { IsCanonical S.Kind.kind S.Value.eq self.now.0 }
     {
         self.stored.known();
@@ -195,7 +204,8 @@ impl<S: StoreMut> MapWithRoom<S> {
 
     /// Returns the last stored range and its value, if there is one.
     pub fn last_range_value(&self) -> Option<(&S::Range, &S::Value)>
-        ensures found { option_map (λ pair. (pair.0.now, pair.1.now)) result ≡ slice_get self.now.0 (length self.now.0 - 1) }
+        ensures found { option_map (λ pair. (pair.0.now, pair.1.now)) result
+            ≡ slice_get self.now.0 (length self.now.0 - 1) }
         ensures canonical { IsCanonical S.Kind.kind S.Value.eq self.now.0 }
         ensures non_empty { IfSome result (λ pair. S.Kind.kind.IsNonEmpty pair.0.now) }
     {

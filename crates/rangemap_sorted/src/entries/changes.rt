@@ -28,12 +28,17 @@ pub fn change<Q: Kind<R>, R: KeyRange, V: Eq + Clone, A: Allocator>(
     requires non_empty { Q.kind.IsNonEmpty range }
     requires faithful_keys { KeysCloneFaithfully R.Key.is_clone R.Key.cmp }
     requires faithful_values { ValuesCloneFaithfully V.is_clone V.eq }
-    ensures ok { OnOk result (IsChanged Q.kind V.eq (value_at Q.kind list.old.items) range value list.new.items) }
+    ensures ok { OnOk result
+        (IsChanged Q.kind V.eq (value_at Q.kind list.old.items) range value list.new.items) }
     ensures err { OnErr result (list.new.items ≡ list.old.items) }
     ensures growth { OnOk result (length list.new.items ≤ length list.old.items + grown value) }
-    ensures growth_where_all_are_equal { OnOk result (((v w : V) → V.eq v w ≡ true) → length list.new.items ≤ length list.old.items + 1) }
-    ensures meets_nothing { value ≡ NoneWord → overlapped Q.kind list.old.items range ≡ [] → IsOk result × (list.new.items ≡ list.old.items) }
-    ensures succeeds { KeysCloneInfallibly R.Key.is_infallible → ValuesCloneInfallibly V.is_infallible → vec_len list.old + grown value ≤ vec_capacity list.old → IsOk result }
+    ensures growth_where_all_are_equal { OnOk result (((v w : V) → V.eq v w ≡ true)
+        → length list.new.items ≤ length list.old.items + 1) }
+    ensures meets_nothing { value ≡ NoneWord → overlapped Q.kind list.old.items range ≡ []
+        → IsOk result × (list.new.items ≡ list.old.items) }
+    ensures succeeds { KeysCloneInfallibly R.Key.is_infallible
+        → ValuesCloneInfallibly V.is_infallible
+        → vec_len list.old + grown value ≤ vec_capacity list.old → IsOk result }
     ensures room { vec_capacity list.old ≤ vec_capacity list.new }
 {
     known_ends::<Q, R>(&range);

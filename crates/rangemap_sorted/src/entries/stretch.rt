@@ -48,7 +48,8 @@ pub fn stretch<Q: Kind<R>, R: KeyRange, V: Eq>(
 ) -> Range<usize>
     requires canonical { IsCanonical Q.kind V.eq pairs.now }
     requires range { IsStorable Q.kind range.now }
-    ensures { IsStretch (shape_of Q.kind Q.end_place V.eq) pairs.now (range.now, option_copied value.entry) result.start result.end }
+    ensures { IsStretch (shape_of Q.kind Q.end_place V.eq) pairs.now
+        (range.now, option_copied value.entry) result.start result.end }
 {
     let mut places = overlap::<Q, R, V>(pairs, range);
     if 0 < places.start {
@@ -79,15 +80,23 @@ pub fn sides<Q: Kind<R>, R: KeyRange, V: Eq + Clone>(
 ) -> Result<(Side<R, V>, Side<R, V>), AllocError>
     requires canonical { IsCanonical Q.kind V.eq pairs.now }
     requires range { IsStorable Q.kind range.now }
-    requires stretch { IsStretch (shape_of Q.kind Q.end_place V.eq) pairs.now (range.now, option_copied value) places.now.start places.now.end }
+    requires stretch { IsStretch (shape_of Q.kind Q.end_place V.eq) pairs.now
+        (range.now, option_copied value) places.now.start places.now.end }
     requires faithful_keys { KeysCloneFaithfully R.Key.is_clone R.Key.cmp }
     requires faithful_values { ValuesCloneFaithfully V.is_clone V.eq }
-    ensures left { IfOk result (λ sides. IsLeftSide (shape_of Q.kind Q.end_place V.eq) pairs.now (range.now, option_copied value.entry) places.now.start places.now.end sides.0.piece sides.0.is_taken) }
-    ensures left_piece { IfOk result (λ sides. IsPiece Q.kind V.eq (option_copied value.entry) places.now.start places.now.end sides.0.piece) }
-    ensures right { IfOk result (λ sides. IsRightSide (shape_of Q.kind Q.end_place V.eq) pairs.now (range.now, option_copied value.entry) places.now.start places.now.end sides.1.piece sides.1.is_taken) }
-    ensures right_piece { IfOk result (λ sides. IsPiece Q.kind V.eq (option_copied value.entry) places.now.start places.now.end sides.1.piece) }
+    ensures left { IfOk result (λ sides. IsLeftSide (shape_of Q.kind Q.end_place V.eq) pairs.now
+        (range.now, option_copied value.entry)
+        places.now.start places.now.end sides.0.piece sides.0.is_taken) }
+    ensures left_piece { IfOk result (λ sides. IsPiece Q.kind V.eq
+        (option_copied value.entry) places.now.start places.now.end sides.0.piece) }
+    ensures right { IfOk result (λ sides. IsRightSide (shape_of Q.kind Q.end_place V.eq) pairs.now
+        (range.now, option_copied value.entry)
+        places.now.start places.now.end sides.1.piece sides.1.is_taken) }
+    ensures right_piece { IfOk result (λ sides. IsPiece Q.kind V.eq
+        (option_copied value.entry) places.now.start places.now.end sides.1.piece) }
     ensures of_nothing { places.now.start ≡ places.now.end → IsOk result }
-    ensures succeeds { KeysCloneInfallibly R.Key.is_infallible → ValuesCloneInfallibly V.is_infallible → IsOk result }
+    ensures succeeds { KeysCloneInfallibly R.Key.is_infallible
+        → ValuesCloneInfallibly V.is_infallible → IsOk result }
 {
     if places.start == places.end {
         return Ok((Side::none(), Side::none()));
@@ -114,8 +123,10 @@ fn side_between<Q: Kind<R>, R: KeyRange, V: Eq + Clone>(
     requires to { IsAskedAt Q.kind (endpoint_of to) }
     requires faithful_keys { KeysCloneFaithfully R.Key.is_clone R.Key.cmp }
     requires faithful_values { ValuesCloneFaithfully V.is_clone V.eq }
-    ensures side { IfOk result (λ side. IsSide Q.kind Q.end_place V.eq (endpoint_of from.entry) (endpoint_of to.entry) stored.now (option_copied value.entry) side.piece side.is_taken) }
-    ensures succeeds { KeysCloneInfallibly R.Key.is_infallible → ValuesCloneInfallibly V.is_infallible → IsOk result }
+    ensures side { IfOk result (λ side. IsSide Q.kind Q.end_place V.eq (endpoint_of from.entry)
+        (endpoint_of to.entry) stored.now (option_copied value.entry) side.piece side.is_taken) }
+    ensures succeeds { KeysCloneInfallibly R.Key.is_infallible
+        → ValuesCloneInfallibly V.is_infallible → IsOk result }
 {
     if Some(stored) == value {
         return Ok(Side {
@@ -144,9 +155,12 @@ pub fn middle<Q: Kind<R>, R: KeyRange, V: Eq + Clone>(
 ) -> Result<R, AllocError>
     requires canonical { IsCanonical Q.kind V.eq pairs.now }
     requires range { IsStorable Q.kind range }
-    requires taken { IsTaken (shape_of Q.kind Q.end_place V.eq) pairs.now range places.now.start places.now.end left.now.is_taken right.now.is_taken }
+    requires taken { IsTaken (shape_of Q.kind Q.end_place V.eq)
+        pairs.now range places.now.start places.now.end left.now.is_taken right.now.is_taken }
     requires faithful_keys { KeysCloneFaithfully R.Key.is_clone R.Key.cmp }
-    ensures ok { IfOk result (Spans Q.kind Q.end_place (SomeWord (Q.kind.start (taken_or_new pairs.now places.now.start left.now.is_taken range))) (Q.end_place (taken_or_new pairs.now (places.now.end - 1) right.now.is_taken range))) }
+    ensures ok { IfOk result (Spans Q.kind Q.end_place
+        (SomeWord (Q.kind.start (taken_or_new pairs.now places.now.start left.now.is_taken range)))
+        (Q.end_place (taken_or_new pairs.now (places.now.end - 1) right.now.is_taken range))) }
     ensures of_nothing { left.now.is_taken ≡ false → right.now.is_taken ≡ false → IsOk result }
     ensures succeeds { KeysCloneInfallibly R.Key.is_infallible → IsOk result }
 {
@@ -183,7 +197,9 @@ fn is_apart<Q: Kind<R>, R: KeyRange, V: Eq>(
 ) -> bool
     requires first { IsStorable Q.kind first.now }
     requires second { IsStorable Q.kind second.now }
-    ensures { result ≡ are_apart (optional (shape_of Q.kind Q.end_place V.eq)) (first.now, option_copied first_value.entry) (second.now, option_copied second_value.entry) }
+    ensures { result ≡ are_apart (optional (shape_of Q.kind Q.end_place V.eq))
+        (first.now, option_copied first_value.entry)
+        (second.now, option_copied second_value.entry) }
 {
     match Q::touch_test(first, second) {
         Touch::Apart => true,

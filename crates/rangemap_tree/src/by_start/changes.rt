@@ -63,7 +63,8 @@ impl<K: Ord + Drop, V: Drop, A: Allocator + Clone> ByStart<K, V, A> {
     // Where the memory or a clone of the allocator is refused, the range is given back.
     fn put(&mut self, key: K, range: Range<K>, value: V) -> Result<(), Range<K>>
         requires { K.cmp key range.start ≡ Equal }
-        ensures ok { OnOk result (self.new ≡ before K.cmp key self.old ++ (range, value) ∷ past K.cmp key self.old) }
+        ensures ok { OnOk result
+            (self.new ≡ before K.cmp key self.old ++ (range, value) ∷ past K.cmp key self.old) }
         ensures err { OnErr result (self.new ≡ self.old) }
         ensures given_back { IfErr result (λ refused. refused ≡ range) }
     {
@@ -111,8 +112,13 @@ impl<K: Ord + Drop, V: Drop, A: Allocator + Clone> ByStart<K, V, A> {
         requires non_empty { K.cmp range.start range.end ≡ Less }
         requires cut { IsCutThere K.cmp range.start remains.cut self.old }
         requires piece { IsNewAt K.cmp range.end remains.piece self.old }
-        requires starts { AreStarts K.cmp (filter (λ p. range_contains K.cmp (Excluded range.start) (Excluded range.end) p.0.start) self.old) starts.now }
-        ensures ok { OnOk result (self.new ≡ recut remains.cut (before K.cmp range.start self.old) ++ (range, value) ∷ (piece_list remains.piece ++ from K.cmp range.end self.old)) }
+        requires starts { AreStarts K.cmp
+            (filter
+            (λ p. range_contains K.cmp (Excluded range.start) (Excluded range.end) p.0.start)
+            self.old)
+            starts.now }
+        ensures ok { OnOk result (self.new ≡ recut remains.cut (before K.cmp range.start self.old)
+            ++ (range, value) ∷ (piece_list remains.piece ++ from K.cmp range.end self.old)) }
         ensures err { OnErr result (self.new ≡ self.old) }
     {
         let Remains { cut, piece } = remains;
@@ -143,11 +149,18 @@ impl<K: Ord + Drop, V: Drop, A: Allocator + Clone> ByStart<K, V, A> {
         starts: &[K],
     ) -> Result<(), AllocError>
         requires non_empty { K.cmp range.now.start range.now.end ≡ Less }
-        requires in_order { before K.cmp range.now.start self.old ++ from K.cmp range.now.start self.old ≡ self.old }
+        requires in_order { before K.cmp range.now.start self.old
+            ++ from K.cmp range.now.start self.old ≡ self.old }
         requires cut { IsCutThere K.cmp range.now.start remains.cut self.old }
         requires piece { IsNewAt K.cmp range.now.end remains.piece self.old }
-        requires starts { AreStarts K.cmp (filter (λ p. range_contains K.cmp (Included range.now.start) (Excluded range.now.end) p.0.start) self.old) starts.now }
-        ensures ok { OnOk result (self.new ≡ recut remains.cut (before K.cmp range.now.start self.old) ++ (piece_list remains.piece ++ from K.cmp range.now.end self.old)) }
+        requires starts { AreStarts K.cmp
+            (filter (λ p.
+            range_contains K.cmp (Included range.now.start) (Excluded range.now.end) p.0.start)
+            self.old)
+            starts.now }
+        ensures ok { OnOk result
+            (self.new ≡ recut remains.cut (before K.cmp range.now.start self.old)
+            ++ (piece_list remains.piece ++ from K.cmp range.now.end self.old)) }
         ensures err { OnErr result (self.new ≡ self.old) }
         ensures none_refused { remains.piece ≡ NoneWord → IsOk result }
     {
