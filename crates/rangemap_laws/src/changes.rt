@@ -4,10 +4,10 @@
 ghost use Rattle.std.specs.Prelude.{◌≡◌, ◌&&◌, ◌∷◌, [], true, false, IsTrue, IsOk, Some as SomeWord, None as NoneWord, OnErr, OnOk};
 ghost use Rattle.std.specs.Option.{option_eq};
 ghost use Rattle.rangemap_core.specs.Clones.{KeysCloneFaithfully, ValuesCloneFaithfully};
-ghost use Rattle.rangemap_laws.specs.Refusals.{IsOneOfOrOld};
 ghost use Rattle.rangemap_core.specs.Ranges.{IsCanonOf, IsCanonical, erase, overlapped, override, same_pairs, value_at};
+ghost use Rattle.rangemap_laws.specs.Refusals.{IsOneOfOrOld};
 
-use super::clones::{insert_clone, remove_clone};
+use crate::clones::{insert_clone, remove_clone};
 use rangemap::container::Container;
 use std::alloc::AllocError;
 

@@ -1,4 +1,4 @@
-//! What the gaps of a range are to the keys that a container covers.
+//! Gaps and covered keys together make up a range.
 ghost use Rattle.std.specs.Prelude.{is_some, map, IfOk};
 ghost use Rattle.rangemap_core.specs.Clones.{KeysCloneFaithfully};
 ghost use Rattle.rangemap_core.specs.Ranges.{AreGaps, covering};

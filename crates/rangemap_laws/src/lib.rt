@@ -26,7 +26,7 @@
 //!
 //! A function that takes containers makes the calls that its law speaks of, and its contract says what
 //! they leave and return. A function that takes nothing states a fact about lists of ranges. Most laws
-//! go by the trait `Container`, so they serve every map and every set.
+//! take any type with the trait `Container`: every map and set except those in `with_room`.
 //!
 //! A law needs what its calls need: ranges that are inserted or removed are not empty, and a clone
 //! compares equal to its original. Its `requires` clauses say so.

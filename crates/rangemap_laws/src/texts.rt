@@ -4,8 +4,8 @@
 //! `debug_output` of a set is `set_text` of its ranges. Both are made of the `debug_output` of keys and
 //! values.
 //!
-//! The laws of numbers and of ASCII texts stand at types of keys: over any store of such ranges, the
-//! callers of such a function cannot be proved.
+//! The laws of numbers and of ASCII texts are about certain containers, not about any: a law over any
+//! store of such ranges was tried, and no caller of it could be proved.
 ghost use Rattle.std.specs.Prelude.{◌≡◌, ℕ, codes, decimal, string_bytes, true, IfOk, List, Some as SomeWord};
 ghost use Rattle.std.specs.Char.{is_ascii};
 ghost use Rattle.std.specs.Fmt.{signed_decimal};

@@ -29,7 +29,7 @@ fn snippets_with_shifts_answer(rt: HostRuntime) -> Result<(), Fail> {
 fn snippets_with_gaps_answer(rt: HostRuntime) -> Result<(), Fail> {
     let mut map = RangeMap::new(rt.alloc());
     map.insert(4..6, 1)?;
-    // It is to be asked where a key has no value, which what `get` answers shows.
+    // `free_until` requires that the key has no value. The check knows it from what `get` returned.
     let None = map.get(&1) else {
         return Err(Fail::new("1 has a value"));
     };

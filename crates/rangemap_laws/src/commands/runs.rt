@@ -18,8 +18,8 @@ pub type Outcome<R, V, A> = Result<Answer<R, V, A>, AllocError>;
 /// The contract, in `Ran`, says what each command returns, up to equality, and what it makes of the
 /// map's pairs, in words of the map's point function. A refused command changes nothing, and the
 /// commands after it are run. `Clear` and `Len` are never refused, nor is a `Remove` that meets nothing,
-/// or a `Get` or `GetKeyValue` of a key that no range has. The law in `runs` says that two equal maps of
-/// half-open ranges return the same, whatever they are made of.
+/// or a `Get` or `GetKeyValue` of a key that no range has. The law `accepted_runs_answer_alike` says that
+/// two equal maps of half-open ranges return the same, whatever they are made of.
 ///
 /// # Requires
 ///
