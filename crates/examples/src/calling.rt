@@ -181,6 +181,7 @@ pub fn put_if_free<M: Container>(
     requires faithful_values { ValuesCloneFaithfully M.Value.is_clone M.Value.eq }
     ensures put { IfOk result (λ put. put ≡ true → IsCanonOf M.Kind.kind M.Value.eq (override M.Kind.kind (value_at M.Kind.kind (M.pairs container.old)) range value) (M.pairs container.new)) }
     ensures free { IfOk result (λ put. put ≡ true → overlapped M.Kind.kind (M.pairs container.old) range ≡ []) }
+    ensures taken { IfOk result (λ put. put ≡ false → overlapped M.Kind.kind (M.pairs container.old) range ≡ [] → ⊥) }
     ensures kept { IfOk result (λ put. put ≡ false → M.pairs container.new ≡ M.pairs container.old) }
     ensures refused { OnErr result (M.pairs container.new ≡ M.pairs container.old) }
 {
