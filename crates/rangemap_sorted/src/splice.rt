@@ -1,12 +1,18 @@
 //! A stretch of a vector replaced by up to three values.
+//!
+//! What is pushed behind the vector is turned to its place, as by `rotate_right`, and what is taken out is
+//! turned behind the rest, as by `rotate_left`. std turns by one value with one `memmove`, and by more
+//! through a room on the stack, of 4,096 bytes, as long as what waits there fits. A change pushes one or
+//! two values and mostly cuts as few, so here two values wait in locals while the others are moved, all
+//! together.
 ghost use Rattle.std.specs.Prelude.{◌≡◌, ◌+◌, ◌-◌, ◌<◌, ◌≤◌, ◌++◌, take, drop, length, IsOk, OnOk, OnErr, vec_len, vec_capacity};
 ghost use Rattle.std.specs.Option.{option_to_list};
+ghost use Rattle.core.specs.List.{RotatedLeft};
+ghost use Rattle.core.specs.Mem.Slots.{slots_items, slots_len, IsFull, Refills};
 
-use crate::splice::turn::{turn_left, turn_right};
+use core::slots::{Slots, with_slots};
 use std::alloc::{AllocError, Allocator};
 use std::ops::Range;
-
-mod turn;
 
 // How many values the first block has room for, so that a small container asks for memory once: among
 // ten ranges, the fewest that docs/SPEED.md times, an insert may add two. No times of other numbers were
@@ -157,4 +163,61 @@ fn close_gap<T>(list: &mut [T], count: usize)
     let (blocks, last) = list.split_at_mut(turned);
     turn_left(blocks, count);
     blocks[turned - count..turned - count + left].swap_with_slice(last);
+}
+
+// Moves the first `count` values behind all others.
+fn turn_left<T>(list: &mut [T], count: usize)
+    requires { count ≤ length list.old }
+    ensures { list.new ≡ drop count list.old ++ take count list.old }
+{
+    if count == 2 {
+        let mut nothing = ();
+        // SAFETY: each value that is taken out of a place is put into another, so none is forgotten.
+        unsafe { with_slots(list, &mut nothing, (), first_two_last) }
+    } else {
+        list.rotate_left(count);
+    }
+}
+
+// Moves the last `count` values before all others.
+fn turn_right<T>(list: &mut [T], count: usize)
+    requires { count ≤ length list.old }
+    ensures { list.new ≡ drop (length list.old - count) list.old ++ take (length list.old - count) list.old }
+{
+    if count == 2 {
+        let mut nothing = ();
+        // SAFETY: each value that is taken out of a place is put into another, so none is forgotten.
+        unsafe { with_slots(list, &mut nothing, (), last_two_first) }
+    } else {
+        list.rotate_right(count);
+    }
+}
+
+// Moves the first two values behind all others, in a row that has them.
+fn first_two_last<T>(mut row: Slots<T>, state: (), _given: ()) -> (Slots<T>, (), ())
+    requires { IsFull row × (2 ≤ slots_len row) }
+    ensures { Refills row result.0 × RotatedLeft (slots_items row) (slots_items result.0) (slots_len row) 2 }
+{
+    let rest = row.len() - 2;
+    let first = row.take(0);
+    let second = row.take(1);
+    row.move_within(2, 0, rest);
+    row.put(rest, first);
+    row.put(rest + 1, second);
+    (row, state, ())
+}
+
+// Moves the last two before all others.
+fn last_two_first<T>(mut row: Slots<T>, state: (), _given: ()) -> (Slots<T>, (), ())
+    requires { IsFull row × (2 ≤ slots_len row) }
+    ensures { Refills row result.0
+        × RotatedLeft (slots_items row) (slots_items result.0) (slots_len row) (slots_len row - 2) }
+{
+    let rest = row.len() - 2;
+    let first = row.take(rest);
+    let second = row.take(rest + 1);
+    row.move_within(0, 2, rest);
+    row.put(0, first);
+    row.put(1, second);
+    (row, state, ())
 }

@@ -5,7 +5,7 @@ use Rattle.core.proofs.num.Ints.{cases}
 use Rattle.core.proofs.slice.Heaps.{same_or_not}
 use Rattle.core.proofs.slice.Lists.{any-default}
 use Rattle.core.proofs.slots.Fills.{Filled-put, Filled-apart, Filled-none}
-use Rattle.rangemap_sorted.proofs.splice.turn.last_two_first.Goals as goal
+use Rattle.rangemap_sorted.proofs.splice.last_two_first.Goals as goal
 
 pub returns : goal.returns
 returns g c =
