@@ -5,3 +5,4 @@ pub mod ChangeLemmas
 pub mod OverlapLemmas
 pub mod ReadLemmas
 pub mod SideLemmas
+pub mod TurnLemmas

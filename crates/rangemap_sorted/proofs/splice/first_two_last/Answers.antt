@@ -1,47 +1,11 @@
-use Rattle.std.proofs.Common.{◌≡◌, ap, ◌∙◌, ℕ, ◌+◌, ◌-◌, arith}
-use lib.ListN.{get_or}
-use lib.Seq.{get_or-set_same, get_or-set_other}
-use Rattle.core.proofs.num.Ints.{cases}
-use Rattle.core.proofs.slice.Heaps.{same_or_not}
-use Rattle.core.proofs.slice.Lists.{any-default}
-use Rattle.core.proofs.slots.Fills.{Filled-put, Filled-none}
+use Rattle.std.proofs.Common.{◌-◌, arith}
+use Rattle.rangemap_sorted.proofs.TurnLemmas.{turned}
 use Rattle.rangemap_sorted.proofs.splice.first_two_last.Goals as goal
 
 pub returns : goal.returns
 returns g c =
-    let xs = c.args.row.items in
-    let n = c.args.row.len in
     let rest = c.len-rest.result - 2 in
     let len = c.len-rest.ensures in
     let some = c.requires.1 in
-    let first = c.take-first in
-    let second = c.take-second in
-    let moved = c.move_within.ensures in
-    let ys = c.move_within.new.self.items in
-    let put = c.put.ensures in
-    let zs = c.put.new.self.items in
-    let put_2 = c.put-2.ensures in
-    let count_0 = first.ensures.places.count in
-    let count_1 = second.ensures.places.count in
-    let count_2 = moved.places.count in
-    let count_3 = put.places.count in
-    let count_4 = put_2.places.count in
-    let long_0 = c.args.row.ok.0 in
-    let long_1 = first.new.self.ok.0 in
-    let long_2 = c.move_within.new.self.ok in
-    let long_3 = c.put.new.self.ok in
-    let at = λ (l : _) (i j : ℕ) (d : g.row.T.Denot) (e : i ≡ j). ap (λ k. get_or l k d) e in (
-      record {
-        places = record { start = put_2.places.start ∙ put.places.start ∙ moved.places.start ∙ second.ensures.places.start ∙ first.ensures.places.start; count = count_4 ∙ count_3 ∙ count_2 ∙ count_1 ∙ count_0 };
-        full = Filled-put _ _ (rest + 1) 0 _ put_2.filled (omega arith)
-            (Filled-put _ _ rest 0 (rest + 1) put.filled (omega arith) (λ k p q. moved.filled.0 k p (omega arith)) (Filled-none _ _ _ (omega arith)))
-            (Filled-none _ _ _ (omega arith));
-      },
-      (
-        (λ k d lt. ap (λ l. get_or l k d) put_2.items ∙ get_or-set_other zs (rest + 1) k second.result d (omega arith) ∙ ap (λ l. get_or l k d) put.items ∙ get_or-set_other ys rest k first.result d (omega arith) ∙ at ys k (0 + k) d (omega arith) ∙ moved.moved k d (omega arith)
-            ∙ ap (λ l. get_or l (2 + k) d) (second.ensures.items ∙ first.ensures.items) ∙ at xs (2 + k) (k + 2) d (omega arith)),
-        λ k d ge lt. ap (λ l. get_or l k d) put_2.items ∙ cases (same_or_not k (rest + 1))
-            (λ is. at _ k (rest + 1) d is ∙ get_or-set_same zs (rest + 1) second.result d (omega arith) ∙ second.ensures.value ∙ ap (λ l. get_or l 1 second.result) first.ensures.items ∙ any-default xs 1 second.result d (omega arith) ∙ at xs 1 (k + 2 - n) d (omega arith))
-            (λ other. get_or-set_other zs (rest + 1) k second.result d (omega arith) ∙ ap (λ l. get_or l k d) put.items ∙ at _ k rest d (omega arith) ∙ get_or-set_same ys rest first.result d (omega arith) ∙ first.ensures.value ∙ any-default xs 0 first.result d (omega arith) ∙ at xs 0 (k + 2 - n) d (omega arith)),
-      ),
-    )
+    turned 0 rest 2 0 rest (c.take-first.ensures.places, c.take-second.ensures.places, c.move_within.ensures.places, c.put.ensures.places, c.put-2.ensures.places) (c.take-first.ensures.value, c.take-first.ensures.items, c.take-second.ensures.value, c.take-second.ensures.items) c.move_within.ensures.moved c.move_within.ensures.filled.0 (c.put.ensures.items, c.put.ensures.filled) (c.put-2.ensures.items, c.put-2.ensures.filled) (omega arith, omega arith) 2 (omega arith)
+    (λ k l. (λ is. omega arith, λ is. omega arith, λ p q. (omega arith, omega arith, omega arith))) (λ k more l. (λ is. omega arith, λ is. omega arith, λ p q. (omega arith, omega arith, omega arith)))
