@@ -8,7 +8,7 @@ use Rattle.rangemap_core.specs.Ranges.{RangeKind, IsStorable, IsCanonical}
 use Rattle.rangemap_core.proofs.PlaceLemmas.{S, places, to_spaced, storable_here}
 use Rattle.rangemap_core.proofs.InsertSideLemmas.{start_point, end_point}
 use Rattle.rangemap_sorted.proofs.entries.stretch.stretch.Goals as goal
-use Rattle.rangemap_sorted.proofs.entries.stretch.stretch.Goals.{then-places-gt0+then-not-is_apart, then-places-gt0+else-not-is_apart, else-places-gt0}
+use Rattle.rangemap_sorted.proofs.entries.stretch.stretch.Goals.{Joined-places-gt0, then-places-gt0+then-not-is_apart, then-places-gt0+else-not-is_apart, else-places-gt0}
 
 module _ {K X V : Type 0} {k : RangeKind K X} {end_place : X → Option K} {part : EndpointOf X → EndpointOf X → X} (p : IsPlaced k end_place part) (eq : V → V → Bool) (xs : List (X × V)) (c : IsCanonical k eq xs) (r : X) (value : Option V) (stored : IsStorable k r) (from to : ℕ) (ov : IsOverlap (S p eq) xs r from to) where
   -- the places when what lies before those that overlap was looked at
@@ -70,32 +70,23 @@ is_apart-requires-clause-first g c =
 pub is_apart-requires-then-places-pairs-clause-second : goal.is_apart-requires-then-places-pairs-clause-second
 is_apart-requires-then-places-pairs-clause-second g c = storable_here g.met.Q.Kind.placed g.V.PartialEq.eq c.args.pairs.now c.requires.canonical c.if-places-gt0.places.end c.index-pairs-places-then-places-pairs.result (omega arith) c.index-pairs-places-then-places-pairs.is
 
+-- the pair before those that overlap was looked at
+begun_before : (g : _) (c : Joined-places-gt0 g) → IsBegun g.met.Q.Kind.placed g.V.PartialEq.eq c.args.pairs.now c.requires.canonical c.args.range.now (option_copied c.args.value) c.requires.range c.overlap-places.result.start c.overlap-places.result.end c.overlap-places.ensures c.if-places-gt0.places.start c.if-places-gt0.places.end
+begun_before g c = elim c.if-places-gt0.branch [
+  | then-places-gt0+then-not-is_apart w ↦ rw w.places-is (begun_joined g.met.Q.Kind.placed g.V.PartialEq.eq c.args.pairs.now c.requires.canonical c.args.range.now (option_copied c.args.value) c.requires.range c.overlap-places.result.start c.overlap-places.result.end c.overlap-places.ensures w.index-pairs-places.result w.if-places-gt0.true w.index-pairs-places.is (sym w.is_apart.ensures ∙ w.if-not-is_apart.true))
+  | then-places-gt0+else-not-is_apart w ↦ rw w.places-is (begun_apart g.met.Q.Kind.placed g.V.PartialEq.eq c.args.pairs.now c.requires.canonical c.args.range.now (option_copied c.args.value) c.requires.range c.overlap-places.result.start c.overlap-places.result.end c.overlap-places.ensures w.index-pairs-places.result w.if-places-gt0.true w.index-pairs-places.is (sym w.is_apart.ensures ∙ w.if-not-is_apart.false))
+  | else-places-gt0 w ↦ rw w.places-is (begun_none g.met.Q.Kind.placed g.V.PartialEq.eq c.args.pairs.now c.requires.canonical c.args.range.now (option_copied c.args.value) c.requires.range c.overlap-places.result.start c.overlap-places.result.end c.overlap-places.ensures (omega (arith, w.if-places-gt0.false)))
+]
+
 pub returns-then-not-is_apart-2 : goal.returns-then-not-is_apart-2
 returns-then-not-is_apart-2 g c =
-    let places = c.if-places-gt0.places in
-    let begun : IsBegun g.met.Q.Kind.placed g.V.PartialEq.eq c.args.pairs.now c.requires.canonical c.args.range.now (option_copied c.args.value) c.requires.range c.overlap-places.result.start c.overlap-places.result.end c.overlap-places.ensures places.start places.end = elim c.if-places-gt0.branch [
-      | then-places-gt0+then-not-is_apart w ↦ rw w.places-is (begun_joined g.met.Q.Kind.placed g.V.PartialEq.eq c.args.pairs.now c.requires.canonical c.args.range.now (option_copied c.args.value) c.requires.range c.overlap-places.result.start c.overlap-places.result.end c.overlap-places.ensures w.index-pairs-places.result w.if-places-gt0.true w.index-pairs-places.is (sym w.is_apart.ensures ∙ w.if-not-is_apart.true))
-      | then-places-gt0+else-not-is_apart w ↦ rw w.places-is (begun_apart g.met.Q.Kind.placed g.V.PartialEq.eq c.args.pairs.now c.requires.canonical c.args.range.now (option_copied c.args.value) c.requires.range c.overlap-places.result.start c.overlap-places.result.end c.overlap-places.ensures w.index-pairs-places.result w.if-places-gt0.true w.index-pairs-places.is (sym w.is_apart.ensures ∙ w.if-not-is_apart.false))
-      | else-places-gt0 w ↦ rw w.places-is (begun_none g.met.Q.Kind.placed g.V.PartialEq.eq c.args.pairs.now c.requires.canonical c.args.range.now (option_copied c.args.value) c.requires.range c.overlap-places.result.start c.overlap-places.result.end c.overlap-places.ensures (omega (arith, w.if-places-gt0.false)))
-    ] in
-    ended_joined g.met.Q.Kind.placed g.V.PartialEq.eq c.args.pairs.now c.requires.canonical c.args.range.now (option_copied c.args.value) c.requires.range c.overlap-places.result.start c.overlap-places.result.end c.overlap-places.ensures places.start places.end begun c.index-pairs-places-then-places-pairs.result c.if-places-pairs.true c.index-pairs-places-then-places-pairs.is (sym c.is_apart-then-places-pairs.ensures ∙ c.if-not-is_apart-2.true)
+    ended_joined g.met.Q.Kind.placed g.V.PartialEq.eq c.args.pairs.now c.requires.canonical c.args.range.now (option_copied c.args.value) c.requires.range c.overlap-places.result.start c.overlap-places.result.end c.overlap-places.ensures c.if-places-gt0.places.start c.if-places-gt0.places.end (begun_before g (goal.at.returns-then-not-is_apart-2 g c).Joined-places-gt0)
+    c.index-pairs-places-then-places-pairs.result c.if-places-pairs.true c.index-pairs-places-then-places-pairs.is (sym c.is_apart-then-places-pairs.ensures ∙ c.if-not-is_apart-2.true)
 
 pub returns-else-not-is_apart-2 : goal.returns-else-not-is_apart-2
 returns-else-not-is_apart-2 g c =
-    let places = c.if-places-gt0.places in
-    let begun : IsBegun g.met.Q.Kind.placed g.V.PartialEq.eq c.args.pairs.now c.requires.canonical c.args.range.now (option_copied c.args.value) c.requires.range c.overlap-places.result.start c.overlap-places.result.end c.overlap-places.ensures places.start places.end = elim c.if-places-gt0.branch [
-      | then-places-gt0+then-not-is_apart w ↦ rw w.places-is (begun_joined g.met.Q.Kind.placed g.V.PartialEq.eq c.args.pairs.now c.requires.canonical c.args.range.now (option_copied c.args.value) c.requires.range c.overlap-places.result.start c.overlap-places.result.end c.overlap-places.ensures w.index-pairs-places.result w.if-places-gt0.true w.index-pairs-places.is (sym w.is_apart.ensures ∙ w.if-not-is_apart.true))
-      | then-places-gt0+else-not-is_apart w ↦ rw w.places-is (begun_apart g.met.Q.Kind.placed g.V.PartialEq.eq c.args.pairs.now c.requires.canonical c.args.range.now (option_copied c.args.value) c.requires.range c.overlap-places.result.start c.overlap-places.result.end c.overlap-places.ensures w.index-pairs-places.result w.if-places-gt0.true w.index-pairs-places.is (sym w.is_apart.ensures ∙ w.if-not-is_apart.false))
-      | else-places-gt0 w ↦ rw w.places-is (begun_none g.met.Q.Kind.placed g.V.PartialEq.eq c.args.pairs.now c.requires.canonical c.args.range.now (option_copied c.args.value) c.requires.range c.overlap-places.result.start c.overlap-places.result.end c.overlap-places.ensures (omega (arith, w.if-places-gt0.false)))
-    ] in
-    ended_apart g.met.Q.Kind.placed g.V.PartialEq.eq c.args.pairs.now c.requires.canonical c.args.range.now (option_copied c.args.value) c.requires.range c.overlap-places.result.start c.overlap-places.result.end c.overlap-places.ensures places.start places.end begun c.index-pairs-places-then-places-pairs.result c.if-places-pairs.true c.index-pairs-places-then-places-pairs.is (sym c.is_apart-then-places-pairs.ensures ∙ c.if-not-is_apart-2.false)
+    ended_apart g.met.Q.Kind.placed g.V.PartialEq.eq c.args.pairs.now c.requires.canonical c.args.range.now (option_copied c.args.value) c.requires.range c.overlap-places.result.start c.overlap-places.result.end c.overlap-places.ensures c.if-places-gt0.places.start c.if-places-gt0.places.end (begun_before g (goal.at.returns-else-not-is_apart-2 g c).Joined-places-gt0)
+    c.index-pairs-places-then-places-pairs.result c.if-places-pairs.true c.index-pairs-places-then-places-pairs.is (sym c.is_apart-then-places-pairs.ensures ∙ c.if-not-is_apart-2.false)
 
 pub returns-else-places-pairs : goal.returns-else-places-pairs
-returns-else-places-pairs g c =
-    let places = c.if-places-gt0.places in
-    let begun : IsBegun g.met.Q.Kind.placed g.V.PartialEq.eq c.args.pairs.now c.requires.canonical c.args.range.now (option_copied c.args.value) c.requires.range c.overlap-places.result.start c.overlap-places.result.end c.overlap-places.ensures places.start places.end = elim c.if-places-gt0.branch [
-      | then-places-gt0+then-not-is_apart w ↦ rw w.places-is (begun_joined g.met.Q.Kind.placed g.V.PartialEq.eq c.args.pairs.now c.requires.canonical c.args.range.now (option_copied c.args.value) c.requires.range c.overlap-places.result.start c.overlap-places.result.end c.overlap-places.ensures w.index-pairs-places.result w.if-places-gt0.true w.index-pairs-places.is (sym w.is_apart.ensures ∙ w.if-not-is_apart.true))
-      | then-places-gt0+else-not-is_apart w ↦ rw w.places-is (begun_apart g.met.Q.Kind.placed g.V.PartialEq.eq c.args.pairs.now c.requires.canonical c.args.range.now (option_copied c.args.value) c.requires.range c.overlap-places.result.start c.overlap-places.result.end c.overlap-places.ensures w.index-pairs-places.result w.if-places-gt0.true w.index-pairs-places.is (sym w.is_apart.ensures ∙ w.if-not-is_apart.false))
-      | else-places-gt0 w ↦ rw w.places-is (begun_none g.met.Q.Kind.placed g.V.PartialEq.eq c.args.pairs.now c.requires.canonical c.args.range.now (option_copied c.args.value) c.requires.range c.overlap-places.result.start c.overlap-places.result.end c.overlap-places.ensures (omega (arith, w.if-places-gt0.false)))
-    ] in
-    ended_none g.met.Q.Kind.placed g.V.PartialEq.eq c.args.pairs.now c.requires.canonical c.args.range.now (option_copied c.args.value) c.requires.range c.overlap-places.result.start c.overlap-places.result.end c.overlap-places.ensures places.start places.end begun (omega arith)
+returns-else-places-pairs g c = ended_none g.met.Q.Kind.placed g.V.PartialEq.eq c.args.pairs.now c.requires.canonical c.args.range.now (option_copied c.args.value) c.requires.range c.overlap-places.result.start c.overlap-places.result.end c.overlap-places.ensures c.if-places-gt0.places.start c.if-places-gt0.places.end (begun_before g (goal.at.returns-else-places-pairs g c).Joined-places-gt0) (omega arith)
