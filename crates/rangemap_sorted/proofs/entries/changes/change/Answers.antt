@@ -1,4 +1,4 @@
-use Rattle.std.proofs.Common.{arith, ◌≡◌, ◌<◌, ◌+◌, ◌≤◌, ℕ, Result, Ok, Err, refl, IsOk, OnOk, Option, Some, None, [], List, ◌++◌, take, drop, length, Bool, true, false, true≢false, sym, ◌∙◌, ap, subst}
+use Rattle.std.proofs.Common.{arith, ◌≡◌, ◌<◌, ◌+◌, ◌≤◌, ℕ, Result, Ok, Err, refl, IsOk, OnOk, None, [], List, ◌++◌, take, drop, length, Bool, true, false, true≢false, sym, ◌∙◌, ap}
 use Rattle.std.specs.Option.{option_to_list}
 use Rattle.rangemap_core.specs.Ranges.{IsCanonical, IsStorable, overlapped, value_at}
 use Rattle.rangemap_core.specs.engine.Stretch.{IsStretch, IsLeftSide, IsRightSide, IsPiece, middle_of}
