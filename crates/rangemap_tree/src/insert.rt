@@ -39,11 +39,11 @@ pub fn insert<K: Ord + Clone, V: Eq + Clone, A: Allocator + Clone>(
     let left = left_side(pairs, near, &range, Some(&value))?;
     let right = right_side(pairs, near, &range, Some(&value))?;
     let Range { start, end } = range;
-    let middle = left.start.unwrap_or(start)..right.end.unwrap_or(end);
+    let middle = left.outer_end.unwrap_or(start)..right.outer_end.unwrap_or(end);
     let key = middle.start.clone()?;
     let remains = Remains {
-        cut: left.cut,
-        piece: right.piece,
+        cut: left.rest,
+        piece: right.rest,
     };
     match near {
         Some((last, _)) if last.start.cmp(&middle.start).is_gt() => {

@@ -40,8 +40,8 @@ pub fn remove<K: Ord + Clone, V: Eq + Clone, A: Allocator + Clone>(
     let left = left_side(pairs, near, range, None)?;
     let right = right_side(pairs, near, range, None)?;
     let remains = Remains {
-        cut: left.cut,
-        piece: right.piece,
+        cut: left.rest,
+        piece: right.rest,
     };
     if last.start.cmp(&range.start).is_lt() {
         // All others start before it, so none starts within the range, and the tree is not searched.

@@ -1,6 +1,8 @@
-//! What a change of a range leaves of the stored pairs at its start and at its end.
+//! What an insert or a remove of a range does to the two stored pairs at the ends of the range.
 //!
-//! A change gives the keys of the range a value, or, where there is none, takes them out.
+//! At either end the range can meet a pair that reaches out past that end. If that pair has the value
+//! that is inserted, the new range takes it in. Else the pair is cut, and what lies outside the range is
+//! left of it. A remove inserts no value (`None`), so it only cuts.
 ghost use Rattle.std.specs.Prelude.{◌≡◌, List, Option as OptionWord, None as NoneWord, IfOk};
 ghost use Rattle.std.specs.Option.{option_copied};
 ghost use Rattle.std.specs.Map.Iter.{TakesLast, deref_pair};
@@ -14,53 +16,31 @@ use crate::pieces::Keyed;
 use std::alloc::{AllocError, Allocator};
 use std::ops::Range;
 
-/// Where the new range starts if one before it is taken into it, or what is left of one that is cut.
+/// What a change does to the stored pair at one end of its range. One field is set at most.
 #[derive(Drop)]
-pub struct Left<K> {
-    /// The start of the one that is taken in.
-    pub start: Option<K>,
-    /// What is left of the one that is cut.
-    pub cut: Option<Range<K>>,
+pub struct Side<K, P> {
+    /// The outer end of that pair, if the new range takes it in: the new range then goes up to there.
+    pub outer_end: Option<K>,
+    /// What is left of that pair, if it is cut.
+    pub rest: Option<P>,
 }
 
-impl<K> Left<K> {
-    // Where the range meets none at its start.
+impl<K, P> Side<K, P> {
+    // No pair is taken in or cut at this end.
     fn none() -> Self
-        ensures start { result.start ≡ NoneWord }
-        ensures cut { result.cut ≡ NoneWord }
+        ensures outer_end { result.outer_end ≡ NoneWord }
+        ensures rest { result.rest ≡ NoneWord }
     {
-        Left {
-            start: None,
-            cut: None,
+        Side {
+            outer_end: None,
+            rest: None,
         }
     }
 }
 
-/// Where the new range ends if one after it is taken into it, or what is left of one that is cut.
-#[derive(Drop)]
-pub struct Right<K, V> {
-    /// The end of the one that is taken in.
-    pub end: Option<K>,
-    /// What is left of the one that is cut.
-    pub piece: Option<Keyed<K, V>>,
-}
-
-impl<K, V> Right<K, V> {
-    // Where the range meets none at its end.
-    fn none() -> Self
-        ensures end { result.end ≡ NoneWord }
-        ensures piece { result.piece ≡ NoneWord }
-    {
-        Right {
-            end: None,
-            piece: None,
-        }
-    }
-}
-
-/// Returns what becomes of the pair that the range meets at its start. Of the pairs that start before
-/// it only the last can reach it. `near` is the last that starts before the range ends or, where there
-/// is a value, no later.
+/// Returns what a change does to the pair that reaches the start of the range from before it. Only the
+/// last pair that starts before the range can do that. `near` is the last pair that starts before the
+/// end of the range or, for an insert, at that end.
 ///
 /// # Errors
 ///
@@ -70,42 +50,42 @@ pub fn left_side<'a, K: Ord + Clone, V: Eq, A: Allocator>(
     near: Option<(&'a Range<K>, &'a V)>,
     range: &Range<K>,
     value: Option<&'a V>,
-) -> Result<Left<K>, AllocError>
+) -> Result<Side<K, Range<K>>, AllocError>
     requires canonical { IsCanonical (half_open K.cmp) V.eq pairs.now }
     requires near { (rest : List _) × TakesLast deref_pair
         (near_end K.cmp (option_copied value) range.now.end pairs.now) near rest }
     requires range { (half_open K.cmp).IsNonEmpty range.now }
     requires faithful_keys { KeysCloneFaithfully K.is_clone K.cmp }
     ensures { IfOk result (λ left. IsLeft K.cmp V.eq pairs.now range.now
-        (option_copied value.entry) left.start left.cut) }
+        (option_copied value.entry) left.outer_end left.rest) }
 {
     let Some((first, first_value)) = last_before(pairs, near, range) else {
-        return Ok(Left::none());
+        return Ok(Side::none());
     };
     let reach = first.end.cmp(&range.start);
     if reach.is_lt() {
-        return Ok(Left::none());
+        return Ok(Side::none());
     }
     if Some(first_value) == value {
         let taken = first.start.clone()?;
-        return Ok(Left {
-            start: Some(taken),
-            cut: None,
+        return Ok(Side {
+            outer_end: Some(taken),
+            rest: None,
         });
     }
     if reach.is_le() {
-        return Ok(Left::none());
+        return Ok(Side::none());
     }
     let start = first.start.clone()?;
     let end = range.start.clone()?;
-    Ok(Left {
-        start: None,
-        cut: Some(start..end),
+    Ok(Side {
+        outer_end: None,
+        rest: Some(start..end),
     })
 }
 
-// The last pair that starts before the range, where `near` is the last that starts before the range
-// ends, or no later. Mostly that is the one, and then the tree is not searched.
+// Returns the last pair that starts before the range. `near` is the last that starts before the end of
+// the range, or at that end. Mostly that is the same pair, and then the tree is not searched.
 fn last_before<'a, K: Ord, V: Eq, A: Allocator>(
     pairs: &'a ByStart<K, V, A>,
     near: Option<(&'a Range<K>, &'a V)>,
@@ -125,8 +105,8 @@ fn last_before<'a, K: Ord, V: Eq, A: Allocator>(
     }
 }
 
-/// Returns what becomes of the pair that the range meets at its end. Only the one that is `near` can
-/// reach past it. The contract alone reads `pairs`.
+/// Returns what a change does to the pair that reaches out past the end of the range, or touches it
+/// there. Only `near` can do that. The body does not use `pairs`, of which the contract speaks.
 ///
 /// # Errors
 ///
@@ -136,39 +116,39 @@ pub fn right_side<'a, K: Ord + Clone, V: Eq + Clone, A: Allocator>(
     near: Option<(&'a Range<K>, &'a V)>,
     range: &Range<K>,
     value: Option<&'a V>,
-) -> Result<Right<K, V>, AllocError>
+) -> Result<Side<K, Keyed<K, V>>, AllocError>
     requires canonical { IsCanonical (half_open K.cmp) V.eq pairs.now }
     requires near { (rest : List _) × TakesLast deref_pair
         (near_end K.cmp (option_copied value) range.now.end pairs.now) near rest }
     requires faithful_keys { KeysCloneFaithfully K.is_clone K.cmp }
     requires faithful_values { ValuesCloneFaithfully V.is_clone V.eq }
     ensures { IfOk result (λ right. IsRight K.cmp V.eq pairs.now range.now
-        (option_copied value.entry) right.end right.piece) }
+        (option_copied value.entry) right.outer_end right.rest) }
 {
     let Some((last, last_value)) = near else {
-        return Ok(Right::none());
+        return Ok(Side::none());
     };
     if last.end.cmp(&range.end).is_le() {
-        return Ok(Right::none());
+        return Ok(Side::none());
     }
     if Some(last_value) == value {
         let taken = last.end.clone()?;
-        return Ok(Right {
-            end: Some(taken),
-            piece: None,
+        return Ok(Side {
+            outer_end: Some(taken),
+            rest: None,
         });
     }
     if range.end.cmp(&last.start).is_le() {
-        return Ok(Right::none());
+        return Ok(Side::none());
     }
     let piece = piece_behind(range, last, last_value)?;
-    Ok(Right {
-        end: None,
-        piece: Some(piece),
+    Ok(Side {
+        outer_end: None,
+        rest: Some(piece),
     })
 }
 
-// Returns what the range leaves of a stored pair behind its own end.
+// Returns what is left of a stored pair behind the end of the range.
 fn piece_behind<K: Clone, V: Clone>(
     range: &Range<K>,
     last: &Range<K>,

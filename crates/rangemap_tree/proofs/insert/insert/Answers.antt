@@ -22,8 +22,8 @@ pub right_side-requires-clause-near : goal.right_side-requires-clause-near
 right_side-requires-clause-near g c = c.last_within-near.ensures
 
 -- all that is said of the middle and of the list that is made around it
-known : (g : _) (c : After-unwrap_or-2 g) → IsChange g.K.Ord.cmp g.V.PartialEq.eq c.args.pairs.now c.args.range (Some c.args.value) c.in_ok-left.left.cut c.in_ok-right.right.piece (record { start = c.unwrap_or.result; end = c.unwrap_or-2.result })
-known g c = change g.met.K.Ord.total g.V.PartialEq.eq g.met.V.Eq.laws c.args.pairs.now c.requires.canonical c.args.range c.requires.non_empty (Some c.args.value) c.in_ok-left.left.start c.in_ok-right.right.end c.in_ok-left.left.cut c.in_ok-right.right.piece c.in_ok-left.ensures c.in_ok-right.ensures (record { start = c.unwrap_or.result; end = c.unwrap_or-2.result }) c.unwrap_or.ensures c.unwrap_or-2.ensures
+known : (g : _) (c : After-unwrap_or-2 g) → IsChange g.K.Ord.cmp g.V.PartialEq.eq c.args.pairs.now c.args.range (Some c.args.value) c.in_ok-left.left.rest c.in_ok-right.right.rest (record { start = c.unwrap_or.result; end = c.unwrap_or-2.result })
+known g c = change g.met.K.Ord.total g.V.PartialEq.eq g.met.V.Eq.laws c.args.pairs.now c.requires.canonical c.args.range c.requires.non_empty (Some c.args.value) c.in_ok-left.left.outer_end c.in_ok-right.right.outer_end c.in_ok-left.left.rest c.in_ok-right.right.rest c.in_ok-left.ensures c.in_ok-right.ensures (record { start = c.unwrap_or.result; end = c.unwrap_or-2.result }) c.unwrap_or.ensures c.unwrap_or-2.ensures
 
 pub starts_between-requires-clause-forward : goal.starts_between-requires-clause-forward
 starts_between-requires-clause-forward g c = (known g (goal.at.starts_between-requires-clause-forward g c).After-unwrap_or-2).full
@@ -71,7 +71,7 @@ replace-requires-in_default g c =
       starts = subst (λ qs. AreStarts cmp qs []) (sym none) tt;
     }
 
-made : (g : _) (c : After-unwrap_or-2 g) {T E : Type 0} (result : Result T E) (new : List (Range g.row.K.Denot × g.row.V.Denot)) → OnOk result (new ≡ recut c.in_ok-left.left.cut (before g.K.Ord.cmp c.unwrap_or.result c.args.pairs.now) ++ (record { start = c.unwrap_or.result; end = c.unwrap_or-2.result }, c.args.value) ∷ (piece_list c.in_ok-right.right.piece ++ from g.K.Ord.cmp c.unwrap_or-2.result c.args.pairs.now))
+made : (g : _) (c : After-unwrap_or-2 g) {T E : Type 0} (result : Result T E) (new : List (Range g.row.K.Denot × g.row.V.Denot)) → OnOk result (new ≡ recut c.in_ok-left.left.rest (before g.K.Ord.cmp c.unwrap_or.result c.args.pairs.now) ++ (record { start = c.unwrap_or.result; end = c.unwrap_or-2.result }, c.args.value) ∷ (piece_list c.in_ok-right.right.rest ++ from g.K.Ord.cmp c.unwrap_or-2.result c.args.pairs.now))
     → OnOk result (IsChanged g.K.Ord.cmp g.V.PartialEq.eq c.args.pairs.now c.args.range (Some c.args.value) new)
 made g c result new ok = on_ok (IsChanged g.K.Ord.cmp g.V.PartialEq.eq c.args.pairs.now c.args.range (Some c.args.value)) result new _ ok (known g c).made
 

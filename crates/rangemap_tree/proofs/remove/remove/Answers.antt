@@ -56,10 +56,10 @@ pub returns-clause-meets_nothing : goal.returns-clause-meets_nothing
 returns-clause-meets_nothing g c = λ h. absurd (met g (goal.at.returns-clause-meets_nothing g c).Else-is_le h)
 
 -- all that is said of what is left on either side, and of the list that is made
-known : (g : _) (c : In_ok-right g) → IsChange g.K.Ord.cmp g.V.PartialEq.eq c.args.pairs.now c.args.range.now None c.in_ok-left.left.cut c.in_ok-right.right.piece c.args.range.now
+known : (g : _) (c : In_ok-right g) → IsChange g.K.Ord.cmp g.V.PartialEq.eq c.args.pairs.now c.args.range.now None c.in_ok-left.left.rest c.in_ok-right.right.rest c.args.range.now
 known g c =
     let r = c.args.range.now in
-    change g.met.K.Ord.total g.V.PartialEq.eq g.met.V.Eq.laws c.args.pairs.now c.requires.canonical r c.requires.non_empty None c.in_ok-left.left.start c.in_ok-right.right.end c.in_ok-left.left.cut c.in_ok-right.right.piece c.in_ok-left.ensures c.in_ok-right.ensures r (sym (ap (λ x. unwrap_or x r.start) (c.in_ok-left.ensures.of_none refl))) (sym (ap (λ x. unwrap_or x r.end) (c.in_ok-right.ensures.of_none refl)))
+    change g.met.K.Ord.total g.V.PartialEq.eq g.met.V.Eq.laws c.args.pairs.now c.requires.canonical r c.requires.non_empty None c.in_ok-left.left.outer_end c.in_ok-right.right.outer_end c.in_ok-left.left.rest c.in_ok-right.right.rest c.in_ok-left.ensures c.in_ok-right.ensures r (sym (ap (λ x. unwrap_or x r.start) (c.in_ok-left.ensures.of_none refl))) (sym (ap (λ x. unwrap_or x r.end) (c.in_ok-right.ensures.of_none refl)))
 
 pub erase-requires : goal.erase-requires
 erase-requires g c =
@@ -89,7 +89,7 @@ erase-requires-2-clause-cut g c = (known g (goal.at.erase-requires-2-clause-cut 
 pub erase-requires-2-clause-piece : goal.erase-requires-2-clause-piece
 erase-requires-2-clause-piece g c = (known g (goal.at.erase-requires-2-clause-piece g c).In_ok-right).new_there
 
-made : (g : _) (c : In_ok-right g) {T E : Type 0} (result : Result T E) (new : List (Range g.row.K.Denot × g.row.V.Denot)) → OnOk result (new ≡ recut c.in_ok-left.left.cut (before g.K.Ord.cmp c.args.range.now.start c.args.pairs.now) ++ (piece_list c.in_ok-right.right.piece ++ from g.K.Ord.cmp c.args.range.now.end c.args.pairs.now))
+made : (g : _) (c : In_ok-right g) {T E : Type 0} (result : Result T E) (new : List (Range g.row.K.Denot × g.row.V.Denot)) → OnOk result (new ≡ recut c.in_ok-left.left.rest (before g.K.Ord.cmp c.args.range.now.start c.args.pairs.now) ++ (piece_list c.in_ok-right.right.rest ++ from g.K.Ord.cmp c.args.range.now.end c.args.pairs.now))
     → OnOk result (IsChanged g.K.Ord.cmp g.V.PartialEq.eq c.args.pairs.now c.args.range.now None new)
 made g c result new ok = on_ok (IsChanged g.K.Ord.cmp g.V.PartialEq.eq c.args.pairs.now c.args.range.now None) result new _ ok (known g c).made
 

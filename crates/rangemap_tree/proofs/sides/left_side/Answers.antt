@@ -19,7 +19,7 @@ pub last_before-requires-clause-near : goal.last_before-requires-clause-near
 last_before-requires-clause-near g c = (option_copied c.args.value, c.requires.near.0, c.requires.near.1)
 
 pub returns-in_default : goal.returns-in_default
-returns-in_default g c = rw (c.none.ensures.start, c.none.ensures.cut) (left_none g.met.K.Ord.total g.V.PartialEq.eq g.met.V.Eq.laws c.args.pairs.now (spaced g (goal.at.returns-in_default g c).Start) c.args.range.now (option_copied c.args.value) c.in_default.ensures.1.0)
+returns-in_default g c = rw (c.none.ensures.outer_end, c.none.ensures.rest) (left_none g.met.K.Ord.total g.V.PartialEq.eq g.met.V.Eq.laws c.args.pairs.now (spaced g (goal.at.returns-in_default g c).Start) c.args.range.now (option_copied c.args.value) c.in_default.ensures.1.0)
 
 pub returns-then-is_lt : goal.returns-then-is_lt
 returns-then-is_lt g c =
@@ -27,7 +27,7 @@ returns-then-is_lt g c =
     let r = c.args.range.now in
     let a : Range g.row.K.Denot × g.row.V.Denot = (c.in-Some.first.now, c.in-Some.first_value.now) in
     let below = lt_is (g.K.Ord.cmp a.0.end r.start) (ap is_lt (sym c.cmp-reach.ensures) ∙ sym c.is_lt.ensures ∙ c.if-is_lt.true) in
-    rw (c.none-then-is_lt.ensures.start, c.none-then-is_lt.ensures.cut) (left_apart o g.V.PartialEq.eq g.met.V.Eq.laws c.args.pairs.now (spaced g (goal.at.returns-then-is_lt g c).Start) r (option_copied c.args.value) c.in-Some.ensures.0 a c.in-Some.ensures.1 (lt_le o a.0.end r.start below) (λ touch. let never = sym below ∙ touch in cc))
+    rw (c.none-then-is_lt.ensures.outer_end, c.none-then-is_lt.ensures.rest) (left_apart o g.V.PartialEq.eq g.met.V.Eq.laws c.args.pairs.now (spaced g (goal.at.returns-then-is_lt g c).Start) r (option_copied c.args.value) c.in-Some.ensures.0 a c.in-Some.ensures.1 (lt_le o a.0.end r.start below) (λ touch. let never = sym below ∙ touch in cc))
 
 pub returns-then-eq : goal.returns-then-eq
 returns-then-eq g c =
@@ -41,7 +41,7 @@ returns-then-is_le g c =
     let o = g.met.K.Ord.total in
     let r = c.args.range.now in
     let a : Range g.row.K.Denot × g.row.V.Denot = (c.in-Some.first.now, c.in-Some.first_value.now) in
-    rw (c.none-then-is_le.ensures.start, c.none-then-is_le.ensures.cut) (left_apart o g.V.PartialEq.eq g.met.V.Eq.laws c.args.pairs.now (spaced g (goal.at.returns-then-is_le g c).Start) r (option_copied c.args.value) c.in-Some.ensures.0 a c.in-Some.ensures.1 (gt_of_le (g.K.Ord.cmp a.0.end r.start) (ap is_le (sym c.cmp-reach.ensures) ∙ sym c.is_le.ensures ∙ c.if-is_le.true)) (λ touch. of_lent g.V.PartialEq.eq c.in-Some.first_value c.args.value ∙ sym c.eq.ensures ∙ c.if-eq.false))
+    rw (c.none-then-is_le.ensures.outer_end, c.none-then-is_le.ensures.rest) (left_apart o g.V.PartialEq.eq g.met.V.Eq.laws c.args.pairs.now (spaced g (goal.at.returns-then-is_le g c).Start) r (option_copied c.args.value) c.in-Some.ensures.0 a c.in-Some.ensures.1 (gt_of_le (g.K.Ord.cmp a.0.end r.start) (ap is_le (sym c.cmp-reach.ensures) ∙ sym c.is_le.ensures ∙ c.if-is_le.true)) (λ touch. of_lent g.V.PartialEq.eq c.in-Some.first_value c.args.value ∙ sym c.eq.ensures ∙ c.if-eq.false))
 
 pub returns : goal.returns
 returns g c =

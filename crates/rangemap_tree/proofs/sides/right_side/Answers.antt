@@ -22,12 +22,12 @@ near : (g : _) (c : In-Some g) → near_end g.K.Ord.cmp (option_copied c.args.va
 near g c = taken_some deref_pair (near_end g.K.Ord.cmp (option_copied c.args.value) c.args.range.now.end c.args.pairs.now) c.args.near c.requires.near (c.in-Some.last, c.in-Some.last_value) c.in-Some.is
 
 pub returns-in_default : goal.returns-in_default
-returns-in_default g c = rw (c.none.ensures.end, c.none.ensures.piece) (right_none g.met.K.Ord.total g.V.PartialEq.eq g.met.V.Eq.laws c.args.pairs.now (spaced g (goal.at.returns-in_default g c).Start) c.args.range.now (option_copied c.args.value) (taken_none deref_pair _ c.args.near c.requires.near c.in_default.is))
+returns-in_default g c = rw (c.none.ensures.outer_end, c.none.ensures.rest) (right_none g.met.K.Ord.total g.V.PartialEq.eq g.met.V.Eq.laws c.args.pairs.now (spaced g (goal.at.returns-in_default g c).Start) c.args.range.now (option_copied c.args.value) (taken_none deref_pair _ c.args.near c.requires.near c.in_default.is))
 
 pub returns-then-is_le : goal.returns-then-is_le
 returns-then-is_le g c =
     let b : Range g.row.K.Denot × g.row.V.Denot = (c.in-Some.last.now, c.in-Some.last_value.now) in
-    rw (c.none-then-is_le.ensures.end, c.none-then-is_le.ensures.piece) (right_within g.met.K.Ord.total g.V.PartialEq.eq g.met.V.Eq.laws c.args.pairs.now (spaced g (goal.at.returns-then-is_le g c).Start) c.args.range.now (option_copied c.args.value) c.requires.near.0 b (near g (goal.at.returns-then-is_le g c).In-Some) (gt_of_le (g.K.Ord.cmp b.0.end c.args.range.now.end) (ap is_le (sym c.cmp.ensures) ∙ sym c.is_le.ensures ∙ c.if-is_le.true)))
+    rw (c.none-then-is_le.ensures.outer_end, c.none-then-is_le.ensures.rest) (right_within g.met.K.Ord.total g.V.PartialEq.eq g.met.V.Eq.laws c.args.pairs.now (spaced g (goal.at.returns-then-is_le g c).Start) c.args.range.now (option_copied c.args.value) c.requires.near.0 b (near g (goal.at.returns-then-is_le g c).In-Some) (gt_of_le (g.K.Ord.cmp b.0.end c.args.range.now.end) (ap is_le (sym c.cmp.ensures) ∙ sym c.is_le.ensures ∙ c.if-is_le.true)))
 
 pub returns-then-eq : goal.returns-then-eq
 returns-then-eq g c =
@@ -39,7 +39,7 @@ returns-then-eq g c =
 pub returns-then-is_le-2 : goal.returns-then-is_le-2
 returns-then-is_le-2 g c =
     let b : Range g.row.K.Denot × g.row.V.Denot = (c.in-Some.last.now, c.in-Some.last_value.now) in
-    rw (c.none-then-is_le-2.ensures.end, c.none-then-is_le-2.ensures.piece) (right_touch g.met.K.Ord.total g.V.PartialEq.eq g.met.V.Eq.laws c.args.pairs.now (spaced g (goal.at.returns-then-is_le-2 g c).Start) c.args.range.now (option_copied c.args.value) c.requires.near.0 b (near g (goal.at.returns-then-is_le-2 g c).In-Some) (gt_of_le (g.K.Ord.cmp c.args.range.now.end b.0.start) (ap is_le (sym c.cmp-2.ensures) ∙ sym c.is_le-2.ensures ∙ c.if-is_le-2.true)) (of_lent g.V.PartialEq.eq c.in-Some.last_value c.args.value ∙ sym c.eq.ensures ∙ c.if-eq.false))
+    rw (c.none-then-is_le-2.ensures.outer_end, c.none-then-is_le-2.ensures.rest) (right_touch g.met.K.Ord.total g.V.PartialEq.eq g.met.V.Eq.laws c.args.pairs.now (spaced g (goal.at.returns-then-is_le-2 g c).Start) c.args.range.now (option_copied c.args.value) c.requires.near.0 b (near g (goal.at.returns-then-is_le-2 g c).In-Some) (gt_of_le (g.K.Ord.cmp c.args.range.now.end b.0.start) (ap is_le (sym c.cmp-2.ensures) ∙ sym c.is_le-2.ensures ∙ c.if-is_le-2.true)) (of_lent g.V.PartialEq.eq c.in-Some.last_value c.args.value ∙ sym c.eq.ensures ∙ c.if-eq.false))
 
 pub returns : goal.returns
 returns g c =
