@@ -59,33 +59,31 @@ module _ {K X V : Type 0} (k : RangeKind K X) {end_place : X → Option K} {part
   found_alike false true l m f g h same rest = absurd (true≢false (sym h))
   found_alike false false l m f g h same rest = rest
 
+  -- What holds of two empty lists, and of lists with an equal pair more in front, holds of all canonical lists that are equal.
+  along : (P : List (X × V) → List (X × V) → Type 0) → P [] []
+      → ((l m : X × V) (ls ms : List (X × V)) → IsStorable k l.0 → IsStorable k m.0 → same_pair k eq l m ≡ true → P ls ms → P (l ∷ ls) (m ∷ ms))
+      → (ls ms : List (X × V)) → IsCanonical k eq ls → IsCanonical k eq ms → same_pairs k eq ls ms ≡ true → P ls ms
+  along P none more [] [] cl cm h = none
+  along P none more [] (m ∷ ms) cl cm h = absurd (true≢false (sym h))
+  along P none more (l ∷ ls) [] cl cm h = absurd (true≢false (sym h))
+  along P none more (l ∷ ls) (m ∷ ms) cl cm h =
+      more l m ls ms cl.0 cm.0 (first_so (same_pair k eq l m) (same_pairs k eq ls ms) h)
+      (along P none more ls ms cl.2 cm.2 (second_so (same_pair k eq l m) (same_pairs k eq ls ms) h))
+
   same_overlapped : (q : X) → IsAsked k q → (ls ms : List (X × V)) → IsCanonical k eq ls → IsCanonical k eq ms → same_pairs k eq ls ms ≡ true → same_pairs k eq (overlapped k ls q) (overlapped k ms q) ≡ true
-  same_overlapped q a [] [] cl cm h = refl
-  same_overlapped q a [] (m ∷ ms) cl cm h = absurd (true≢false (sym h))
-  same_overlapped q a (l ∷ ls) [] cl cm h = absurd (true≢false (sym h))
-  same_overlapped q a (l ∷ ls) (m ∷ ms) cl cm h =
-      let here = first_so (same_pair k eq l m) (same_pairs k eq ls ms) h in
-      let both = from_same k eq l m here in
-      kept_alike (k.meets q l.0) (k.meets q m.0) l m (overlapped k ls q) (overlapped k ms q) (same_meets q l.0 m.0 a cl.0 cm.0 both.starts both.ends) here
-      (same_overlapped q a ls ms cl.2 cm.2 (second_so (same_pair k eq l m) (same_pairs k eq ls ms) h))
+  same_overlapped q a =
+      along (λ ls ms. same_pairs k eq (overlapped k ls q) (overlapped k ms q) ≡ true) refl
+      (λ l m ls ms sl sm here. let both = from_same k eq l m here in
+      kept_alike (k.meets q l.0) (k.meets q m.0) l m (overlapped k ls q) (overlapped k ms q) (same_meets q l.0 m.0 a sl sm both.starts both.ends) here)
 
   same_covering : (x : K) → k.is_key x → (ls ms : List (X × V)) → IsCanonical k eq ls → IsCanonical k eq ms → same_pairs k eq ls ms ≡ true → option_eq (same_pair k eq) (covering k ls x) (covering k ms x) ≡ true
-  same_covering x key [] [] cl cm h = refl
-  same_covering x key [] (m ∷ ms) cl cm h = absurd (true≢false (sym h))
-  same_covering x key (l ∷ ls) [] cl cm h = absurd (true≢false (sym h))
-  same_covering x key (l ∷ ls) (m ∷ ms) cl cm h =
-      let here = first_so (same_pair k eq l m) (same_pairs k eq ls ms) h in
-      let both = from_same k eq l m here in
-      found_alike (k.holds l.0 x) (k.holds m.0 x) l m (covering k ls x) (covering k ms x) (same_points k p l.0 m.0 x cl.0 cm.0 key both.starts both.ends) here
-      (same_covering x key ls ms cl.2 cm.2 (second_so (same_pair k eq l m) (same_pairs k eq ls ms) h))
+  same_covering x key =
+      along (λ ls ms. option_eq (same_pair k eq) (covering k ls x) (covering k ms x) ≡ true) refl
+      (λ l m ls ms sl sm here. let both = from_same k eq l m here in
+      found_alike (k.holds l.0 x) (k.holds m.0 x) l m (covering k ls x) (covering k ms x) (same_points k p l.0 m.0 x sl sm key both.starts both.ends) here)
 
-  equal_numbers : (ls ms : List (X × V)) → same_pairs k eq ls ms ≡ true → length ls ≡ length ms
-  equal_numbers [] [] h = refl
-  equal_numbers [] (m ∷ ms) h = absurd (true≢false (sym h))
-  equal_numbers (l ∷ ls) [] h = absurd (true≢false (sym h))
-  equal_numbers (l ∷ ls) (m ∷ ms) h =
-      let rest = equal_numbers ls ms (second_so (same_pair k eq l m) (same_pairs k eq ls ms) h) in
-      omega arith
+  equal_numbers : (ls ms : List (X × V)) → IsCanonical k eq ls → IsCanonical k eq ms → same_pairs k eq ls ms ≡ true → length ls ≡ length ms
+  equal_numbers = along (λ ls ms. length ls ≡ length ms) refl (λ l m ls ms sl sm here rest. omega (arith, rest))
 
   -- both lists are canonical, and equal
   abbrev AreEqual : List (X × V) → List (X × V) → Type 0
@@ -117,7 +115,7 @@ module _ {K X V : Type 0} (k : RangeKind K X) {end_place : X → Option K} {part
         )
     accepted_alike Clear one other new after given reply h n a = (named given reply answer.Done answer.Done n.0 a.0 tt, unchanged [] [] new after (tt, tt, refl) n.1 a.1)
     accepted_alike Len one other new after given reply h n a = (
-      named given reply (answer.Len (length one)) (answer.Len (length other)) n.0 a.0 (equal_numbers one other h.2),
+      named given reply (answer.Len (length one)) (answer.Len (length other)) n.0 a.0 (equal_numbers one other h.0 h.1 h.2),
       unchanged one other new after h n.1 a.1,
     )
     accepted_alike (Get key) one other new after given reply h n a = (
