@@ -6,7 +6,7 @@ use Rattle.std.specs.Map.Iter.{TakesFirst, TakesLast}
 use Rattle.std.specs.declared.alloc.AllocError.{AllocError}
 use Rattle.rangemap_core.specs.MadeRanges.{GivesRange, TakesRange}
 use Rattle.rangemap_core.specs.Ranges.{RangeKind}
-use Rattle.rangemap_laws.specs.IteratorEnds.{GoesToEnd, TriesToEnd}
+use Rattle.rangemap_laws.specs.IteratorEnds.{AllGoToEnd, AllTryToEnd, GoesToEnd, TriesToEnd}
 
 -- ---- one call
 
@@ -65,11 +65,11 @@ module _ {S : Type 0} (left : S → ℕ) where
 
   module _ {A B : Type 0} (s t u v : S) where
     -- `next`, `try_next`, `next`
-    pub next_ends : (r : Option A) (q : Result (Option B) AllocError) (p : Option A) → GoesToEnd left s r t → TriesToEnd left t q u → GoesToEnd left u p v → OnSome r (left v < left s)
+    next_ends : (r : Option A) (q : Result (Option B) AllocError) (p : Option A) → GoesToEnd left s r t → TriesToEnd left t q u → GoesToEnd left u p v → OnSome r (left v < left s)
     next_ends None q p a b c = tt
     next_ends (Some x) q p a b c = omega (arith, a, tries_down t u q b, goes_down u v p c)
 
-    pub next_stays : (r : Option A) (q : Result (Option B) AllocError) (p : Option A) → GoesToEnd left s r t → TriesToEnd left t q u → GoesToEnd left u p v → IfNone r ((left s ≡ 0) × (q ≡ Ok None) × IsNone p × (v ≡ s))
+    next_stays : (r : Option A) (q : Result (Option B) AllocError) (p : Option A) → GoesToEnd left s r t → TriesToEnd left t q u → GoesToEnd left u p v → IfNone r ((left s ≡ 0) × (q ≡ Ok None) × IsNone p × (v ≡ s))
     next_stays (Some x) q p a b c = tt
     next_stays None q p a b c =
         let none : left t ≡ 0 = ap left a.1 ∙ a.0 in
@@ -78,12 +78,12 @@ module _ {S : Type 0} (left : S → ℕ) where
         (a.0, tried.0, last.0, last.1 ∙ tried.1 ∙ a.1)
 
     -- `try_next` twice, and `next`
-    pub tries_end : (r q : Result (Option B) AllocError) (p : Option A) → TriesToEnd left s r t → TriesToEnd left t q u → GoesToEnd left u p v → IfOk r (λ answer. OnSome answer (left v < left s))
+    tries_end : (r q : Result (Option B) AllocError) (p : Option A) → TriesToEnd left s r t → TriesToEnd left t q u → GoesToEnd left u p v → IfOk r (λ answer. OnSome answer (left v < left s))
     tries_end (Ok None) q p a b c = tt
     tries_end (Ok (Some x)) q p a b c = omega (arith, a, tries_down t u q b, goes_down u v p c)
     tries_end (Err e) q p a b c = tt
 
-    pub tries_stay : (r q : Result (Option B) AllocError) (p : Option A) → TriesToEnd left s r t → TriesToEnd left t q u → GoesToEnd left u p v → IfOk r (λ answer. IfNone answer ((left s ≡ 0) × (q ≡ Ok None) × IsNone p × (v ≡ s)))
+    tries_stay : (r q : Result (Option B) AllocError) (p : Option A) → TriesToEnd left s r t → TriesToEnd left t q u → GoesToEnd left u p v → IfOk r (λ answer. IfNone answer ((left s ≡ 0) × (q ≡ Ok None) × IsNone p × (v ≡ s)))
     tries_stay (Ok None) q p a b c =
         let none : left t ≡ 0 = ap left a.1 ∙ a.0 in
         let tried = tries_ended t u q none b in
@@ -91,3 +91,19 @@ module _ {S : Type 0} (left : S → ℕ) where
         (a.0, tried.0, last.0, last.1 ∙ tried.1 ∙ a.1)
     tries_stay (Ok (Some x)) q p a b c = tt
     tries_stay (Err e) q p a b c = tt
+
+    -- the same of calls that meet relations by which all calls go to the end
+    module _ {gives : S → Option A → S → Type 0} {takes : S → Result (Option B) AllocError → S → Type 0} (goes : AllGoToEnd left gives) (tries : AllTryToEnd left takes) where
+      pub next_goes : (r : Option A) (q : Result (Option B) AllocError) (p : Option A) → gives s r t → takes t q u → gives u p v → OnSome r (left v < left s) × IfNone r ((left s ≡ 0) × (q ≡ Ok None) × IsNone p × (v ≡ s))
+      next_goes r q p x y z =
+          let first = goes s r t x in
+          let tried = tries t q u y in
+          let last = goes u p v z in
+          (next_ends r q p first tried last, next_stays r q p first tried last)
+
+      pub tries_go : (r q : Result (Option B) AllocError) (p : Option A) → takes s r t → takes t q u → gives u p v
+          → IfOk r (λ answer. OnSome answer (left v < left s)) × IfOk r (λ answer. IfNone answer ((left s ≡ 0) × (q ≡ Ok None) × IsNone p × (v ≡ s)))
+      tries_go r q p x y z = (
+        tries_end r q p (tries s r t x) (tries t q u y) (goes u p v z),
+        tries_stay r q p (tries s r t x) (tries t q u y) (goes u p v z),
+      )
