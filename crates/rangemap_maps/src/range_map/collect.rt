@@ -42,10 +42,7 @@ where
     }
 }
 
-impl<S: StoreMut> Map<S>
-where
-    S::Kind: Kind<S::Range, Steps = <S::Range as KeyRange>::Key>,
-{
+impl<S: StoreMut> Map<S> {
     /// Inserts the items of `iter`, in the order in which they come, each as `insert` does.
     ///
     /// In a vector and in chunks, items that come in order, behind all that is stored, move no stored
@@ -171,10 +168,7 @@ where
     }
 }
 
-impl<S: HandsOver> IntoIterator for Map<S>
-where
-    S::Kind: Kind<S::Range, Steps = <S::Range as KeyRange>::Key>,
-{
+impl<S: HandsOver> IntoIterator for Map<S> {
     ghost use Rattle.std.specs.Prelude.{◌≡◌};
     ghost use Rattle.rangemap_core.specs.Ranges.{IsCanonical};
 

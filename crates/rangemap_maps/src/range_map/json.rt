@@ -13,10 +13,7 @@ use serde_json::Value;
 use std::alloc::Global;
 use std::marker::PhantomData;
 
-impl<S: Store> Map<S>
-where
-    S::Kind: Kind<S::Range, Steps = <S::Range as KeyRange>::Key>,
-{
+impl<S: Store> Map<S> {
     /// Returns the JSON form of the map: the list of `[[start, end], value]` of its pairs, in
     /// order, each part as the caller's functions write it, in memory of `alloc`.
     ///
