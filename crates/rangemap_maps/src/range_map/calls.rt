@@ -13,7 +13,7 @@ use std::vec::Vec;
 /// the list.
 #[derive(Debug, Drop)]
 pub enum Call<R, V, A: Allocator> {
-    /// A call that every map has, where `New` makes the map by `new`.
+    /// A call that every map has.
     Change(Change<R, V>),
     /// Makes a map of the pairs, inserted in order.
     FromIter { pairs: Vec<(R, V), A> },
@@ -24,7 +24,6 @@ pub enum Call<R, V, A: Allocator> {
 impl<S: StoreMut + Drop> CallOn<Map<S>> for Call<S::Range, S::Value, S::Alloc>
 where
     S::Alloc: Clone,
-    S::Kind: Kind<S::Range, Steps = <S::Range as KeyRange>::Key>,
 {
     ghost use Rattle.rangemap_maps.specs.MapHistories.{HasNonEmptyRanges, Step};
 
@@ -34,9 +33,8 @@ where
 
     fn make(self, alloc: S::Alloc, maps: &mut Vec<Map<S>, S::Alloc>) -> bool {
         match self {
-            Call::Change(Change::New) => push_made(maps, Ok(Map::new(alloc))),
             Call::Change(change) => change.make(alloc, maps),
-            Call::FromIter { pairs } => push_made(maps, Map::from_iter(alloc, pairs)),
+            Call::FromIter { pairs } => push_made(maps, Map::from_items(alloc, pairs)),
             Call::Extend { at, pairs } => match maps.get_mut(at) {
                 Some(map) => map.extend(pairs).is_ok(),
                 None => false,

@@ -99,6 +99,31 @@ impl<S: StoreMut> Map<S> {
     }
 }
 
+impl<S: StoreMut + Drop> Map<S> {
+    // Does what `from_iter` does, over any steps.
+    pub(super) fn from_items<I: IntoIterator<Item = (S::Range, S::Value)>>(
+        alloc: S::Alloc,
+        iter: I,
+    ) -> Result<Self, AllocError>
+        requires ends { IsFiniteIterable I.into_iter_gives I.IntoIter.can_next I.IntoIter.remaining iter }
+        requires non_empty { (it : I.IntoIter) → I.into_iter_gives iter it
+            → GivesNonEmpty S.Kind.kind I.IntoIter.next_gives it }
+        requires faithful_keys { KeysCloneFaithfully S.Range.Key.is_clone S.Range.Key.cmp }
+        requires faithful_values { ValuesCloneFaithfully S.Value.is_clone S.Value.eq }
+        ensures items { IfOk result
+            (λ all. (it : I.IntoIter) × (pairs : List _) × I.into_iter_gives iter it
+            × Drains I.IntoIter.next_gives it pairs
+            × IsCanonOf S.Kind.kind S.Value.eq (override_all S.Kind.kind nothing pairs) all) }
+        ensures of_nothing { ((it : I.IntoIter) → I.into_iter_gives iter it
+            → GivesNothing I.IntoIter.next_gives it)
+            → IsOk result }
+    {
+        let mut all = Map::new_with_step_fns(alloc);
+        all.extend(iter)?;
+        Ok(all)
+    }
+}
+
 impl<S: StoreMut + Drop> Map<S>
 where
     S::Kind: Kind<S::Range, Steps = <S::Range as KeyRange>::Key>,
@@ -130,9 +155,7 @@ where
             → GivesNothing I.IntoIter.next_gives it)
             → IsOk result }
     {
-        let mut all = Map::new(alloc);
-        all.extend(iter)?;
-        Ok(all)
+        Map::from_items(alloc, iter)
     }
 
     /// Returns the map of the pairs of an array, inserted in their order, in memory of `alloc`.

@@ -1,23 +1,18 @@
-use Rattle.std.proofs.Common.{arith, ◌≡◌, ◌++◌, ◌∷◌, [], ap, length, refl, subst, take, ◌∙◌}
+use Rattle.std.proofs.Common.{arith, ap, length, refl, subst, take, ◌∙◌}
 use Rattle.std.proofs.IntoIterSteps.{All-taken}
 use Rattle.std.proofs.lemmas.Result.{IfOk-weaker, MatchResult-weaker}
 use Rattle.std.specs.Vec.Iter.{into_iter_items}
 use Rattle.rangemap_core.specs.Ranges.{IsCanonOf, Overrides, nothing, override_all}
 use Rattle.rangemap_core.proofs.IncomingLemmas.{listed, taken_front, taken_less}
 use Rattle.rangemap_containers.specs.Histories.{Makes}
-use Rattle.rangemap_containers.proofs.ReplayLemmas.{added_or_not, new_made}
+use Rattle.rangemap_containers.proofs.ReplayLemmas.{added_or_not}
 use Rattle.rangemap_maps.specs.MapHistories.{HasNonEmptyRanges, Step}
 use Rattle.rangemap_maps.specs.declared.range_map.calls.Call.TheVariants.{FromIter}
 use Rattle.rangemap_maps.proofs.MapReplayLemmas.{extend_here, extend_past, from_iter_made}
 use Rattle.rangemap_maps.proofs.range_map.calls.CallRangeValueAllocCallOnMap.make.Goals as goal
 
-pub returns-in-Change-New-clause-made : goal.returns-in-Change-New-clause-made
-returns-in-Change-New-clause-made g c =
-    let added : c.push_made.new.containers.items ≡ c.args.maps.now.items ++ c.new.result ∷ [] = c.push_made.ensures.ok in
-    rw c.in-Change-New.is (rw c.in-Change-New.field-0-is (rw c.push_made.ensures.answer (rw added (new_made g.S.Kind.Kind.kind g.met.S.Value.Eq.laws (λ map. map) c.args.maps.now.items c.new.result c.new.ensures))))
-
-pub from_iter-requires-clause-non_empty : goal.from_iter-requires-clause-non_empty
-from_iter-requires-clause-non_empty g c it h =
+pub from_items-requires-clause-non_empty : goal.from_items-requires-clause-non_empty
+from_items-requires-clause-non_empty g c it h =
     listed g.S.Kind.Kind.kind into_iter_items h.3 it _ h.0 (subst (HasNonEmptyRanges g.S.Kind.Kind.kind) c.in-FromIter.is c.requires.non_empty)
 
 pub returns-in-FromIter-clause-made : goal.returns-in-FromIter-clause-made
@@ -28,11 +23,11 @@ returns-in-FromIter-clause-made g c =
     rw c.in-FromIter.is (
     added_or_not (λ map. IsCanonOf k g.S.Value.PartialEq.eq (override_all k nothing pairs.items) map)
     (Makes k g.S.Value.PartialEq.eq (λ map. map) (Step k) maps (FromIter pairs))
-    maps c.push_made-in-FromIter.new.containers.items c.from_iter.result c.push_made-in-FromIter.result
+    maps c.push_made.new.containers.items c.from_items.result c.push_made.result
     (from_iter_made k g.met.S.Value.Eq.laws maps pairs)
     (λ fs h. (fs, refl, h))
-    (IfOk-weaker c.from_iter.result _ _ (λ map made. subst (λ ps. IsCanonOf k g.S.Value.PartialEq.eq (override_all k nothing ps) map) (All-taken made.0 made.1 made.3 ∙ made.2.0) made.4) c.from_iter.ensures.items)
-    c.push_made-in-FromIter.ensures.answer c.push_made-in-FromIter.ensures.ok c.push_made-in-FromIter.ensures.err)
+    (IfOk-weaker c.from_items.result _ _ (λ map made. subst (λ ps. IsCanonOf k g.S.Value.PartialEq.eq (override_all k nothing ps) map) (All-taken made.0 made.1 made.3 ∙ made.2.0) made.4) c.from_items.ensures.items)
+    c.push_made.ensures.answer c.push_made.ensures.ok c.push_made.ensures.err)
 
 pub extend-requires-clause-non_empty : goal.extend-requires-clause-non_empty
 extend-requires-clause-non_empty g c it h =
