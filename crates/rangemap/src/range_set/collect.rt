@@ -41,10 +41,7 @@ where
     }
 }
 
-impl<S: StoreMut<Value = ()>> Set<S>
-where
-    S::Kind: Kind<S::Range, Steps = <S::Range as KeyRange>::Key>,
-{
+impl<S: StoreMut<Value = ()>> Set<S> {
     /// Inserts the items of `iter`, in the order in which they come, each as `insert` does.
     ///
     /// In a vector and in chunks, items that come in order, behind all that is stored, move no stored
@@ -150,10 +147,7 @@ where
     }
 }
 
-impl<S: HandsOver + Store<Value = ()>> IntoIterator for Set<S>
-where
-    S::Kind: Kind<S::Range, Steps = <S::Range as KeyRange>::Key>,
-{
+impl<S: HandsOver + Store<Value = ()>> IntoIterator for Set<S> {
     ghost use Rattle.std.specs.Prelude.{◌≡◌};
     ghost use Rattle.rangemap.specs.Sets.{IsCanonicalSet};
 

@@ -14,10 +14,7 @@ use serde_json::Value;
 use std::alloc::Global;
 use std::marker::PhantomData;
 
-impl<S: Store<Value = ()>> Set<S>
-where
-    S::Kind: Kind<S::Range, Steps = <S::Range as KeyRange>::Key>,
-{
+impl<S: Store<Value = ()>> Set<S> {
     /// Returns the JSON form of the set: the list of `[start, end]` of its ranges, in order, each
     /// key as the caller's function writes it, in memory of `alloc`.
     ///

@@ -10,7 +10,6 @@ use std::fmt::{self, Debug, Formatter};
 impl<S: Store<Range: Debug, Value = ()>> Debug for Set<S>
 where
     <S::Range as KeyRange>::Key: Debug,
-    S::Kind: Kind<S::Range, Steps = <S::Range as KeyRange>::Key>,
 {
     ghost use Rattle.rangemap.specs.Texts.{set_text};
 
