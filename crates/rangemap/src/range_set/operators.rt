@@ -106,7 +106,6 @@ where
 impl<'a, S: StoreMut<Value = ()> + Drop> BitOr<&'a Set<S>> for &'a Set<S>
 where
     S::Alloc: Clone,
-    S::Kind: Kind<S::Range, Steps = <S::Range as KeyRange>::Key>,
 {
     ghost use Rattle.std.specs.Prelude.{IfOk};
     ghost use Rattle.rangemap.specs.Clones.{KeysCloneFaithfully};
@@ -144,7 +143,6 @@ where
 impl<'a, S: StoreMut<Value = ()> + Drop> BitAnd<&'a Set<S>> for &'a Set<S>
 where
     S::Alloc: Clone,
-    S::Kind: Kind<S::Range, Steps = <S::Range as KeyRange>::Key>,
 {
     ghost use Rattle.std.specs.Prelude.{IfOk};
     ghost use Rattle.rangemap.specs.Clones.{KeysCloneFaithfully};
@@ -182,7 +180,6 @@ where
 impl<'a, S: StoreMut<Value = ()> + Drop> Sub<&'a Set<S>> for &'a Set<S>
 where
     S::Alloc: Clone,
-    S::Kind: Kind<S::Range, Steps = <S::Range as KeyRange>::Key>,
 {
     ghost use Rattle.std.specs.Prelude.{IfOk};
     ghost use Rattle.rangemap.specs.Clones.{KeysCloneFaithfully};
@@ -221,7 +218,6 @@ where
 impl<'a, S: StoreMut<Value = ()> + Drop> BitXor<&'a Set<S>> for &'a Set<S>
 where
     S::Alloc: Clone,
-    S::Kind: Kind<S::Range, Steps = <S::Range as KeyRange>::Key>,
 {
     ghost use Rattle.std.specs.Prelude.{IfOk};
     ghost use Rattle.rangemap.specs.Clones.{KeysCloneFaithfully};
@@ -283,7 +279,6 @@ impl Operator {
         right: &Set<S>,
     ) -> Result<Set<S>, AllocError>
     where
-        S::Kind: Kind<S::Range, Steps = <S::Range as KeyRange>::Key>,
         S::Alloc: Clone,
         requires faithful_keys { KeysCloneFaithfully S.Range.Key.is_clone S.Range.Key.cmp }
         ensures { IfOk result (IsCanonOfPoints S.Kind.kind
