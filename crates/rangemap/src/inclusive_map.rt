@@ -16,9 +16,8 @@ use std::{slice, vec};
 /// values. Closed ranges touch if no key lies between them, which the steps of `StepFnsT` tell.
 /// `StepFnsT` is mostly `K` itself. The ranges are kept in one sorted vector.
 ///
-/// `new`, `from`, `from_iter`, `extend`, `into_iter`, `to_value`, `from_value` and `{:?}` exist only if
-/// `StepFnsT` is `K`. The range of an `insert` or a `remove` is not empty,
-/// `range.start() <= range.end()`, and was not iterated to its end.
+/// `new`, `from`, `from_iter` and `from_value` exist only if `StepFnsT` is `K`. The range of an `insert`
+/// or a `remove` is not empty, `range.start() <= range.end()`, and was not iterated to its end.
 ///
 /// # Examples
 ///
@@ -93,5 +92,5 @@ pub type Gaps<'a, K, V, StepFnsT = K> = gaps::Gaps<
 /// One call of a `replay`. It makes a map, or changes the map at a place of the list.
 pub type Call<K, V, A = Global> = map_calls::Call<RangeInclusive<K>, V, A>;
 
-/// A call that a map over any steps has: every call of `Call` except the two that take pairs.
+/// One of the calls that every map has. `Call::Change` holds it.
 pub type Change<K, V> = calls::Change<RangeInclusive<K>, V>;

@@ -16,9 +16,8 @@ use std::{slice, vec};
 /// ranges touch if no key lies between them, which the steps of `StepFnsT` tell. `StepFnsT` is
 /// mostly `T` itself. The ranges are kept in one sorted vector.
 ///
-/// `new`, `from`, `from_iter`, `extend`, `into_iter`, `|`, `&`, `-`, `^`, `to_value`, `from_value` and
-/// `{:?}` exist only if `StepFnsT` is `T`. The range of an `insert` or a `remove` is not empty,
-/// `range.start() <= range.end()`, and was not iterated to its end.
+/// `new`, `from`, `from_iter` and `from_value` exist only if `StepFnsT` is `T`. The range of an `insert`
+/// or a `remove` is not empty, `range.start() <= range.end()`, and was not iterated to its end.
 ///
 /// # Examples
 ///
@@ -127,6 +126,6 @@ pub type SymmetricDifference<'a, T, StepFnsT = T> = unions::SymmetricDifference<
 /// One call of a `replay`. It makes a set, or changes the set at a place of the list.
 pub type Call<T, A = Global> = SetCall<RangeInclusive<T>, A>;
 
-/// A call that a set over any steps has: every call of `Call` except the two that take ranges and the
+/// A call that every container has: every call of `Call` except the two that take ranges and the
 /// operators.
 pub type Change<T> = calls::Change<RangeInclusive<T>, ()>;

@@ -16,9 +16,8 @@ use std::ops::RangeInclusive;
 /// values: closed ranges touch if no key lies between. The steps of `StepFnsT`, mostly `K` itself, tell
 /// that. It keeps them in chunks, each a sorted vector.
 ///
-/// `new`, `from`, `from_iter`, `extend`, `into_iter`, `to_value`, `from_value` and `{:?}` exist only if
-/// `StepFnsT` is `K`. The range of an `insert` or a `remove` is not empty,
-/// `range.start() <= range.end()`, and was not iterated to its end.
+/// `new`, `from`, `from_iter` and `from_value` exist only if `StepFnsT` is `K`. The range of an `insert`
+/// or a `remove` is not empty, `range.start() <= range.end()`, and was not iterated to its end.
 ///
 /// # Examples
 ///
@@ -85,5 +84,5 @@ pub type Gaps<'a, K, V, StepFnsT = K, A = Global> = gaps::Gaps<
 /// A call that makes a map or changes the one at a place of a list.
 pub type Call<K, V, A = Global> = map_calls::Call<RangeInclusive<K>, V, A>;
 
-/// A call that a map over any steps has: every call of `Call` except the two that take pairs.
+/// One of the calls that every map has. `Call::Change` holds it.
 pub type Change<K, V> = calls::Change<RangeInclusive<K>, V>;

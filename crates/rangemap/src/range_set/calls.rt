@@ -48,7 +48,6 @@ pub enum SetCall<R, A: Allocator> {
 impl<S: StoreMut<Value = ()> + Drop> CallOn<Set<S>> for SetCall<S::Range, S::Alloc>
 where
     S::Alloc: Clone,
-    S::Kind: Kind<S::Range, Steps = <S::Range as KeyRange>::Key>,
 {
     ghost use Rattle.rangemap.specs.SetHistories.{SetHasNonEmptyRanges, SetStep};
 
@@ -58,7 +57,7 @@ where
 
     fn make(self, alloc: S::Alloc, sets: &mut Vec<Set<S>, S::Alloc>) -> bool {
         match self {
-            SetCall::New => push_made(sets, Ok(Set::new(alloc))),
+            SetCall::New => push_made(sets, Ok(Set::new_with_step_fns(alloc))),
             SetCall::Insert { at, range } => Change::Insert {
                 at,
                 range,
@@ -68,7 +67,7 @@ where
             SetCall::Remove { at, range } => Change::Remove { at, range }.make(alloc, sets),
             SetCall::Clear { at } => Change::Clear { at }.make(alloc, sets),
             SetCall::Clone { at } => Change::Clone { at }.make(alloc, sets),
-            SetCall::FromIter { ranges } => push_made(sets, Set::from_iter(alloc, ranges)),
+            SetCall::FromIter { ranges } => push_made(sets, Set::from_items(alloc, ranges)),
             SetCall::Extend { at, ranges } => match sets.get_mut(at) {
                 Some(set) => set.extend(ranges).is_ok(),
                 None => false,
@@ -102,7 +101,6 @@ impl Join {
         right: &Set<S>,
     ) -> Result<Set<S>, AllocError>
     where
-        S::Kind: Kind<S::Range, Steps = <S::Range as KeyRange>::Key>,
         S::Alloc: Clone,
         requires faithful_keys { KeysCloneFaithfully S.Range.Key.is_clone S.Range.Key.cmp }
         ensures { IfOk result (IsCanonOfPoints S.Kind.kind
@@ -126,7 +124,6 @@ fn push_joined<S: StoreMut<Value = ()> + Drop>(
 ) -> bool
 where
     S::Alloc: Clone,
-    S::Kind: Kind<S::Range, Steps = <S::Range as KeyRange>::Key>,
     requires room { vec_len sets.old < vec_capacity sets.old }
     requires faithful_keys { KeysCloneFaithfully S.Range.Key.is_clone S.Range.Key.cmp }
     ensures made { Makes S.Kind.kind (unit_eq S.Kind.kind)

@@ -91,6 +91,30 @@ impl<S: StoreMut<Value = ()>> Set<S> {
     }
 }
 
+impl<S: StoreMut<Value = ()> + Drop> Set<S> {
+    // Does what `from_iter` does, over any steps.
+    pub(super) fn from_items<I: IntoIterator<Item = S::Range>>(
+        alloc: S::Alloc,
+        iter: I,
+    ) -> Result<Self, AllocError>
+        requires ends { IsFiniteIterable I.into_iter_gives I.IntoIter.can_next I.IntoIter.remaining iter }
+        requires non_empty { (it : I.IntoIter) → I.into_iter_gives iter it
+            → GivesNonEmptyRanges S.Kind.kind I.IntoIter.next_gives it }
+        requires faithful_keys { KeysCloneFaithfully S.Range.Key.is_clone S.Range.Key.cmp }
+        ensures items { IfOk result
+            (λ all. (it : I.IntoIter) × (ranges : List _) × I.into_iter_gives iter it
+            × Drains I.IntoIter.next_gives it ranges
+            × IsCanonOfPoints S.Kind.kind (covers S.Kind.kind ranges) all) }
+        ensures of_nothing { ((it : I.IntoIter) → I.into_iter_gives iter it
+            → GivesNothing I.IntoIter.next_gives it)
+            → IsOk result }
+    {
+        let mut all = Set::new_with_step_fns(alloc);
+        all.extend(iter)?;
+        Ok(all)
+    }
+}
+
 impl<S: StoreMut<Value = ()> + Drop> Set<S>
 where
     S::Kind: Kind<S::Range, Steps = <S::Range as KeyRange>::Key>,
@@ -121,9 +145,7 @@ where
             → GivesNothing I.IntoIter.next_gives it)
             → IsOk result }
     {
-        let mut all = Set::new(alloc);
-        all.extend(iter)?;
-        Ok(all)
+        Set::from_items(alloc, iter)
     }
 
     /// Returns the set of the ranges of an array, inserted in their order, in memory of `alloc`.

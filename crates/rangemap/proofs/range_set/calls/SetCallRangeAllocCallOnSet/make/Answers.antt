@@ -17,11 +17,11 @@ use Rattle.rangemap.proofs.range_set.calls.SetCallRangeAllocCallOnSet.make.Goals
 pub returns-in-New-clause-made : goal.returns-in-New-clause-made
 returns-in-New-clause-made g c =
     let k = g.S.Kind.Kind.kind in
-    let added : c.push_made.new.containers.items ≡ c.args.sets.now.items ++ c.new.result ∷ [] = c.push_made.ensures.ok in
-    rw c.in-New.is (rw c.push_made.ensures.answer (rw added (new_made k (unit_equiv k) (with_unit k) c.args.sets.now.items c.new.result (ap (with_unit k) c.new.ensures))))
+    let added : c.push_made.new.containers.items ≡ c.args.sets.now.items ++ c.new_with_step_fns.result ∷ [] = c.push_made.ensures.ok in
+    rw c.in-New.is (rw c.push_made.ensures.answer (rw added (new_made k (unit_equiv k) (with_unit k) c.args.sets.now.items c.new_with_step_fns.result (ap (with_unit k) c.new_with_step_fns.ensures))))
 
-pub from_iter-requires-clause-non_empty : goal.from_iter-requires-clause-non_empty
-from_iter-requires-clause-non_empty g c it h =
+pub from_items-requires-clause-non_empty : goal.from_items-requires-clause-non_empty
+from_items-requires-clause-non_empty g c it h =
     listed g.S.Kind.Kind.kind into_iter_items h.3 it _ h.0 (subst (SetHasNonEmptyRanges g.S.Kind.Kind.kind) c.in-FromIter.is c.requires.non_empty)
 
 pub returns-in-FromIter-clause-made : goal.returns-in-FromIter-clause-made
@@ -32,10 +32,10 @@ returns-in-FromIter-clause-made g c =
     rw c.in-FromIter.is (
     added_or_not (λ set. IsCanonOfPoints k (covers k given.items) set)
     (Makes k (unit_eq k) (with_unit k) (SetStep k) sets (FromIter given))
-    sets c.push_made-in-FromIter.new.containers.items c.from_iter.result c.push_made-in-FromIter.result
+    sets c.push_made-in-FromIter.new.containers.items c.from_items.result c.push_made-in-FromIter.result
     (from_iter_made k sets given)
     (λ fs h. (fs, refl, h))
-    (IfOk-weaker c.from_iter.result _ _ (λ set made. subst (λ rs. IsCanonOfPoints k (covers k rs) set) (All-taken made.0 made.1 made.3 ∙ made.2.0) made.4) c.from_iter.ensures.items)
+    (IfOk-weaker c.from_items.result _ _ (λ set made. subst (λ rs. IsCanonOfPoints k (covers k rs) set) (All-taken made.0 made.1 made.3 ∙ made.2.0) made.4) c.from_items.ensures.items)
     c.push_made-in-FromIter.ensures.answer c.push_made-in-FromIter.ensures.ok c.push_made-in-FromIter.ensures.err)
 
 pub extend-requires-clause-non_empty : goal.extend-requires-clause-non_empty
