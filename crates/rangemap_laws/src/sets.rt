@@ -42,7 +42,6 @@ pub fn commutes<S: StoreMut<Value = ()> + Drop>(
 ) -> Result<(Set<S>, Set<S>), AllocError>
 where
     S::Alloc: Clone,
-    S::Kind: Kind<S::Range, Steps = <S::Range as KeyRange>::Key>,
     requires faithful_keys { KeysCloneFaithfully S.Range.Key.is_clone S.Range.Key.cmp }
     ensures left { IfOk result (λ sets. IsCanonOfPoints S.Kind.kind
         (joined operator (covers S.Kind.kind first.now) (covers S.Kind.kind second.now)) sets.0) }
@@ -68,7 +67,6 @@ pub fn associates<S: StoreMut<Value = ()> + Drop>(
 ) -> Result<(Set<S>, Set<S>), AllocError>
 where
     S::Alloc: Clone,
-    S::Kind: Kind<S::Range, Steps = <S::Range as KeyRange>::Key>,
     requires faithful_keys { KeysCloneFaithfully S.Range.Key.is_clone S.Range.Key.cmp }
     ensures left { IfOk result (λ sets. IsCanonOfPoints S.Kind.kind
         (joined operator
@@ -101,7 +99,6 @@ pub fn is_idempotent<S: StoreMut<Value = ()> + Drop>(
 ) -> Result<Set<S>, AllocError>
 where
     S::Alloc: Clone,
-    S::Kind: Kind<S::Range, Steps = <S::Range as KeyRange>::Key>,
     requires faithful_keys { KeysCloneFaithfully S.Range.Key.is_clone S.Range.Key.cmp }
     ensures made { IfOk result (IsCanonOfPoints S.Kind.kind
         (joined operator (covers S.Kind.kind first.now) (covers S.Kind.kind first.now))) }
@@ -123,7 +120,6 @@ pub fn absorbs<S: StoreMut<Value = ()> + Drop>(
 ) -> Result<Set<S>, AllocError>
 where
     S::Alloc: Clone,
-    S::Kind: Kind<S::Range, Steps = <S::Range as KeyRange>::Key>,
     requires faithful_keys { KeysCloneFaithfully S.Range.Key.is_clone S.Range.Key.cmp }
     ensures made { IfOk result (IsCanonOfPoints S.Kind.kind
         (joined operator (covers S.Kind.kind first.now) (joined (other_of operator)
@@ -149,7 +145,6 @@ pub fn distributes<S: StoreMut<Value = ()> + Drop>(
 ) -> Result<(Set<S>, Set<S>), AllocError>
 where
     S::Alloc: Clone,
-    S::Kind: Kind<S::Range, Steps = <S::Range as KeyRange>::Key>,
     requires faithful_keys { KeysCloneFaithfully S.Range.Key.is_clone S.Range.Key.cmp }
     ensures left { IfOk result (λ sets. IsCanonOfPoints S.Kind.kind
         (joined operator (covers S.Kind.kind first.now)
@@ -183,7 +178,6 @@ pub fn makes_up<S: StoreMut<Value = ()> + Drop>(
 ) -> Result<Set<S>, AllocError>
 where
     S::Alloc: Clone,
-    S::Kind: Kind<S::Range, Steps = <S::Range as KeyRange>::Key>,
     requires faithful_keys { KeysCloneFaithfully S.Range.Key.is_clone S.Range.Key.cmp }
     ensures made { IfOk result (IsCanonOfPoints S.Kind.kind
         (joined Union (minus (covers S.Kind.kind first.now) (covers S.Kind.kind second.now))
@@ -210,7 +204,6 @@ pub fn turns_over<S: StoreMut<Value = ()> + Drop>(
 ) -> Result<(Set<S>, Set<S>), AllocError>
 where
     S::Alloc: Clone,
-    S::Kind: Kind<S::Range, Steps = <S::Range as KeyRange>::Key>,
     requires faithful_keys { KeysCloneFaithfully S.Range.Key.is_clone S.Range.Key.cmp }
     ensures left { IfOk result (λ sets. IsCanonOfPoints S.Kind.kind
         (minus (covers S.Kind.kind first.now)
@@ -243,7 +236,6 @@ pub fn cancels<S: StoreMut<Value = ()> + Drop>(
 ) -> Result<Set<S>, AllocError>
 where
     S::Alloc: Clone,
-    S::Kind: Kind<S::Range, Steps = <S::Range as KeyRange>::Key>,
     requires faithful_keys { KeysCloneFaithfully S.Range.Key.is_clone S.Range.Key.cmp }
     ensures made { IfOk result (IsCanonOfPoints S.Kind.kind
         (exactly_one (exactly_one (covers S.Kind.kind first.now) (covers S.Kind.kind second.now))
@@ -267,7 +259,6 @@ pub fn is_either_without_common<S: StoreMut<Value = ()> + Drop>(
 ) -> Result<(Set<S>, Set<S>), AllocError>
 where
     S::Alloc: Clone,
-    S::Kind: Kind<S::Range, Steps = <S::Range as KeyRange>::Key>,
     requires faithful_keys { KeysCloneFaithfully S.Range.Key.is_clone S.Range.Key.cmp }
     ensures left { IfOk result (λ sets. IsCanonOfPoints S.Kind.kind
         (exactly_one (covers S.Kind.kind first.now) (covers S.Kind.kind second.now)) sets.0) }
@@ -295,7 +286,6 @@ pub fn is_subset_exactly_where_nothing_is_left<S: StoreMut<Value = ()> + Drop>(
 ) -> Result<(bool, bool), AllocError>
 where
     S::Alloc: Clone,
-    S::Kind: Kind<S::Range, Steps = <S::Range as KeyRange>::Key>,
     requires faithful_keys { KeysCloneFaithfully S.Range.Key.is_clone S.Range.Key.cmp }
     ensures subset { IfOk result (λ answers. IsTrue answers.0
         ↔ AreCovered S.Kind.kind (covers S.Kind.kind first.now) second.now) }
