@@ -161,12 +161,12 @@ pub fn run_closed_maps_of_keys<'h>(
         "imap stepped text",
         session,
     )?;
-    runs::any_in_vector::<Closed<PairSteps>, RangeInclusive<(u8, u8)>, char, _>(
+    runs::other_in_vector::<Closed<PairSteps>, RangeInclusive<(u8, u8)>, char, _>(
         heap,
         "imap pair char",
         session,
     )?;
-    runs::any_in_chunks::<Closed<PairSteps>, RangeInclusive<(u8, u8)>, char, 2>(
+    runs::other_in_chunks::<Closed<PairSteps>, RangeInclusive<(u8, u8)>, char, 2>(
         heap,
         "imap pair char",
         session,

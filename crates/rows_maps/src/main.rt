@@ -1,8 +1,8 @@
 //! Runs rows on maps over every store: `rows_maps FILE ..` reads the files and prints how many rows there
 //! were for each container, and what differed. `random SEED COUNT` stands for a file of so many random rows.
 //!
-//! `any_steps` says what each word does to a map over any store, `own_steps` what those do that ask for
-//! steps of the key's own type, and `replays` reads the calls of a replay.
+//! `any_steps` says what each word does to a map over any store, `own_steps` what those do that not
+//! every map is asked, and `replays` reads the calls of a replay.
 //! `stores` has the impls of maps over each store, since what lends its pairs is known of a store alone.
 //! `runs` runs rows on them, `json` on those that are asked for their JSON form, and `containers` names
 //! them all.

@@ -1,4 +1,5 @@
-//! What each word does to a map whose keys have steps of their own, or none.
+//! What the words do that not every map is asked. `new` and `from_iter` ask for the key's own steps, the
+//! others for no step type.
 ghost use Rattle.rangemap_core.specs.Ranges.{AreNonEmpty};
 
 use crate::{any_steps, replays};
@@ -12,7 +13,7 @@ use rows_text::{
 };
 use std::alloc::AllocError;
 
-/// A map that is asked what only one over its key's own steps can be.
+/// A map over its key's own steps, or over none.
 #[derive(Drop)]
 pub struct OwnSteps<S: Store> {
     map: Map<S>,
@@ -44,22 +45,76 @@ where
     fn change(&mut self, call: &str, granted: u64) -> Result<(), Fault> {
         let (name, operand) = first_word(call);
         match name {
-            "extend" => extend(&mut self.map, operand, granted),
-            "insert_pairs" => insert_list(&mut self.map, operand, granted),
             "from_iter" => become_made(&mut self.map, operand, granted),
             "new" => become_new(&mut self.map, granted),
-            _ => any_steps::change(&mut self.map, call, granted),
+            _ => change(&mut self.map, call, granted),
         }
     }
 
     fn ask(&self, question: &Question<'_>, out: &mut String) -> Result<(), Fault> {
-        match question.name {
-            "iter" | "into_iter" => hand_over(&self.map, question, out),
-            "replay" => replays::ask::<S>(*self.map.allocator(), question, out),
-            "debug" => debug(&self.map, question, out),
-            "lines" => lines(&self.map, question, out),
-            _ => any_steps::ask(&self.map, question, out),
+        ask(&self.map, question, out)
+    }
+}
+
+/// A map over the steps of another type, which is asked what `OwnSteps` is, except `new` and `from_iter`.
+#[derive(Drop)]
+pub struct OtherSteps<S: Store> {
+    map: Map<S>,
+}
+
+impl<S: StoreMut<Alloc: Memory>> OtherSteps<S> {
+    /// The empty map.
+    pub fn new(alloc: S::Alloc) -> OtherSteps<S> {
+        OtherSteps {
+            map: Map::new_with_step_fns(alloc),
         }
+    }
+}
+
+impl<S> Subject for OtherSteps<S>
+where
+    S: StoreMut<Alloc: Memory, Range: FromEnds<Key: Word<S::Alloc>>, Value: Word<S::Alloc>>
+        + HandsOver
+        + Drop,
+{
+    fn renew(&mut self) {
+        any_steps::renew(&mut self.map);
+    }
+
+    fn change(&mut self, call: &str, granted: u64) -> Result<(), Fault> {
+        change(&mut self.map, call, granted)
+    }
+
+    fn ask(&self, question: &Question<'_>, out: &mut String) -> Result<(), Fault> {
+        ask(&self.map, question, out)
+    }
+}
+
+// Makes a call that does not ask for own steps.
+fn change<S>(map: &mut Map<S>, call: &str, granted: u64) -> Result<(), Fault>
+where
+    S: StoreMut<Alloc: Memory, Range: FromEnds<Key: Word<S::Alloc>>, Value: Word<S::Alloc>> + Drop,
+{
+    let (name, operand) = first_word(call);
+    match name {
+        "extend" => extend(map, operand, granted),
+        "insert_pairs" => insert_list(map, operand, granted),
+        _ => any_steps::change(map, call, granted),
+    }
+}
+
+fn ask<S>(map: &Map<S>, question: &Question<'_>, out: &mut String) -> Result<(), Fault>
+where
+    S: StoreMut<Alloc: Memory, Range: FromEnds<Key: Word<S::Alloc>>, Value: Word<S::Alloc>>
+        + HandsOver
+        + Drop,
+{
+    match question.name {
+        "iter" | "into_iter" => hand_over(map, question, out),
+        "replay" => replays::ask::<S>(*map.allocator(), question, out),
+        "debug" => debug(map, question, out),
+        "lines" => lines(map, question, out),
+        _ => any_steps::ask(map, question, out),
     }
 }
 
@@ -80,7 +135,6 @@ where
 fn extend<S>(map: &mut Map<S>, pairs: &str, granted: u64) -> Result<(), Fault>
 where
     S: StoreMut<Alloc: Memory, Range: FromEnds<Key: Word<S::Alloc>>, Value: Word<S::Alloc>>,
-    S::Kind: Kind<S::Range, Steps = <S::Range as KeyRange>::Key>,
 {
     let alloc = *map.allocator();
     let pairs = pairs_of::<S::Kind, S::Range, S::Value, S::Alloc>(alloc, pairs)?;
@@ -135,7 +189,6 @@ fn extend_by<S>(
 ) -> Result<(), AllocError>
 where
     S: StoreMut<Alloc: Memory, Range: FromEnds<Key: Word<S::Alloc>>, Value: Word<S::Alloc>>,
-    S::Kind: Kind<S::Range, Steps = <S::Range as KeyRange>::Key>,
     requires non_empty { AreNonEmpty S.Kind.kind pairs.items }
 {
     map.extend(pairs)
@@ -160,7 +213,6 @@ where
     S: StoreMut<Alloc: Memory, Range: FromEnds<Key: Word<S::Alloc>>, Value: Word<S::Alloc>>
         + HandsOver
         + Drop,
-    S::Kind: Kind<S::Range, Steps = <S::Range as KeyRange>::Key>,
 {
     let alloc = *map.allocator();
     let copy = map.clone()?;
@@ -173,7 +225,6 @@ where
 fn debug<S>(map: &Map<S>, question: &Question<'_>, out: &mut String) -> Result<(), Fault>
 where
     S: StoreMut<Alloc: Memory, Range: FromEnds<Key: Word<S::Alloc>>, Value: Word<S::Alloc>>,
-    S::Kind: Kind<S::Range, Steps = <S::Range as KeyRange>::Key>,
 {
     let alloc = *map.allocator();
     alloc.begin(question.granted);
@@ -186,7 +237,6 @@ where
 fn lines<S>(map: &Map<S>, question: &Question<'_>, out: &mut String) -> Result<(), Fault>
 where
     S: StoreMut<Alloc: Memory, Range: FromEnds<Key: Word<S::Alloc>>, Value: Word<S::Alloc>>,
-    S::Kind: Kind<S::Range, Steps = <S::Range as KeyRange>::Key>,
 {
     let alloc = *map.allocator();
     let mut text = String::new(*out.allocator());

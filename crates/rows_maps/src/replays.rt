@@ -58,7 +58,6 @@ where
     S: StoreMut<Alloc: Memory, Range: FromEnds<Key: Word<S::Alloc>>, Value: Word<S::Alloc>>
         + HandsOver
         + Drop,
-    S::Kind: Kind<S::Range, Steps = <S::Range as KeyRange>::Key>,
 {
     let calls = calls_of::<S::Kind, S::Range, S::Value, S::Alloc>(alloc, question.operand)?;
     let mut all: Vec<Map<S>, S::Alloc> = Vec::new(alloc);
@@ -77,7 +76,6 @@ where
     S: StoreMut<Alloc: Memory, Range: FromEnds<Key: Word<S::Alloc>>, Value: Word<S::Alloc>>
         + HandsOver
         + Drop,
-    S::Kind: Kind<S::Range, Steps = <S::Range as KeyRange>::Key>,
 {
     for (place, map) in all.iter().enumerate() {
         out.push_str(if place == 0 { ": " } else { "; " })?;

@@ -1,9 +1,9 @@
 //! Maps over each store, each named once over open keys and values.
 //!
-//! Every map is asked what can be over any steps. Some are asked besides what only those over their
-//! key's own steps can be, and what every container can be.
+//! Every map is asked what `any_steps` knows. Some are asked besides what `own_steps` knows, over their
+//! key's own steps or over those of another type, and what every container can be.
 
-use crate::own_steps::OwnSteps;
+use crate::own_steps::{OtherSteps, OwnSteps};
 use crate::stores::AnySteps;
 use rangemap::map::Map;
 use rangemap_chunked::Chunks;
@@ -64,6 +64,19 @@ where
     session.run(name, made, Group::OwnSteps, &mut map)
 }
 
+// Runs the rows of a map over any steps, and those over the steps of another type.
+fn run_other<S>(alloc: S::Alloc, name: &str, session: &mut Session<'_>) -> Result<(), AllocError>
+where
+    S: StoreMut<Alloc: Memory, Range: FromEnds<Key: Word<S::Alloc>>, Value: Word<S::Alloc>>
+        + HandsOver
+        + Drop,
+    AnySteps<S>: Subject,
+{
+    run_any::<S>(alloc, name, Known::BY_OTHER_STEPS, session)?;
+    let mut map: OtherSteps<S> = OtherSteps::new(alloc);
+    session.run(name, Known::BY_OTHER_STEPS, Group::OtherSteps, &mut map)
+}
+
 /// Runs the rows of a map in a sorted vector, over any steps.
 pub fn any_in_vector<Q, R, V, A>(
     alloc: A,
@@ -78,6 +91,22 @@ where
 {
     let name = session.name(kind, "vector")?;
     run_any::<SortedVec<Q, R, V, A>>(alloc, name.as_str(), Known::ANY_STEPS, session)
+}
+
+/// Runs the rows of a map in a sorted vector, over the steps of another type.
+pub fn other_in_vector<Q, R, V, A>(
+    alloc: A,
+    kind: &str,
+    session: &mut Session<'_>,
+) -> Result<(), AllocError>
+where
+    Q: Kind<R>,
+    R: FromEnds<Key: Word<A>>,
+    V: Word<A>,
+    A: Memory,
+{
+    let name = session.name(kind, "vector")?;
+    run_other::<SortedVec<Q, R, V, A>>(alloc, name.as_str(), session)
 }
 
 /// Runs the rows of a map in a sorted vector, over any steps, and those of every container.
@@ -190,6 +219,21 @@ where
 {
     let name = session.name_in_chunks(kind, N)?;
     run_any::<Chunks<Q, R, V, &'h Heap, N>>(heap, name.as_str(), Known::ANY_STEPS, session)
+}
+
+/// Runs the rows of a map in chunks of up to `N` pairs, over the steps of another type.
+pub fn other_in_chunks<'h, Q, R, V, const N: usize>(
+    heap: &'h Heap,
+    kind: &str,
+    session: &mut Session<'_>,
+) -> Result<(), AllocError>
+where
+    Q: Kind<R>,
+    R: FromEnds<Key: Word<&'h Heap>>,
+    V: Word<&'h Heap>,
+{
+    let name = session.name_in_chunks(kind, N)?;
+    run_other::<Chunks<Q, R, V, &'h Heap, N>>(heap, name.as_str(), session)
 }
 
 /// Runs the rows of a map in chunks of up to `N` pairs, over any steps, and those of every container.

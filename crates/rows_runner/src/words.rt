@@ -10,6 +10,8 @@ pub enum Group {
     AnySteps,
     /// What one is asked whose keys have steps of their own, or none.
     OwnSteps,
+    /// What one is asked whose keys have the steps of another type.
+    OtherSteps,
     /// What a set is asked that becomes what an operator makes of it and another.
     Operators,
     /// What every container is asked, maps and sets alike.
@@ -26,6 +28,7 @@ impl Group {
         match self {
             Group::AnySteps => "over any steps",
             Group::OwnSteps => "over own steps",
+            Group::OtherSteps => "over other steps",
             Group::Operators => "by operators",
             Group::AnyContainer => "as any container",
             Group::Json => "as JSON",
@@ -41,6 +44,8 @@ pub struct Known {
     pub any_steps: bool,
     /// Whether `Group::OwnSteps` does.
     pub own_steps: bool,
+    /// Whether `Group::OtherSteps` does.
+    pub other_steps: bool,
     /// Whether `Group::Operators` does.
     pub operators: bool,
     /// Whether `Group::AnyContainer` does.
@@ -63,20 +68,27 @@ impl Known {
         any_container: false,
         ..Known::ALL
     };
-    /// The one over any steps.
-    pub const ANY_STEPS: Known = Known {
+    /// The one over any steps, and the one over the steps of another type.
+    pub const BY_OTHER_STEPS: Known = Known {
         own_steps: false,
         operators: false,
         ..Known::BY_STEPS
     };
+    /// The one over any steps.
+    pub const ANY_STEPS: Known = Known {
+        other_steps: false,
+        ..Known::BY_OTHER_STEPS
+    };
     /// That one, and the one of operators.
     pub const ANY_STEPS_AND_OPERATORS: Known = Known {
         own_steps: false,
+        other_steps: false,
         ..Known::BY_STEPS
     };
     /// Those that do without own steps.
     pub const NOT_OWN_STEPS: Known = Known {
         own_steps: false,
+        other_steps: false,
         operators: false,
         ..Known::ALL
     };
@@ -95,6 +107,7 @@ impl Known {
     const EVERY: Known = Known {
         any_steps: true,
         own_steps: true,
+        other_steps: true,
         operators: true,
         any_container: true,
         json: true,
@@ -104,6 +117,7 @@ impl Known {
     const NONE: Known = Known {
         any_steps: false,
         own_steps: false,
+        other_steps: false,
         operators: false,
         any_container: false,
         json: false,
@@ -116,6 +130,11 @@ impl Known {
     };
 
     const OWN_STEPS: Known = Known {
+        other_steps: false,
+        ..Known::BESIDES
+    };
+
+    const BESIDES: Known = Known {
         operators: false,
         ..Known::OPERATORS
     };
@@ -135,6 +154,7 @@ impl Known {
         Known {
             any_steps: self.any_steps && other.any_steps,
             own_steps: self.own_steps && other.own_steps,
+            other_steps: self.other_steps && other.other_steps,
             operators: self.operators && other.operators,
             any_container: self.any_container && other.any_container,
             json: self.json && other.json,
@@ -149,6 +169,8 @@ impl Known {
             Some(Group::AnySteps)
         } else if both.own_steps {
             Some(Group::OwnSteps)
+        } else if both.other_steps {
+            Some(Group::OtherSteps)
         } else if both.operators {
             Some(Group::Operators)
         } else if both.any_container {
@@ -174,7 +196,8 @@ fn known_call(word: &str) -> Option<Known> {
         "insert" | "many" => Some(Known::EVERY),
         "remove" | "clear" | "clone" => Some(Known::ALL),
         "update" => Some(Known::ANY_CONTAINER),
-        "new" | "extend" | "from_iter" | "insert_pairs" => Some(Known::OWN_STEPS),
+        "extend" | "insert_pairs" => Some(Known::BESIDES),
+        "new" | "from_iter" => Some(Known::OWN_STEPS),
         "or" | "and" | "without" | "xor" => Some(Known::OPERATORS),
         _ => None,
     }
@@ -188,10 +211,10 @@ fn known_question(word: &str) -> Option<Known> {
         "subset" | "superset" | "disjoint" => Some(Known::BY_STEPS),
         "overlapping" | "gaps" | "ascending" | "hashed" => Some(Known::ANY_STEPS),
         "union" | "intersection" | "difference" | "symmetric_difference" => Some(Known::ANY_STEPS),
-        "into_iter" | "lines" | "operators" => Some(Known::OWN_STEPS),
+        "into_iter" | "lines" | "operators" => Some(Known::BESIDES),
         "debug" => Some(Known {
             round_trips: true,
-            ..Known::OWN_STEPS
+            ..Known::BESIDES
         }),
         "to_value" | "from_value" => Some(Known::JSON),
         "round_trips" => Some(Known::ROUND_TRIPS),
@@ -204,7 +227,7 @@ fn known_question(word: &str) -> Option<Known> {
         | "run" => Some(Known::ANY_CONTAINER),
         "replay" => Some(Known {
             any_container: true,
-            ..Known::OWN_STEPS
+            ..Known::BESIDES
         }),
         _ => None,
     }

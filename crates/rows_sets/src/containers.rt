@@ -81,12 +81,12 @@ pub fn run_closed_sets<'h>(heap: &'h Heap, session: &mut Session<'_>) -> Result<
         "iset stepped",
         session,
     )?;
-    runs::any_in_vector::<Closed<PairSteps>, RangeInclusive<(u8, u8)>, _>(
+    runs::other_in_vector::<Closed<PairSteps>, RangeInclusive<(u8, u8)>, _>(
         heap,
         "iset pair",
         session,
     )?;
-    runs::any_in_chunks::<Closed<PairSteps>, RangeInclusive<(u8, u8)>, 1>(
+    runs::other_in_chunks::<Closed<PairSteps>, RangeInclusive<(u8, u8)>, 1>(
         heap,
         "iset pair",
         session,

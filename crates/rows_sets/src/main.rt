@@ -1,8 +1,8 @@
 //! Runs rows on sets over every store: `rows_sets FILE ..` reads the files and prints how many rows there
 //! were for each container, and what differed. `random SEED COUNT` stands for a file of so many random rows.
 //!
-//! `any_steps` says what each word does to a set over any store, `own_steps` what those do that ask for
-//! steps of the key's own type, and `replays` reads the calls of a replay. `operators` runs the laws of
+//! `any_steps` says what each word does to a set over any store, `own_steps` what those do that not
+//! every set is asked, and `replays` reads the calls of a replay. `operators` runs the laws of
 //! operators, and `rests` asks what a set makes of which a range was taken.
 //! `stores` has the impls of sets over each store, since what lends its pairs is known of a store alone.
 //! `runs` runs rows on them, `json` on those that are asked for their JSON form, and `containers` names

@@ -17,7 +17,6 @@ use std::alloc::AllocError;
 pub fn ask<S>(set: &Set<S>, question: &Question<'_>, out: &mut String) -> Result<(), Fault>
 where
     S: StoreMut<Value = (), Alloc: Memory, Range: FromEnds<Key: Word<S::Alloc>>> + HandsOver + Drop,
-    S::Kind: Kind<S::Range, Steps = <S::Range as KeyRange>::Key>,
 {
     let (law, list) = first_word(question.operand);
     match law {
@@ -33,7 +32,6 @@ where
 fn ask_with<S>(set: &Set<S>, other: &Set<S>, law: &str, out: &mut String) -> Result<(), Fault>
 where
     S: StoreMut<Value = (), Alloc: Memory, Range: FromEnds<Key: Word<S::Alloc>>> + HandsOver + Drop,
-    S::Kind: Kind<S::Range, Steps = <S::Range as KeyRange>::Key>,
 {
     match law {
         "makes_up" => write_set(&makes_up(set, other)?, out),
@@ -54,7 +52,6 @@ where
 fn ask_of_operator<S>(set: &Set<S>, question: &Question<'_>, out: &mut String) -> Result<(), Fault>
 where
     S: StoreMut<Value = (), Alloc: Memory, Range: FromEnds<Key: Word<S::Alloc>>> + HandsOver + Drop,
-    S::Kind: Kind<S::Range, Steps = <S::Range as KeyRange>::Key>,
 {
     let alloc = *set.allocator();
     let (law, operand) = first_word(question.operand);
@@ -93,7 +90,6 @@ fn operator_of(word: &str) -> Result<Operator, Fault> {
 fn apply_both<S>(operator: Operator, set: &Set<S>, other: &Set<S>) -> Result<(), Fault>
 where
     S: StoreMut<Value = (), Alloc: Memory, Range: FromEnds<Key: Word<S::Alloc>>> + Drop,
-    S::Kind: Kind<S::Range, Steps = <S::Range as KeyRange>::Key>,
 {
     let applied = operator.apply(set, other)?;
     if applied != operator.apply(other, set)? {
@@ -106,7 +102,6 @@ where
 fn write_both<S>(made: Result<(Set<S>, Set<S>), AllocError>, out: &mut String) -> Result<(), Fault>
 where
     S: StoreMut<Value = (), Alloc: Memory, Range: FromEnds<Key: Word<S::Alloc>>> + HandsOver + Drop,
-    S::Kind: Kind<S::Range, Steps = <S::Range as KeyRange>::Key>,
 {
     let (one, other) = made?;
     if one != other {
@@ -119,7 +114,6 @@ where
 pub fn write_set<S>(set: &Set<S>, out: &mut String) -> Result<(), Fault>
 where
     S: StoreMut<Value = (), Alloc: Memory, Range: FromEnds<Key: Word<S::Alloc>>> + HandsOver + Drop,
-    S::Kind: Kind<S::Range, Steps = <S::Range as KeyRange>::Key>,
 {
     let copy = set.clone()?;
     write_all::<_, _, OwnRanges<S::Alloc>>(copy.into_iter(), out)

@@ -1,4 +1,5 @@
-//! What each word does to a set whose keys have steps of their own, or none.
+//! What the words do that not every set is asked. `new` and `from_iter` ask for the key's own steps, the
+//! others for no step type.
 ghost use Rattle.rangemap_core.specs.Ranges.{AreNonEmpty};
 ghost use Rattle.rangemap_core.specs.Sets.{AreNonEmptyRanges};
 
@@ -14,7 +15,7 @@ use rows_text::{
 };
 use std::alloc::AllocError;
 
-/// A set that is asked what only one over its key's own steps can be.
+/// A set over its key's own steps, or over none.
 #[derive(Drop)]
 pub struct OwnSteps<S: Store<Value = ()>> {
     set: Set<S>,
@@ -44,31 +45,51 @@ where
     fn change(&mut self, call: &str, granted: u64) -> Result<(), Fault> {
         let (name, operand) = first_word(call);
         match name {
-            "extend" => extend(&mut self.set, operand, granted),
-            "or" | "and" | "without" | "xor" => {
-                become_joined(&mut self.set, (name, operand), granted)
-            }
-            "insert_pairs" => insert_list(&mut self.set, operand, granted),
             "from_iter" => become_made(&mut self.set, operand, granted),
             "new" => become_new(&mut self.set, granted),
-            _ => any_steps::change(&mut self.set, call, granted),
+            _ => change(&mut self.set, call, granted),
         }
     }
 
     fn ask(&self, question: &Question<'_>, out: &mut String) -> Result<(), Fault> {
-        match question.name {
-            "iter" | "into_iter" => hand_over(&self.set, question, out),
-            "replay" => replays::ask::<S>(*self.set.allocator(), question, out),
-            "operators" => operators::ask(&self.set, question, out),
-            "debug" => debug(&self.set, question, out),
-            "lines" => lines(&self.set, question, out),
-            _ => any_steps::ask(&self.set, question, out),
+        ask(&self.set, question, out)
+    }
+}
+
+/// A set over the steps of another type, which is asked what `OwnSteps` is, except `new` and `from_iter`.
+#[derive(Drop)]
+pub struct OtherSteps<S: Store<Value = ()>> {
+    set: Set<S>,
+}
+
+impl<S: StoreMut<Value = (), Alloc: Memory>> OtherSteps<S> {
+    /// The empty set.
+    pub fn new(alloc: S::Alloc) -> OtherSteps<S> {
+        OtherSteps {
+            set: Set::new_with_step_fns(alloc),
         }
     }
 }
 
-/// A set that has the operators alone of what needs its key's own steps. The compiler makes fewer copies of
-/// functions for it than for `OwnSteps`.
+impl<S> Subject for OtherSteps<S>
+where
+    S: StoreMut<Value = (), Alloc: Memory, Range: FromEnds<Key: Word<S::Alloc>>> + HandsOver + Drop,
+{
+    fn renew(&mut self) {
+        any_steps::renew(&mut self.set);
+    }
+
+    fn change(&mut self, call: &str, granted: u64) -> Result<(), Fault> {
+        change(&mut self.set, call, granted)
+    }
+
+    fn ask(&self, question: &Question<'_>, out: &mut String) -> Result<(), Fault> {
+        ask(&self.set, question, out)
+    }
+}
+
+/// A set that has the operators alone of what `OwnSteps` has. The compiler makes fewer copies of functions
+/// for it than for `OwnSteps`.
 #[derive(Drop)]
 pub struct WithOperators<S: Store<Value = ()>> {
     set: Set<S>,
@@ -113,6 +134,34 @@ where
     }
 }
 
+// Makes a call that does not ask for own steps.
+fn change<S>(set: &mut Set<S>, call: &str, granted: u64) -> Result<(), Fault>
+where
+    S: StoreMut<Value = (), Alloc: Memory, Range: FromEnds<Key: Word<S::Alloc>>> + Drop,
+{
+    let (name, operand) = first_word(call);
+    match name {
+        "extend" => extend(set, operand, granted),
+        "or" | "and" | "without" | "xor" => become_joined(set, (name, operand), granted),
+        "insert_pairs" => insert_list(set, operand, granted),
+        _ => any_steps::change(set, call, granted),
+    }
+}
+
+fn ask<S>(set: &Set<S>, question: &Question<'_>, out: &mut String) -> Result<(), Fault>
+where
+    S: StoreMut<Value = (), Alloc: Memory, Range: FromEnds<Key: Word<S::Alloc>>> + HandsOver + Drop,
+{
+    match question.name {
+        "iter" | "into_iter" => hand_over(set, question, out),
+        "replay" => replays::ask::<S>(*set.allocator(), question, out),
+        "operators" => operators::ask(set, question, out),
+        "debug" => debug(set, question, out),
+        "lines" => lines(set, question, out),
+        _ => any_steps::ask(set, question, out),
+    }
+}
+
 fn become_new<S: StoreMut<Value = (), Alloc: Memory> + Drop>(
     set: &mut Set<S>,
     granted: u64,
@@ -130,7 +179,6 @@ where
 fn extend<S>(set: &mut Set<S>, ranges: &str, granted: u64) -> Result<(), Fault>
 where
     S: StoreMut<Value = (), Alloc: Memory, Range: FromEnds<Key: Word<S::Alloc>>>,
-    S::Kind: Kind<S::Range, Steps = <S::Range as KeyRange>::Key>,
 {
     let alloc = *set.allocator();
     let ranges = ranges_of::<S::Kind, S::Range, S::Alloc>(alloc, ranges)?;
@@ -179,12 +227,12 @@ where
 fn become_joined<S>(set: &mut Set<S>, call: (&str, &str), granted: u64) -> Result<(), Fault>
 where
     S: StoreMut<Value = (), Alloc: Memory, Range: FromEnds<Key: Word<S::Alloc>>> + Drop,
-    S::Kind: Kind<S::Range, Steps = <S::Range as KeyRange>::Key>,
 {
     let (name, ranges) = call;
     let alloc = *set.allocator();
     let ranges = ranges_of::<S::Kind, S::Range, S::Alloc>(alloc, ranges)?;
-    let other: Set<S> = made_from(alloc, ranges)?;
+    let mut other: Set<S> = Set::new_with_step_fns(alloc);
+    extend_by(&mut other, ranges)?;
     alloc.begin(granted);
     let made = match name {
         "or" => &*set | &other,
@@ -201,7 +249,6 @@ where
 fn extend_by<S>(set: &mut Set<S>, ranges: Vec<S::Range, S::Alloc>) -> Result<(), AllocError>
 where
     S: StoreMut<Value = (), Alloc: Memory, Range: FromEnds<Key: Word<S::Alloc>>>,
-    S::Kind: Kind<S::Range, Steps = <S::Range as KeyRange>::Key>,
     requires non_empty { AreNonEmptyRanges S.Kind.kind ranges.items }
 {
     set.extend(ranges)
@@ -221,7 +268,6 @@ where
 fn hand_over<S>(set: &Set<S>, question: &Question<'_>, out: &mut String) -> Result<(), Fault>
 where
     S: StoreMut<Value = (), Alloc: Memory, Range: FromEnds<Key: Word<S::Alloc>>> + HandsOver + Drop,
-    S::Kind: Kind<S::Range, Steps = <S::Range as KeyRange>::Key>,
 {
     let alloc = *set.allocator();
     let copy = set.clone()?;
@@ -234,7 +280,6 @@ where
 fn debug<S>(set: &Set<S>, question: &Question<'_>, out: &mut String) -> Result<(), Fault>
 where
     S: StoreMut<Value = (), Alloc: Memory, Range: FromEnds<Key: Word<S::Alloc>>>,
-    S::Kind: Kind<S::Range, Steps = <S::Range as KeyRange>::Key>,
 {
     let alloc = *set.allocator();
     alloc.begin(question.granted);
@@ -247,7 +292,6 @@ where
 fn lines<S>(set: &Set<S>, question: &Question<'_>, out: &mut String) -> Result<(), Fault>
 where
     S: StoreMut<Value = (), Alloc: Memory, Range: FromEnds<Key: Word<S::Alloc>>>,
-    S::Kind: Kind<S::Range, Steps = <S::Range as KeyRange>::Key>,
 {
     let alloc = *set.allocator();
     let mut text = String::new(*out.allocator());

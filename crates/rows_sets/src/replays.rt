@@ -93,7 +93,6 @@ fn set_call<Q: Kind<R>, R: KeyRange, A: Allocator>(change: Change<R, ()>) -> Set
 pub fn ask<S>(alloc: S::Alloc, question: &Question<'_>, out: &mut String) -> Result<(), Fault>
 where
     S: StoreMut<Value = (), Alloc: Memory, Range: FromEnds<Key: Word<S::Alloc>>> + HandsOver + Drop,
-    S::Kind: Kind<S::Range, Steps = <S::Range as KeyRange>::Key>,
 {
     let calls = calls_of::<S::Kind, S::Range, S::Alloc>(alloc, question.operand)?;
     let mut all: Vec<Set<S>, S::Alloc> = Vec::new(alloc);
@@ -110,7 +109,6 @@ where
 fn write_lists<S>(all: &[Set<S>], out: &mut String) -> Result<(), Fault>
 where
     S: StoreMut<Value = (), Alloc: Memory, Range: FromEnds<Key: Word<S::Alloc>>> + HandsOver + Drop,
-    S::Kind: Kind<S::Range, Steps = <S::Range as KeyRange>::Key>,
 {
     for (place, set) in all.iter().enumerate() {
         out.push_str(if place == 0 { ": " } else { "; " })?;

@@ -1,10 +1,10 @@
 //! Sets over each store, each named once over open keys.
 //!
-//! Every set is asked what can be over any steps. Some are asked besides what only those over their
-//! key's own steps can be, and what every container can be. Others have the operators alone of what
-//! needs own steps.
+//! Every set is asked what `any_steps` knows. Some are asked besides what `own_steps` knows, over their
+//! key's own steps or over those of another type, and what every container can be. Others have the
+//! operators alone of what `own_steps` knows.
 
-use crate::own_steps::{OwnSteps, WithOperators};
+use crate::own_steps::{OtherSteps, OwnSteps, WithOperators};
 use crate::stores::AnySteps;
 use rangemap::set::Set;
 use rangemap_chunked::Chunks;
@@ -84,6 +84,20 @@ where
     session.run(name, made, Group::Operators, &mut set)
 }
 
+// Runs the rows of a set over any steps, and those over the steps of another type.
+fn run_other<S>(alloc: S::Alloc, name: &str, session: &mut Session<'_>) -> Result<(), AllocError>
+where
+    S: StoreMut<Alloc: Memory, Range: FromEnds<Key: Word<S::Alloc>>>
+        + Store<Value = ()>
+        + HandsOver
+        + Drop,
+    AnySteps<S>: Subject,
+{
+    run_any::<S>(alloc, name, Known::BY_OTHER_STEPS, session)?;
+    let mut set: OtherSteps<S> = OtherSteps::new(alloc);
+    session.run(name, Known::BY_OTHER_STEPS, Group::OtherSteps, &mut set)
+}
+
 /// Runs the rows of a set in a sorted vector, over any steps.
 pub fn any_in_vector<Q, R, A>(
     alloc: A,
@@ -97,6 +111,21 @@ where
 {
     let name = session.name(kind, "vector")?;
     run_any::<SortedVec<Q, R, (), A>>(alloc, name.as_str(), Known::ANY_STEPS, session)
+}
+
+/// Runs the rows of a set in a sorted vector, over the steps of another type.
+pub fn other_in_vector<Q, R, A>(
+    alloc: A,
+    kind: &str,
+    session: &mut Session<'_>,
+) -> Result<(), AllocError>
+where
+    Q: Kind<R>,
+    R: FromEnds<Key: Word<A>>,
+    A: Memory,
+{
+    let name = session.name(kind, "vector")?;
+    run_other::<SortedVec<Q, R, (), A>>(alloc, name.as_str(), session)
 }
 
 /// Runs the rows of a set in a sorted vector, over any steps, and those of every container.
@@ -219,6 +248,20 @@ where
 {
     let name = session.name_in_chunks(kind, N)?;
     run_any::<Chunks<Q, R, (), &'h Heap, N>>(heap, name.as_str(), Known::ANY_STEPS, session)
+}
+
+/// Runs the rows of a set in chunks of up to `N` ranges, over the steps of another type.
+pub fn other_in_chunks<'h, Q, R, const N: usize>(
+    heap: &'h Heap,
+    kind: &str,
+    session: &mut Session<'_>,
+) -> Result<(), AllocError>
+where
+    Q: Kind<R>,
+    R: FromEnds<Key: Word<&'h Heap>>,
+{
+    let name = session.name_in_chunks(kind, N)?;
+    run_other::<Chunks<Q, R, (), &'h Heap, N>>(heap, name.as_str(), session)
 }
 
 /// Runs the rows of a set in chunks of up to `N` ranges, over any steps, and those of every container.
