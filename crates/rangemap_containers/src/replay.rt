@@ -49,9 +49,8 @@ pub trait CallOn<M: Container>: Drop {
 /// accepted.
 ///
 /// Each container's module gives it under its own path, with its sorts of call: `map::replay` takes a
-/// `map::Call` or a `map::Change`. A `Change::New` makes its container by `new_with_step_fns`, and that
-/// of a `Call` by `new`. If the steps are those of another type, there is only `Change`, and
-/// `replay_with_step_fns` is a name for the replay of these calls. A replay costs what its calls cost.
+/// `map::Call` or a `map::Change`. `New` makes a container by `new_with_step_fns`, over whatever steps.
+/// `replay_with_step_fns` is another name for it. A replay costs what its calls cost.
 ///
 /// A call names a container by its place in the list; an operator of sets names two. A call that makes a
 /// container adds it at the end, unless the call is refused. A call that names a place without a
