@@ -11,6 +11,7 @@ use rangemap_core::kind::{Kind, known_ends};
 use rangemap_core::reader::{Reader, ReaderOfBoth};
 use rangemap_core::store::{HandsOver, Lends, Store, StoreMut};
 use rangemap_sorted::entries::covering;
+use rangemap_sorted::overlapping::Overlapping;
 use std::alloc::{AllocError, Allocator};
 use std::marker::{Model, PhantomData};
 
@@ -119,6 +120,10 @@ impl<Q: Kind<R>, R: KeyRange, V: Eq + Clone, A: Allocator + Clone, const N: usiz
     }
 
     fn read_overlapping<U: Reader<R, V>>(&self, range: &R, state: &mut U::State) -> U::Answer {
+        // An only chunk is read as the one sorted vector that it is.
+        if let [chunk] = self.chunks.as_slice() {
+            return U::read(Overlapping::new::<Q>(chunk.as_slice(), range), state);
+        }
         U::read(overlapping::<Q, R, V, A>(&self.chunks, range), state)
     }
 

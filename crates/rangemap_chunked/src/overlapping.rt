@@ -25,9 +25,14 @@ pub(crate) fn overlapping<'a, Q: Kind<R>, R: KeyRange, V: Eq, A: Allocator>(
     if chunks.is_empty() {
         return Iter::over(&[]);
     }
+    known_ends::<Q, R>(query);
+    // An only chunk is not searched for: all pairs that are met are its own.
+    if let [chunk] = chunks {
+        let tail = overlapping_tail::<Q, R, V>(chunk.as_slice(), query);
+        return Iter::between(take_begun::<R, V>(tail, query), &[], &[]);
+    }
     let at = first_met_chunk::<Q, R, V, A>(chunks, query);
     let end = met_chunks_end::<Q, R, V, A>(chunks, query, at);
-    known_ends::<Q, R>(query);
     let first = overlapping_tail::<Q, R, V>(chunks[at].as_slice(), query);
     if end <= at + 1 {
         return Iter::between(take_begun::<R, V>(first, query), &[], &[]);

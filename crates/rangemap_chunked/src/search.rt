@@ -76,6 +76,10 @@ pub fn chunk_with<'a, Q: Kind<R>, R: KeyRange, V: Eq, A: Allocator>(
     ensures canonical { IfSome result (λ chunk. IsCanonical Q.kind V.eq chunk.now) }
 {
     Q::known(key);
+    // An only chunk is not searched for: no other can have the key.
+    if chunks.len() <= 1 {
+        return chunks.first();
+    }
     let sought = Sought { key };
     let count = chunks.partition_point(|chunk| chunk_starts_by::<Q, R, V, A>(chunk, &sought));
     let at = count.checked_sub(1)?;
@@ -93,6 +97,10 @@ pub fn first_met_chunk<Q: Kind<R>, R: KeyRange, V: Eq, A: Allocator>(
     ensures clear { IsClearBefore (shape_of Q.kind Q.end_place V.eq) chunks.now range.now result }
     ensures past { IsPastStart (shape_of Q.kind Q.end_place V.eq) chunks.now range.now (result + 1) }
 {
+    // An only chunk is not searched for: none comes before it.
+    if chunks.len() <= 1 {
+        return 0;
+    }
     let count = chunks.partition_point(|chunk| chunk_starts_before::<Q, R, V, A>(
         chunk,
         Endpoint::Start(range),

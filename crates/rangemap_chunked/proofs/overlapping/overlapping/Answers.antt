@@ -12,13 +12,19 @@ use Rattle.rangemap_chunked.proofs.CutLemmas.{canonical_chunk}
 use Rattle.rangemap_chunked.proofs.OverlapLemmas.{first_begun, last_past, met_alone, met_over, pairs_at}
 use Rattle.rangemap_chunked.proofs.overlapping.overlapping.Goals as goal
 
+pub overlapping_tail-tail-requires : goal.overlapping_tail-tail-requires
+overlapping_tail-tail-requires g c =
+    let k = g.Q.Kind.kind in
+    let eq = g.V.PartialEq.eq in
+    subst (IsCanonical k eq) (sym (c.as_slice.ensures ∙ c.chunk-item.is)) (canonical_chunk k eq c.args.chunks.now c.requires.canonical 0 c.chunk-item.result (omega arith))
+
 pub overlapping_tail-first-requires : goal.overlapping_tail-first-requires
 overlapping_tail-first-requires g c =
     let k = g.Q.Kind.kind in
     let eq = g.V.PartialEq.eq in
     let chunks = c.args.chunks.now in
     let here : c.first_met_chunk-at.result < length chunks = search rules in
-    subst (IsCanonical k eq) (sym (c.as_slice.ensures ∙ c.index-chunks-at.is)) (canonical_chunk k eq chunks c.requires.canonical c.first_met_chunk-at.result c.index-chunks-at.result here)
+    subst (IsCanonical k eq) (sym (c.as_slice-2.ensures ∙ c.index-chunks-at.is)) (canonical_chunk k eq chunks c.requires.canonical c.first_met_chunk-at.result c.index-chunks-at.result here)
 
 pub take_begun-requires-2 : goal.take_begun-requires-2
 take_begun-requires-2 g c =
@@ -26,9 +32,9 @@ take_begun-requires-2 g c =
     let eq = g.V.PartialEq.eq in
     let chunks = c.args.chunks.now in
     let query = c.args.query.now in
-    let pairs = c.as_slice-2.result.now in
+    let pairs = c.as_slice-3.result.now in
     let there : c.met_chunks_end-end.result - 1 < length chunks = omega (arith, c.met_chunks_end-end.ensures.bound, c.met_chunks_end-end.ensures.behind) in
-    let canonical : IsCanonical k eq pairs = subst (IsCanonical k eq) (sym (c.as_slice-2.ensures ∙ c.index-chunks-last.is)) (canonical_chunk k eq chunks c.requires.canonical (c.met_chunks_end-end.result - 1) c.index-chunks-last.result there) in
+    let canonical : IsCanonical k eq pairs = subst (IsCanonical k eq) (sym (c.as_slice-3.ensures ∙ c.index-chunks-last.is)) (canonical_chunk k eq chunks c.requires.canonical (c.met_chunks_end-end.result - 1) c.index-chunks-last.result there) in
     subst (λ test. IsPartitionedBy test pairs) (begun_alike g.met.Q.Kind.reads g.R.KeyRange.has_end {V = g.row.V.Denot} query)
     (begun_first g.met.Q.Kind.placed eq g.met.Q.Kind.interval query pairs canonical)
 
@@ -40,8 +46,8 @@ returns-then-end-at g c =
     let at = c.first_met_chunk-at.result in
     let end = c.met_chunks_end-end.result in
     let here : at < length chunks = search rules in
-    let first = pairs_at chunks at here c.index-chunks-at.result c.as_slice.result.now c.as_slice.ensures c.index-chunks-at.is in
-    c.between.ensures ∙ append-nil c.take_begun.result.now ∙ c.take_begun.ensures ∙ c.overlapping_tail-first.ensures.overlapped
+    let first = pairs_at chunks at here c.index-chunks-at.result c.as_slice-2.result.now c.as_slice-2.ensures c.index-chunks-at.is in
+    c.between-then-end-at.ensures ∙ append-nil c.take_begun-then-end-at.result.now ∙ c.take_begun-then-end-at.ensures ∙ c.overlapping_tail-first.ensures.overlapped
     ∙ ap (λ (pairs : List (g.row.R.Denot × g.row.V.Denot)). overlapped k pairs query) first
     ∙ sym (met_alone g.met.Q.Kind.placed g.met.V.Eq.laws query c.known_ends.ensures chunks c.requires at end here c.met_chunks_end-end.ensures.bound c.first_met_chunk-at.ensures.clear c.met_chunks_end-end.ensures.clear (omega (arith, c.if-end-at.true)))
 
@@ -65,10 +71,10 @@ returns g c =
     let here : at < length chunks = search rules in
     let there : end - 1 < length chunks = omega (arith, bound, more) in
     let is : end ≡ suc (end - 1) = omega (arith, more) in
-    let tail = c.as_slice.result.now in
-    let head = c.as_slice-2.result.now in
-    let first : tail ≡ get_or chunks at [] = pairs_at chunks at here c.index-chunks-at.result tail c.as_slice.ensures c.index-chunks-at.is in
-    let last : head ≡ get_or chunks (end - 1) [] = pairs_at chunks (end - 1) there c.index-chunks-last.result head c.as_slice-2.ensures c.index-chunks-last.is in
+    let tail = c.as_slice-2.result.now in
+    let head = c.as_slice-3.result.now in
+    let first : tail ≡ get_or chunks at [] = pairs_at chunks at here c.index-chunks-at.result tail c.as_slice-2.ensures c.index-chunks-at.is in
+    let last : head ≡ get_or chunks (end - 1) [] = pairs_at chunks (end - 1) there c.index-chunks-last.result head c.as_slice-3.ensures c.index-chunks-last.is in
     let canonical : IsCanonical k eq head = subst (IsCanonical k eq) (sym last) (canonical_chunk k eq chunks c.requires.canonical (end - 1) [] there) in
     let of_first : c.overlapping_tail-first.result.now ≡ overlapped k (get_or chunks at []) query =
     c.overlapping_tail-first.ensures.all
