@@ -179,6 +179,13 @@ module _ {K X V : Type 0} {k : RangeKind K X} {end_place : X → Option K} {chun
   pub spaced_whole : IsSpaced (S p eq) (whole chunks)
   spaced_whole = to_spaced p eq (whole chunks) h.canonical
 
+  -- a search over the first pairs of chunks finds where they no longer pass
+  pub by_parted : (q : Option K) → IsPartitionedBy (chunk_by (S p eq) q) chunks
+  by_parted q = by_chunked (S p eq) (places p eq) e q chunks spaced_whole h.filled
+
+  pub below_parted : (q : Option K) → IsPartitionedBy (chunk_below (S p eq) q) chunks
+  below_parted q = below_chunked (S p eq) (places p eq) e q chunks spaced_whole h.filled
+
   -- a key before which no chunk starts has no range
   pub no_chunk : (x : K) → k.is_key x → (n : ℕ) → n ≡ 0 → PassesUpTo (chunk_by (S p eq) (Some x)) chunks n → covering k (whole chunks) x ≡ None
   no_chunk x key n none point =
