@@ -3,13 +3,12 @@
 //! That its pairs are canonical is said by the store, and not here, as `SortedVec` says it of its own:
 //! an iterator over chunks would have to name the kind of their ranges then, and the check takes few
 //! such iterators in one function.
-ghost use Rattle.std.specs.Prelude.{◌≡◌, ◌≤◌, ◌<◌, ◌+◌, true, [], ◌++◌, length, take, drop, IfOk, IsOk, OnErr, OnOk, None as NoneWord};
+ghost use Rattle.std.specs.Prelude.{◌≡◌, ◌≤◌, ◌<◌, ◌+◌, true, [], ◌++◌, ◌∷◌, length, take, drop, vec_len, vec_capacity, IfOk, IsOk, OnErr, OnOk, None as NoneWord};
 ghost use Rattle.std.specs.Vec.Iter.{into_iter_items};
 ghost use Rattle.rangemap_core.specs.Clones.{KeysCloneFaithfully, ValuesCloneFaithfully};
 ghost use Rattle.rangemap_core.specs.Ranges.{IsCanonical, IsCanonOf, overlapped, same_pairs, value_at};
 ghost use Rattle.rangemap_sorted.specs.Changes.{IsChanged, grown};
 
-use crate::vec_ext::insert_reserved;
 use rangemap_core::key_range::KeyRange;
 use rangemap_core::kind::Kind;
 use rangemap_sorted::entries::changes;
@@ -198,4 +197,14 @@ impl<R: KeyRange, V: Eq + Clone, A: Allocator> Chunk<R, V, A> {
         let pairs = clone_pairs::<Q, R, V, A>(alloc, &self.pairs)?;
         Ok(Chunk { pairs })
     }
+}
+
+/// Puts a value in at a place of a vector that has room for it.
+pub fn insert_reserved<T, A: Allocator>(list: &mut Vec<T, A>, place: usize, value: T)
+    requires in_bounds { place ≤ length list.old.items }
+    requires room { vec_len list.old < vec_capacity list.old }
+    ensures { list.new.items ≡ take place list.old.items ++ value ∷ drop place list.old.items }
+{
+    list.push_reserved(value);
+    list[place..].rotate_right(1);
 }

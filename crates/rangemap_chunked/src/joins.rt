@@ -2,8 +2,7 @@
 ghost use Rattle.std.specs.Prelude.{◌≡◌, true, false, ◌+◌, ◌<◌, ◌≤◌, length, take, drop};
 ghost use Rattle.rangemap_chunked.specs.Chunks.{AreFilled, whole};
 
-use crate::chunk::Chunk;
-use crate::vec_ext::insert_reserved;
+use crate::chunk::{Chunk, insert_reserved};
 use rangemap_sorted::splice::cut;
 use std::alloc::Allocator;
 

@@ -10,7 +10,6 @@ pub mod iter;
 mod joins;
 mod overlapping;
 mod search;
-mod vec_ext;
 mod wide;
 
 pub use chunks::{Chunks, SIZE};
