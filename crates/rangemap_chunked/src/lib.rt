@@ -10,6 +10,5 @@ pub mod iter;
 mod joins;
 mod overlapping;
 mod search;
-mod wide;
 
 pub use chunks::{Chunks, SIZE};

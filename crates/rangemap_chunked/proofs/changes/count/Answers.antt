@@ -2,7 +2,7 @@ use Rattle.std.proofs.Common.{arith, ◌∙◌, ap, length}
 use Rattle.std.proofs.lemmas.List.{take_all}
 use Rattle.rangemap_chunked.specs.Chunks.{whole}
 use Rattle.rangemap_chunked.proofs.TouchLemmas.{counted_fits, counted_more}
-use Rattle.rangemap_chunked.proofs.wide.count.Goals as goal
+use Rattle.rangemap_chunked.proofs.changes.count.Goals as goal
 
 pub overflow_add-count : goal.overflow_add-count
 overflow_add-count g c =

@@ -14,8 +14,8 @@ use Rattle.rangemap_chunked.proofs.CutLemmas.{canonical_chunk}
 use Rattle.rangemap_chunked.proofs.HalvesLemmas.{AreHalves, IsSpan, first_at, front_bound, halves_changed, halves_kept, halves_lent, last_at}
 use Rattle.rangemap_chunked.proofs.OverLemmas.{IsOver, count_less, count_more, over_canonical, over_changed, over_filled_but, over_longer, over_through, over_up_to, over_whole, still_filled, sums}
 use Rattle.rangemap_chunked.proofs.StoreLemmas.{Every-set, changed_fills, changed_length, chunk_changed, chunk_length, if_some_weaker}
-use Rattle.rangemap_chunked.proofs.wide.change_over.Goals as goal
-use Rattle.rangemap_chunked.proofs.wide.change_over.Goals.{After-count, After-cut, After-from_residual, After-from_residual-in_err-change_with, After-index, After-index-back-0, After-known_ends, After-last_touched-place, After-split_at_mut-front, then-len-eq0, else-len-eq0}
+use Rattle.rangemap_chunked.proofs.changes.change_over.Goals as goal
+use Rattle.rangemap_chunked.proofs.changes.change_over.Goals.{After-count, After-cut, After-from_residual, After-from_residual-in_err-change_with, After-index, After-index-back-0, After-known_ends, After-last_touched-place, After-split_at_mut-front, then-len-eq0, else-len-eq0}
 
 -- what holds in any case holds at an error
 on_err_where : {X E P : Type 0} (r : Result X E) → P → OnErr r P
