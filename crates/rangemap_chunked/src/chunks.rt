@@ -2,8 +2,7 @@
 use crate::changes::{insert_into, remove_from};
 use crate::chunk::Chunk;
 use crate::into_iter::IntoIter;
-use crate::iter::Iter;
-use crate::overlapping::overlapping;
+use crate::iter::{Iter, overlapping};
 use crate::search::chunk_with;
 use rangemap_core::gaps::append_gaps;
 use rangemap_core::key_range::KeyRange;

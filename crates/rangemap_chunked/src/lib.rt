@@ -8,7 +8,6 @@ mod chunks;
 pub mod into_iter;
 pub mod iter;
 mod joins;
-mod overlapping;
 mod search;
 
 pub use chunks::{Chunks, SIZE};

@@ -10,7 +10,7 @@ use Rattle.rangemap_sorted.proofs.ReadLemmas.{begun_alike}
 use Rattle.rangemap_chunked.specs.Chunks.{whole}
 use Rattle.rangemap_chunked.proofs.CutLemmas.{canonical_chunk}
 use Rattle.rangemap_chunked.proofs.OverlapLemmas.{first_begun, last_past, met_alone, met_over, pairs_at}
-use Rattle.rangemap_chunked.proofs.overlapping.overlapping.Goals as goal
+use Rattle.rangemap_chunked.proofs.iter.overlapping.Goals as goal
 
 pub overlapping_tail-tail-requires : goal.overlapping_tail-tail-requires
 overlapping_tail-tail-requires g c =
