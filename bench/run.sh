@@ -27,7 +27,7 @@ tables=$here/out/tables.md
 
 {
     echo "$(date -u +%Y-%m-%d), $(nproc) processors, $(sed -n 's/^model name[^:]*: //p' /proc/cpuinfo | head -n 1)."
-    echo "Load when it began: $(cut -d ' ' -f 1-3 /proc/loadavg). $(rustc --version), opt-level 3, LTO, x86-64-v2; $(rt version), its static library by LLVM at level 2."
+    echo "Load when it began: $(cut -d ' ' -f 1-3 /proc/loadavg). $(rustc --version), opt-level 3, LTO, x86-64-v2; $(rt version), its static library by LLVM at level 3."
     "$bench" "$@"
     if [ $# -eq 0 ]; then
         echo
