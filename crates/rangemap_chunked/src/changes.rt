@@ -1,10 +1,10 @@
 //! Giving the keys of a range a value, and taking them out.
 //!
-//! A change goes over the chunks that its range overlaps or touches: one, or several at once. Of several
-//! only one pair behind the first chunk can reach past the range, or touch it: the last that starts before
-//! the range ends, or there. It is moved into the first, which is changed as one alone then. Where memory
-//! is refused it goes back, and nothing changed. Else the chunks between are dropped whole, and none of
-//! their pairs is moved; what stays of the last chunk moves to its front.
+//! A change goes over the chunks that its range overlaps or touches: one, or several at once. If there are
+//! several, at most one pair behind the first chunk can reach past the range or touch its end: the last pair
+//! that starts no later than the end. That pair is moved into the first chunk, which is then changed as if
+//! it were the only one. If memory is refused, the pair goes back and nothing changes. Otherwise the chunks
+//! between are dropped whole, without moving their pairs, and the rest of the last chunk moves to its front.
 ghost use Rattle.std.specs.Prelude.{◌≡◌, true, ◌<◌, ◌≤◌, ◌+◌, [], length, slice_index_or, IsOk, OnOk, OnErr, IfOk, IfSome, Some as SomeWord, None as NoneWord};
 ghost use Rattle.std.specs.List.{AllWithin};
 ghost use Rattle.rangemap_core.specs.Clones.{KeysCloneFaithfully, ValuesCloneFaithfully};
@@ -14,7 +14,7 @@ ghost use Rattle.rangemap_sorted.specs.Changes.{IsChanged, grown};
 ghost use Rattle.rangemap_chunked.specs.Chunks.{AreChunks, AreFilled, AreFilledBut, IsClearBefore, IsClearBehind, IsCounted, IsPastBehind, IsPastStart, chunk_by, whole};
 
 use crate::chunk::Chunk;
-use crate::joins::settle;
+use crate::rebalance::settle;
 use crate::search::{
     chunk_starts_by_end, first_failing, first_met_chunk, last_touched, may_overflow, met_chunks_end,
 };
@@ -24,7 +24,8 @@ use rangemap_sorted::splice::cut;
 use std::alloc::{AllocError, Allocator};
 use std::ops::Range;
 
-/// How many pairs stood in the stretch of chunks that a change went over, before it and after it.
+/// How many pairs stood in the chunks that a change went over, before it and after it. If there are several
+/// chunks, neither number counts the pairs that stay in the last one.
 #[derive(Drop)]
 pub struct Counts {
     /// Before it.
@@ -119,12 +120,10 @@ pub fn remove_from<Q: Kind<R>, R: KeyRange, V: Eq + Clone, A: Allocator + Clone,
     Ok(counts)
 }
 
-/// Gives every key of the range the value, or takes it out where there is none. The range overlaps
-/// or touches only the chunks at `places`. Without a value, the first of these may be left empty.
-///
-/// # Errors
-///
-/// Memory or a clone was refused: then no pair is changed.
+// Gives every key of the range the value, or without a value takes the keys out. The range overlaps or
+// touches only the chunks at `places`. Without a value, the first of these may be left empty.
+//
+// `Err` says that memory or a clone was refused: then no pair is changed.
 fn change_over<Q: Kind<R>, R: KeyRange, V: Eq + Clone, A: Allocator>(
     chunks: &mut Vec<Chunk<R, V, A>, A>,
     places: Range<usize>,

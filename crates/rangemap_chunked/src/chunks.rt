@@ -119,7 +119,7 @@ impl<Q: Kind<R>, R: KeyRange, V: Eq + Clone, A: Allocator + Clone, const N: usiz
     }
 
     fn read_overlapping<U: Reader<R, V>>(&self, range: &R, state: &mut U::State) -> U::Answer {
-        // An only chunk is read as the one sorted vector that it is.
+        // A single chunk is read as the sorted vector that it is.
         if let [chunk] = self.chunks.as_slice() {
             return U::read(Overlapping::new::<Q>(chunk.as_slice(), range), state);
         }

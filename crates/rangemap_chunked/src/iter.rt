@@ -144,7 +144,7 @@ pub(crate) fn overlapping<'a, Q: Kind<R>, R: KeyRange, V: Eq, A: Allocator>(
         return Iter::over(&[]);
     }
     known_ends::<Q, R>(query);
-    // An only chunk is not searched for: all pairs that are met are its own.
+    // A single chunk needs no search: all pairs that are met are its own.
     if let [chunk] = chunks {
         let tail = overlapping_tail::<Q, R, V>(chunk.as_slice(), query);
         return Iter::between(take_begun::<R, V>(tail, query), &[], &[]);

@@ -7,7 +7,7 @@ mod chunk;
 mod chunks;
 pub mod into_iter;
 pub mod iter;
-mod joins;
+mod rebalance;
 mod search;
 
 pub use chunks::{Chunks, SIZE};

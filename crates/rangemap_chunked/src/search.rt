@@ -65,7 +65,7 @@ pub fn chunk_starts_by_end<Q: Kind<R>, R: KeyRange, V: Eq, A: Allocator>(
     }
 }
 
-/// Returns the one chunk that may have the key, unless all start after it.
+/// Returns the only chunk that may have the key. `None` means that none has it.
 pub fn chunk_with<'a, Q: Kind<R>, R: KeyRange, V: Eq, A: Allocator>(
     chunks: &'a [Chunk<R, V, A>],
     key: &R::Key,
@@ -76,7 +76,7 @@ pub fn chunk_with<'a, Q: Kind<R>, R: KeyRange, V: Eq, A: Allocator>(
     ensures canonical { IfSome result (λ chunk. IsCanonical Q.kind V.eq chunk.now) }
 {
     Q::known(key);
-    // An only chunk is not searched for: no other can have the key.
+    // A single chunk needs no search, even if it starts after the key.
     if chunks.len() <= 1 {
         return chunks.first();
     }
@@ -97,7 +97,7 @@ pub fn first_met_chunk<Q: Kind<R>, R: KeyRange, V: Eq, A: Allocator>(
     ensures clear { IsClearBefore (shape_of Q.kind Q.end_place V.eq) chunks.now range.now result }
     ensures past { IsPastStart (shape_of Q.kind Q.end_place V.eq) chunks.now range.now (result + 1) }
 {
-    // An only chunk is not searched for: none comes before it.
+    // A single chunk needs no search: none comes before it.
     if chunks.len() <= 1 {
         return 0;
     }

@@ -3,8 +3,8 @@ use Rattle.std.proofs.Math.ListN.{set}
 use Rattle.std.proofs.lemmas.List.{get_or_default}
 use Rattle.rangemap_chunked.specs.Chunks.{AreFilled, whole}
 use Rattle.rangemap_chunked.proofs.StoreLemmas.{split_filled, split_whole}
-use Rattle.rangemap_chunked.proofs.joins.split.Goals as goal
-use Rattle.rangemap_chunked.proofs.joins.split.Goals.{then-is_last+then-this-gt0, else-is_last}
+use Rattle.rangemap_chunked.proofs.rebalance.split.Goals as goal
+use Rattle.rangemap_chunked.proofs.rebalance.split.Goals.{then-is_last+then-this-gt0, else-is_last}
 
 pub returns-in-Ok-split_off-clause-whole : goal.returns-in-Ok-split_off-clause-whole
 returns-in-Ok-split_off-clause-whole g c =

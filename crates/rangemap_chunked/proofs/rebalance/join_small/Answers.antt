@@ -2,8 +2,8 @@ use Rattle.std.proofs.Common.{arith, ◌∙◌, ◌+◌, ◌++◌, [], List, ap,
 use Rattle.rangemap_chunked.specs.Chunks.{AreFilled, whole}
 use Rattle.rangemap_chunked.proofs.HalvesLemmas.{AreHalves, first_at, halves_kept, halves_lent, last_at}
 use Rattle.rangemap_chunked.proofs.JoinLemmas.{IsJoined, joined}
-use Rattle.rangemap_chunked.proofs.joins.join_small.Goals as goal
-use Rattle.rangemap_chunked.proofs.joins.join_small.Goals.{After-cut, After-split_at_mut-front}
+use Rattle.rangemap_chunked.proofs.rebalance.join_small.Goals as goal
+use Rattle.rangemap_chunked.proofs.rebalance.join_small.Goals.{After-cut, After-split_at_mut-front}
 
 halves : (g : _) (c : After-split_at_mut-front g) → AreHalves c.args.chunks.now.items c.args.at (c.args.at + 1) c.split_at_mut-front.result.0.now c.split_at_mut-front.result.1.now c.args.chunks.now.len
 halves g c = halves_lent c.deref_mut.result.now (record { order = omega arith; bound = omega arith }) c.deref_mut.ensures.value c.deref_mut.ensures.len c.split_at_mut-front.ensures.front c.split_at_mut-front.ensures.back

@@ -1,6 +1,6 @@
 use Rattle.std.proofs.Common.{arith, ◌≡◌, ◌<◌, length}
 use Rattle.rangemap_chunked.proofs.StoreLemmas.{filled_around, whole_without}
-use Rattle.rangemap_chunked.proofs.joins.settle.Goals as goal
+use Rattle.rangemap_chunked.proofs.rebalance.settle.Goals as goal
 
 pub returns-then-len-eq0-clause-whole : goal.returns-then-len-eq0-clause-whole
 returns-then-len-eq0-clause-whole g c =
