@@ -10,13 +10,13 @@ ghost use Rattle.rangemap_formats.specs.declared.json.WriteError.TheVariants as 
 
 use std::alloc::{AllocError, AllocFailed};
 
-mod entries;
 mod messages;
 mod reading;
+mod shapes;
 mod writing;
 
-pub use entries::{MapReader, MapWriter, SetReader, SetWriter};
 pub use reading::read;
+pub use shapes::{MapReader, MapWriter, SetReader, SetWriter};
 pub use writing::write;
 
 /// Which end of a range a key is.
