@@ -126,6 +126,5 @@ pub type SymmetricDifference<'a, T, StepFnsT = T> = unions::SymmetricDifference<
 /// One call of a `replay`. It makes a set, or changes the set at a place of the list.
 pub type Call<T, A = Global> = SetCall<RangeInclusive<T>, A>;
 
-/// A call that every container has: every call of `Call` except the two that take ranges and the
-/// operators.
+/// A call that every container has. A set's `Call` has each by its own name, without the value.
 pub type Change<T> = calls::Change<RangeInclusive<T>, ()>;

@@ -49,8 +49,8 @@ pub trait CallOn<M: Container>: Drop {
 /// accepted.
 ///
 /// Each container's module gives it under its own path, with its sorts of call: `map::replay` takes a
-/// `map::Call` or a `map::Change`. `New` makes a container by `new_with_step_fns`, over whatever steps.
-/// `replay_with_step_fns` is another name for it. A replay costs what its calls cost.
+/// `map::Call` or a `map::Change`. `New` calls `new_with_step_fns`. Modules of closed containers also have
+/// this function by the name `replay_with_step_fns`. A replay costs what its calls cost.
 ///
 /// A call names a container by its place in the list; an operator of sets names two. A call that makes a
 /// container adds it at the end, unless the call is refused. A call that names a place without a

@@ -25,8 +25,6 @@ ghost use Rattle.rangemap.specs.declared.range_set.operators.Operator.TheVariant
 use rangemap::StepFns;
 pub use rangemap::range_set::Operator;
 use rangemap::set::Set;
-use rangemap_core::key_range::KeyRange;
-use rangemap_core::kind::Kind;
 use rangemap_core::store::StoreMut;
 use std::alloc::AllocError;
 

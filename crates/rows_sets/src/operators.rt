@@ -2,8 +2,6 @@
 
 use crate::any_steps::made_of;
 use rangemap::set::Set;
-use rangemap_core::key_range::KeyRange;
-use rangemap_core::kind::Kind;
 use rangemap_core::store::{HandsOver, StoreMut};
 use rangemap_laws::sets::{
     Operator, absorbs, associates, cancels, commutes, distributes, is_either_without_common,

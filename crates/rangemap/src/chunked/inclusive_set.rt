@@ -121,6 +121,5 @@ pub type SymmetricDifference<'a, T, StepFnsT = T, A = Global> = unions::Symmetri
 /// A call that makes a set or changes the one at a place of a list.
 pub type Call<T, A = Global> = SetCall<RangeInclusive<T>, A>;
 
-/// A call that every container has: every call of `Call` except the two that take ranges and the
-/// operators.
+/// A call that every container has. A set's `Call` has each by its own name, without the value.
 pub type Change<T> = calls::Change<RangeInclusive<T>, ()>;

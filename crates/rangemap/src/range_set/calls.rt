@@ -9,8 +9,6 @@ ghost use Rattle.rangemap.specs.SetHistories.{SetStep};
 use super::Set;
 use rangemap_containers::calls::Change;
 use rangemap_containers::replay::{CallOn, push_made};
-use rangemap_core::key_range::KeyRange;
-use rangemap_core::kind::Kind;
 use rangemap_core::store::StoreMut;
 use std::alloc::{AllocError, Allocator};
 use std::vec::Vec;

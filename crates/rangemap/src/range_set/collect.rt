@@ -92,7 +92,8 @@ impl<S: StoreMut<Value = ()>> Set<S> {
 }
 
 impl<S: StoreMut<Value = ()> + Drop> Set<S> {
-    // Does what `from_iter` does, over any steps.
+    // `from_iter` without its bound on the step type, which the public call has so that the type of its
+    // result can be inferred.
     pub(super) fn from_items<I: IntoIterator<Item = S::Range>>(
         alloc: S::Alloc,
         iter: I,

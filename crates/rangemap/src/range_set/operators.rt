@@ -8,8 +8,6 @@ ghost use Rattle.rangemap.specs.Sets.{AreCommon, AreHulls, AreOneOnly, AreWithou
 
 use super::Set;
 use rangemap_core::cursor::Peek;
-use rangemap_core::key_range::KeyRange;
-use rangemap_core::kind::Kind;
 use rangemap_core::store::{Lends, Store, StoreMut};
 use rangemap_unions::inserts::{Exchanging, Intersecting, Subtracting, Uniting};
 use rangemap_unions::{Difference, Intersection, SymmetricDifference, Union};

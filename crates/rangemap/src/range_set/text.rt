@@ -2,7 +2,6 @@
 
 use super::Set;
 use rangemap_core::key_range::KeyRange;
-use rangemap_core::kind::Kind;
 use rangemap_core::store::Store;
 use rangemap_formats::text::{RangeAlone, write};
 use std::fmt::{self, Debug, Formatter};

@@ -3,8 +3,6 @@
 use super::Map;
 use rangemap_containers::calls::Change;
 use rangemap_containers::replay::{CallOn, push_made};
-use rangemap_core::key_range::KeyRange;
-use rangemap_core::kind::Kind;
 use rangemap_core::store::StoreMut;
 use std::alloc::Allocator;
 use std::vec::Vec;

@@ -100,7 +100,8 @@ impl<S: StoreMut> Map<S> {
 }
 
 impl<S: StoreMut + Drop> Map<S> {
-    // Does what `from_iter` does, over any steps.
+    // `from_iter` without its bound on the step type, which the public call has so that the type of its
+    // result can be inferred.
     pub(super) fn from_items<I: IntoIterator<Item = (S::Range, S::Value)>>(
         alloc: S::Alloc,
         iter: I,

@@ -2,7 +2,6 @@
 
 use super::Map;
 use rangemap_core::key_range::KeyRange;
-use rangemap_core::kind::Kind;
 use rangemap_core::store::Store;
 use rangemap_formats::text::{RangeAndValue, write};
 use std::fmt::{self, Debug, Formatter};
