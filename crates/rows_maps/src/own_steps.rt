@@ -1,5 +1,5 @@
-//! What the words do that not every map is asked. `new` and `from_iter` ask for the key's own steps, the
-//! others for no step type.
+//! Words that only some maps are asked: `new` and `from_iter` over the key's own steps, the others over any
+//! steps.
 ghost use Rattle.rangemap_core.specs.Ranges.{AreNonEmpty};
 
 use crate::{any_steps, replays};

@@ -122,7 +122,12 @@ where
     A: Memory,
 {
     let name = session.name(kind, "vector")?;
-    run_container::<SortedVec<Q, R, V, A>>(alloc, name.as_str(), Known::NOT_OWN_STEPS, session)
+    run_container::<SortedVec<Q, R, V, A>>(
+        alloc,
+        name.as_str(),
+        Known::ANY_STEPS_AND_CONTAINER,
+        session,
+    )
 }
 
 /// Runs the rows of a map in a sorted vector, over its key's own steps.
@@ -251,7 +256,7 @@ where
     run_container::<Chunks<Q, R, V, &'h Heap, N>>(
         heap,
         name.as_str(),
-        Known::NOT_OWN_STEPS,
+        Known::ANY_STEPS_AND_CONTAINER,
         session,
     )
 }

@@ -63,7 +63,7 @@ impl Known {
         round_trips: false,
         ..Known::EVERY
     };
-    /// Those of a map or a set, over any steps and over its own.
+    /// All of these but the one as any container.
     pub const BY_STEPS: Known = Known {
         any_container: false,
         ..Known::ALL
@@ -85,8 +85,8 @@ impl Known {
         other_steps: false,
         ..Known::BY_STEPS
     };
-    /// Those that do without own steps.
-    pub const NOT_OWN_STEPS: Known = Known {
+    /// The one over any steps, and the one as any container.
+    pub const ANY_STEPS_AND_CONTAINER: Known = Known {
         own_steps: false,
         other_steps: false,
         operators: false,
@@ -131,10 +131,10 @@ impl Known {
 
     const OWN_STEPS: Known = Known {
         other_steps: false,
-        ..Known::BESIDES
+        ..Known::OWN_OR_OTHER_STEPS
     };
 
-    const BESIDES: Known = Known {
+    const OWN_OR_OTHER_STEPS: Known = Known {
         operators: false,
         ..Known::OPERATORS
     };
@@ -146,7 +146,7 @@ impl Known {
 
     const ANY_CONTAINER: Known = Known {
         any_steps: false,
-        ..Known::NOT_OWN_STEPS
+        ..Known::ANY_STEPS_AND_CONTAINER
     };
 
     /// Those that know these words and others.
@@ -196,7 +196,7 @@ fn known_call(word: &str) -> Option<Known> {
         "insert" | "many" => Some(Known::EVERY),
         "remove" | "clear" | "clone" => Some(Known::ALL),
         "update" => Some(Known::ANY_CONTAINER),
-        "extend" | "insert_pairs" => Some(Known::BESIDES),
+        "extend" | "insert_pairs" => Some(Known::OWN_OR_OTHER_STEPS),
         "new" | "from_iter" => Some(Known::OWN_STEPS),
         "or" | "and" | "without" | "xor" => Some(Known::OPERATORS),
         _ => None,
@@ -211,10 +211,10 @@ fn known_question(word: &str) -> Option<Known> {
         "subset" | "superset" | "disjoint" => Some(Known::BY_STEPS),
         "overlapping" | "gaps" | "ascending" | "hashed" => Some(Known::ANY_STEPS),
         "union" | "intersection" | "difference" | "symmetric_difference" => Some(Known::ANY_STEPS),
-        "into_iter" | "lines" | "operators" => Some(Known::BESIDES),
+        "into_iter" | "lines" | "operators" => Some(Known::OWN_OR_OTHER_STEPS),
         "debug" => Some(Known {
             round_trips: true,
-            ..Known::BESIDES
+            ..Known::OWN_OR_OTHER_STEPS
         }),
         "to_value" | "from_value" => Some(Known::JSON),
         "round_trips" => Some(Known::ROUND_TRIPS),
@@ -227,7 +227,7 @@ fn known_question(word: &str) -> Option<Known> {
         | "run" => Some(Known::ANY_CONTAINER),
         "replay" => Some(Known {
             any_container: true,
-            ..Known::BESIDES
+            ..Known::OWN_OR_OTHER_STEPS
         }),
         _ => None,
     }

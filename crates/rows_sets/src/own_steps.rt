@@ -1,5 +1,5 @@
-//! What the words do that not every set is asked. `new` and `from_iter` ask for the key's own steps, the
-//! others for no step type.
+//! Words that only some sets are asked: `new` and `from_iter` over the key's own steps, the others over any
+//! steps.
 ghost use Rattle.rangemap_core.specs.Ranges.{AreNonEmpty};
 ghost use Rattle.rangemap_core.specs.Sets.{AreNonEmptyRanges};
 
@@ -88,8 +88,8 @@ where
     }
 }
 
-/// A set that has the operators alone of what `OwnSteps` has. The compiler makes fewer copies of functions
-/// for it than for `OwnSteps`.
+/// A set that answers only the operators of what `OwnSteps` answers. The compiler makes fewer copies of
+/// functions for it than for `OwnSteps`.
 #[derive(Drop)]
 pub struct WithOperators<S: Store<Value = ()>> {
     set: Set<S>,

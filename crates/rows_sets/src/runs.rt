@@ -140,7 +140,12 @@ where
     A: Memory,
 {
     let name = session.name(kind, "vector")?;
-    run_container::<SortedVec<Q, R, (), A>>(alloc, name.as_str(), Known::NOT_OWN_STEPS, session)
+    run_container::<SortedVec<Q, R, (), A>>(
+        alloc,
+        name.as_str(),
+        Known::ANY_STEPS_AND_CONTAINER,
+        session,
+    )
 }
 
 /// Runs the rows that have operators, of a set in a sorted vector.
@@ -278,7 +283,7 @@ where
     run_container::<Chunks<Q, R, (), &'h Heap, N>>(
         heap,
         name.as_str(),
-        Known::NOT_OWN_STEPS,
+        Known::ANY_STEPS_AND_CONTAINER,
         session,
     )
 }
